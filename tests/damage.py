@@ -4,11 +4,14 @@
 Usage: tests/damage.py [PROGRAM]. Three images, in both orders. Of each byte that is flipped: a node of damaged data hides exactly
 the paths at which `diff` of the two images has a line, or nothing where it has none; a damaged name is told by its fields, as the
 report of the sound image has them; any other damaged node is unknown; what is no part of a node, or was its header, is not told.
-The names without objects are as many as `check` has. The last line is 'N passed, M failed'.
+The names without objects are as many as `check` has. Then images with many damaged nodes of few files, and with directories that lie
+in one another: what is told is what a model has that tries each place of each node. The last line is 'N passed, M failed'.
 """
+import random
 import re
 import sys
 
+import compressed_images as images
 from groups import PROGRAM, run_all, verdict, write
 
 import subprocess
@@ -131,5 +134,91 @@ def big_image():
     flips(2, "big")
 
 
+def damaged_at(node):
+    """The node, of damaged data."""
+    return node[:68] + bytes((node[68] ^ 1,)) + node[69:]
+
+
+def told_of(name, order, nodes):
+    """What is told of an image of these nodes, and the address of each."""
+    places, front = [], 0
+    for node in nodes:
+        places.append(front)
+        front += -len(node) // 4 * -4
+    write(name, b"".join(node + b"\xff" * (-len(node) % 4) for node in nodes).ljust(65536, b"\xff"))
+    done = run("damage", "--block", "65536", "--endian", order, name)
+    return done.stdout.decode().splitlines(), places
+
+
+def is_missed(lost, sound):
+    """Whether the object is another without this node: of each node its number, its version, its range and its size."""
+    ino, version, start, end, _ = lost
+    others = [node for node in sound if node[0] == ino and node[1] >= version]
+    sizes = [node[4] for node in sorted(sound, key=lambda node: node[1]) if node[0] == ino]
+    size = sizes[-1] if sizes else 0
+    covered = all(any(o[2] <= place < o[3] for o in others) for place in range(start, min(end, size)))
+    return not (others and covered)
+
+
+def crowded(seed, order):
+    """Many nodes of three files, one of which has no name, half of them damaged."""
+    chance, make = random.Random(seed), images.Maker("<" if order == "little" else ">")
+    names = {2: ["/a", "/b"], 3: ["/c"], 4: []}
+    nodes = [make.entry(1, 1, 2, b"a"), make.entry(1, 2, 2, b"b"), make.entry(1, 3, 3, b"c")]
+    versions = {ino: chance.sample(range(1, 200), 40) for ino in names}
+    sound, lost = [], {}
+    for place in range(chance.randrange(4, 60)):
+        ino, start, length = chance.choice((2, 2, 2, 3, 4)), chance.randrange(0, 30), chance.randrange(1, 12)
+        node = (ino, versions[ino].pop() if versions[ino] else 200 + place, start, start + length, chance.randrange(0, 50))
+        nodes.append(make.inode(node[0], node[1], bytes(length), node[4], offset=start))
+        if chance.random() < 0.5:
+            lost[len(nodes) - 1] = node
+            nodes[-1] = damaged_at(nodes[-1])
+        else:
+            sound.append(node)
+    told, places = told_of("crowded.img", order, nodes)
+    wanted = []
+    for index, node in lost.items():
+        front = f"{places[index]:08x} data-crc ino {node[0]} version {node[1]} bytes {node[2]} to {node[3]}"
+        if not is_missed(node, sound):
+            wanted.append(f"{front} hides nothing")
+        elif names[node[0]]:
+            wanted += [f"{front} hides {path}" for path in names[node[0]]]
+        else:
+            wanted.append(f"{front} has no path")
+    held = {node[0] for node in sound}
+    wanted += [f"missing {path} ino {ino}" for ino in (2, 3) if ino not in held for path in names[ino]]
+    verdict(f"crowded image {seed}, {order}: {told}", told[:-1] == wanted and told[-1:] == [total_of(told)])
+
+
+def crowded_images():
+    for seed in range(150):
+        crowded(seed, ("little", "big")[seed % 2])
+
+
+def rings(length, order):
+    """Directories that lie in one another, one outside that lies in them, one that has no name, and a file in each."""
+    make = images.Maker("<" if order == "little" else ">")
+    nodes, wanted = [], []
+    parents = [2 + (place - 1) % length for place in range(length)] + [2, None, 1]
+    for place, parent in enumerate(parents):
+        folder, file = 2 + place, 100 + place
+        if parent is not None:
+            nodes.append(make.entry(parent, place + 1, folder, b"d%d" % place))
+        nodes += [make.inode(folder, 1, b"", 0, mode=0o40755), make.entry(folder, 50, file, b"f"), make.inode(file, 1, b"x", 1)]
+        damaged = damaged_at(make.inode(file, 2, b"y", 1))
+        nodes.append(damaged)
+        wanted.append((len(nodes) - 1, file, f"hides /d{place}/f" if parent == 1 else "has no path"))
+    told, places = told_of("ring.img", order, nodes)
+    lines = [f"{places[index]:08x} data-crc ino {file} version 2 bytes 0 to 1 {end}" for index, file, end in wanted]
+    verdict(f"ring of {length}, {order}: {told}", told[:-1] == lines and told[-1:] == [total_of(told)])
+
+
+def ring_images():
+    for length in (1, 2, 3, 7, 40):
+        rings(length, "little")
+        rings(length, "big")
+
+
 if __name__ == "__main__":
-    sys.exit(run_all((little_images, big_image)))
+    sys.exit(run_all((little_images, big_image, crowded_images, ring_images)))

@@ -24,7 +24,7 @@ use Rattle.jdamage.specs.Damage.{damage_text, damage_totals, data_text, hurt_tex
 use Rattle.jdamage.specs.Fields.{damaged_nodes, stretch_at, stretches}
 use Rattle.jdamage.specs.Lines.{hides_line, no_path_line, nothing_line, totals_shown}
 use Rattle.jdamage.specs.Groups.{group_of}
-use Rattle.jdamage.specs.Telling.{Kept, PushesHurt, is_kept, own_paths, own_text, path_text_if}
+use Rattle.jdamage.specs.Telling.{HaveNumbers, Kept, PushesHurt, is_kept, own_paths, own_text, path_text_if}
 use Rattle.jdamage.specs.Ways.{NameOf, name_held, names_for, path_if, path_to_name, paths_to, root_paths}
 use Rattle.jdamage.specs.declared.fields.Stretch.{Stretch}
 use Rattle.jdamage.specs.declared.totals.Totals.{Totals}
@@ -296,6 +296,11 @@ module _ (e : Endian) (size : ℕ) (m : Mount) (kept : Kept) (numbers : BTreeSet
       ∙ append_assoc (old ++ a) b z ∙ append_assoc old a (b ++ z) ∙ ap (λ (t : Totals). old ++ (a ++ (b ++ totals_shown t))) so
 
 -- ---- the same of what calls saw
+
+pub have_numbers : (e : Endian) (image other : List ℕ) (numbers others : BTreeSet ℕ) (ds damaged : List (ℕ × Damage)) → image ≡ other → numbers ≡ others → ds ≡ damaged
+    → HaveNumbers e image numbers ds → HaveNumbers e other others damaged
+have_numbers e image other numbers others ds damaged same those are have =
+    subst (HaveNumbers e other others) are (subst (λ (n : BTreeSet ℕ). HaveNumbers e other n ds) those (subst (λ (im : List ℕ). HaveNumbers e im numbers ds) same have))
 
 pub nodes_told : (e : Endian) (w m : Mount) (kept : Kept) (ds damaged : List (ℕ × Damage)) (old new : List ℕ) → w ≡ m → ds ≡ damaged
     → new ≡ old ++ flat_map (own_text e w kept) ds → new ≡ old ++ flat_map (own_text e m kept) damaged

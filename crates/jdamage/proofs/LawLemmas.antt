@@ -1,13 +1,16 @@
 -- Why nothing is told of an image that is sound.
-use Rattle.std.proofs.Common.{◌≡◌, ℕ, ◌-◌, ◌^◌, List, [], ◌++◌, length, ap, ◌∙◌, arith}
-use Rattle.std.specs.Prelude.{flat_map, min, sum_by}
+use Rattle.std.proofs.Common.{◌≡◌, ℕ, ◌-◌, ◌^◌, List, [], ◌∷◌, ◌++◌, length, sym, ap, ◌∙◌, arith}
+use Rattle.std.specs.Prelude.{flat_map, map, min, sum_by, IfOk, OnOk, Result, Ok, Err}
 use Rattle.jnode.specs.declared.node.Damage.{Damage}
+use Rattle.jnode.specs.declared.order.Endian.{Endian}
+use Rattle.jmount.specs.Mount.{Mount}
 use Rattle.jmount.specs.Tree.{dangling}
-use Rattle.jdamage.specs.Damage.{damage_text, missing_text, node_paths, node_text}
+use Rattle.jdamage.specs.Damage.{damage_text, damage_totals, missing_text, node_paths, node_text}
 use Rattle.jdamage.specs.Fields.{damaged_nodes, stretches}
 use Rattle.jdamage.specs.Laws.{SoundHasNoLines}
-use Rattle.jdamage.specs.Lines.{totals_shown}
+use Rattle.jdamage.specs.Lines.{no_damage, totals_shown}
 use Rattle.jdamage.specs.Ways.{NameOf}
+use Rattle.jdamage.specs.declared.totals.Totals.{Totals}
 
 min_none : (p most : ℕ) → p ≡ 0 → min p most ≡ 0
 min_none p most none = omega (arith, none)
@@ -36,3 +39,31 @@ unfolding damage_text
 sound_has_no_lines e size m none gone =
     let others = stretches e size m.image in
     nothing_told (node_text e m others) (missing_text m.state) (node_paths e m others) (2 ^ 64 - 1) (damaged_nodes e size m.image) (dangling m.state) none gone
+
+pub sound_totals : (e : Endian) (size : ℕ) (m : Mount) → damaged_nodes e size m.image ≡ [] → dangling m.state ≡ [] → damage_totals e size m ≡ no_damage
+unfolding damage_totals
+sound_totals e size m none gone =
+    let h = node_paths e m (stretches e size m.image) in
+    let ds = damaged_nodes e size m.image in
+    let count : length ds ≡ 0 = ap (λ (l : List (ℕ × Damage)). length l) none in
+    let paths : min (sum_by h ds) (2 ^ 64 - 1) ≡ 0 = min_none (sum_by h ds) (2 ^ 64 - 1) (ap (sum_by h) none) in
+    let names : length (dangling m.state) ≡ 0 = ap (λ (l : List NameOf). length l) gone in
+    let made : ℕ → ℕ → ℕ → Totals = λ d p n. record { damaged = d; paths = p; missing = n } in
+    ap (λ (d : ℕ). made d (min (sum_by h ds) (2 ^ 64 - 1)) (length (dangling m.state))) count ∙ ap (λ (p : ℕ). made 0 p (length (dangling m.state))) paths ∙ ap (made 0 0) names
+
+-- where two lists are empty
+pub none_of : {X Y : Type 0} (f : X → Y) (xs : List X) (ys : List Y) → map f xs ≡ ys → length xs ≡ 0 → ys ≡ []
+none_of f [] ys same none = sym same
+none_of f (x ∷ xs) ys same none = absurd (omega (arith, none))
+
+pub no_items : {X : Type 0} (xs ys : List X) → xs ≡ ys → length xs ≡ 0 → ys ≡ []
+no_items [] ys same none = sym same
+no_items (x ∷ xs) ys same none = absurd (omega (arith, none))
+
+pub on_ok : {X Y : Type 0} (r : Result X Y) (A B : Type 0) → (A → B) → OnOk r A → OnOk r B
+on_ok (Ok x) A B f a = f a
+on_ok (Err y) A B f a = a
+
+pub if_ok : {X Y : Type 0} (r : Result X Y) (P Q : X → Type 0) → ((x : X) → P x → Q x) → IfOk r P → IfOk r Q
+if_ok (Ok x) P Q f a = f x a
+if_ok (Err y) P Q f a = a

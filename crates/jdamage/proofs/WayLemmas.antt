@@ -1,15 +1,20 @@
 -- The way up to the root, step by step.
-use Rattle.std.proofs.Common.{◌≡◌, ℕ, suc, ◌+◌, ◌-◌, ◌<◌, ◌≤◌, ◌≢◌, add-one, append_assoc, append-nil, drop, drop-cons, get_or, Bool, true, false, cond, List, [], ◌∷◌, ◌++◌, length, refl, sym, ap, ◌∙◌, arith, Some, None}
-use Rattle.std.specs.Prelude.{◌==◌, Vec, filter, option_and_then, option_map, map, reverse, slice_get}
+use Rattle.std.proofs.Common.{◌≡◌, ℕ, suc, ◌+◌, ◌-◌, ◌<◌, ◌≤◌, ◌≢◌, add-one, append_assoc, append-nil, drop, drop-cons, get_or, Bool, true, false, cond, List, [], ◌∷◌, ◌++◌, length, refl, sym, ap, ◌∙◌, arith, Option, Some, None}
+use Rattle.std.specs.Prelude.{◌==◌, Vec, filter, option_and_then, option_map, map, reverse, is_some}
 use Rattle.std.specs.Borrow.{Bor}
-use Rattle.std.specs.BTreeMap.{BTreeMap}
+use Rattle.std.specs.BTreeMap.{BTreeMap, get}
+use Rattle.std.specs.BTreeSet.{BTreeSet, contains}
+use Rattle.std.specs.Map.{lookup}
+use Rattle.std.specs.Ordering.{nat_cmp, eq_by_cmp}
+use Rattle.std.specs.Cmp.{unsigned_tied}
+use Rattle.std.proofs.lemmas.Bool.{eqb-true, false≢true}
 use Rattle.std.specs.List.{find}
 use Rattle.std.specs.declared.alloc.Global.{Global}
 use Rattle.std.proofs.lemmas.Bool.Decides.{nat_tests}
 use Rattle.std.proofs.lemmas.List.{drop_all, map-append, reverse-append}
 use Rattle.jmount.specs.Tree.{State, all_entries, is_directory}
 use Rattle.jdamage.specs.Groups.{group_of}
-use Rattle.jdamage.specs.Ways.{NameOf, climbed, first_name, name_held, names_for}
+use Rattle.jdamage.specs.Ways.{AreFirsts, HeldName, NameOf, climbed, first_if, first_name, held_first, name_held, names_for, or_else}
 use Rattle.jdamage.proofs.GroupLemmas.{no_group}
 
 -- a step, by what is met
@@ -22,7 +27,7 @@ pub climb_none : (s : State) (left dir : ℕ) (names : List (List ℕ)) → left
 unfolding climbed
 climb_none s left dir names is = ap (λ (n : ℕ). climbed s n dir names) is
 
-not_one : (n : ℕ) → n ≢ 1 → (n == 1) ≡ false
+pub not_one : (n : ℕ) → n ≢ 1 → (n == 1) ≡ false
 not_one n other = grind (arith, nat_tests)
 
 is_one : (n : ℕ) → n ≡ 1 → (n == 1) ≡ true
@@ -70,54 +75,106 @@ names_turned f (x ∷ xs) =
 
 -- ---- the names of a number
 
-abbrev pub HeldName : Type 0
-HeldName = ℕ × Bor (List ℕ) × ℕ
-
-pub named_begin : (s : State) (groups : BTreeMap ℕ (Vec HeldName Global)) (left : List NameOf) → groups.entries ≡ [] → left ≡ all_entries s
-    → (i : ℕ) → map name_held (group_of groups i) ++ filter (λ n. n.2 == i) left ≡ names_for s i
+pub named_begin : (s : State) (numbers : BTreeSet ℕ) (groups : BTreeMap ℕ (Vec HeldName Global)) (left : List NameOf) → groups.entries ≡ [] → left ≡ all_entries s
+    → (i : ℕ) → contains nat_cmp numbers i ≡ true → map name_held (group_of groups i) ++ filter (λ n. n.2 == i) left ≡ names_for s i
 unfolding names_for
-named_begin s groups left none all i =
+named_begin s numbers groups left none all i wanted =
     ap (λ (l : List HeldName). map name_held l ++ filter (λ n. n.2 == i) left) (no_group groups none i) ∙ ap (filter (λ n. n.2 == i)) all
 
-pub one_named : (s : State) (old new : BTreeMap ℕ (Vec HeldName Global)) (n : HeldName) (left rest : List NameOf) → left ≡ name_held n ∷ rest
-    → ((i : ℕ) → group_of new i ≡ group_of old i ++ cond (n.2 == i) (n ∷ []) [])
-    → ((i : ℕ) → map name_held (group_of old i) ++ filter (λ x. x.2 == i) left ≡ names_for s i)
-    → (i : ℕ) → map name_held (group_of new i) ++ filter (λ x. x.2 == i) rest ≡ names_for s i
-one_named s old new n left rest is added so_far i =
+pub one_named : (s : State) (numbers : BTreeSet ℕ) (old new : BTreeMap ℕ (Vec HeldName Global)) (n : HeldName) (left rest : List NameOf) → left ≡ name_held n ∷ rest
+    → ((i : ℕ) → contains nat_cmp numbers i ≡ true → group_of new i ≡ group_of old i ++ cond (n.2 == i) (n ∷ []) [])
+    → ((i : ℕ) → contains nat_cmp numbers i ≡ true → map name_held (group_of old i) ++ filter (λ x. x.2 == i) left ≡ names_for s i)
+    → (i : ℕ) → contains nat_cmp numbers i ≡ true → map name_held (group_of new i) ++ filter (λ x. x.2 == i) rest ≡ names_for s i
+one_named s numbers old new n left rest is added so_far i wanted =
     let here = map name_held (group_of old i) in
     let after = filter (λ (x : NameOf). x.2 == i) rest in
-    ap (λ (l : List HeldName). map name_held l ++ after) (added i)
+    ap (λ (l : List HeldName). map name_held l ++ after) (added i wanted)
     ∙ ap (λ (l : List NameOf). l ++ after) (map-append name_held (group_of old i) (cond (n.2 == i) (n ∷ []) []))
     ∙ append_assoc here (map name_held (cond (n.2 == i) (n ∷ []) [])) after
     ∙ ap (λ (l : List NameOf). here ++ l) (one (n.2 == i))
-    ∙ ap (λ (l : List NameOf). here ++ filter (λ x. x.2 == i) l) (sym is) ∙ so_far i
+    ∙ ap (λ (l : List NameOf). here ++ filter (λ x. x.2 == i) l) (sym is) ∙ so_far i wanted
   where
     one : (b : Bool) → map name_held (cond b (n ∷ []) []) ++ filter (λ (x : NameOf). x.2 == i) rest ≡ cond b (name_held n ∷ filter (λ (x : NameOf). x.2 == i) rest) (filter (λ (x : NameOf). x.2 == i) rest)
     one true = refl
     one false = refl
 
-pub all_named : (s : State) (groups : BTreeMap ℕ (Vec HeldName Global)) (left : List NameOf) → left ≡ []
-    → ((i : ℕ) → map name_held (group_of groups i) ++ filter (λ x. x.2 == i) left ≡ names_for s i) → (i : ℕ) → map name_held (group_of groups i) ≡ names_for s i
-all_named s groups left is so_far i =
+pub all_named : (s : State) (numbers : BTreeSet ℕ) (groups : BTreeMap ℕ (Vec HeldName Global)) (left : List NameOf) → left ≡ []
+    → ((i : ℕ) → contains nat_cmp numbers i ≡ true → map name_held (group_of groups i) ++ filter (λ x. x.2 == i) left ≡ names_for s i)
+    → (i : ℕ) → contains nat_cmp numbers i ≡ true → map name_held (group_of groups i) ≡ names_for s i
+all_named s numbers groups left is so_far i wanted =
     sym (append-nil (map name_held (group_of groups i)))
-    ∙ ap (λ (l : List NameOf). map name_held (group_of groups i) ++ filter (λ (x : NameOf). x.2 == i) l) (sym is) ∙ so_far i
+    ∙ ap (λ (l : List NameOf). map name_held (group_of groups i) ++ filter (λ (x : NameOf). x.2 == i) l) (sym is) ∙ so_far i wanted
 
-pub first_of_named : (s : State) (i : ℕ) (held : List HeldName) → map name_held held ≡ names_for s i → option_map name_held (slice_get held 0) ≡ first_name s i
-unfolding names_for first_name
-first_of_named s i held is = first held ∙ ap (λ (l : List NameOf). slice_get l 0) is ∙ found (all_entries s)
+-- a name of another number
+pub passed_by : (numbers : BTreeSet ℕ) (group : List HeldName) (n : HeldName) (i : ℕ) → contains nat_cmp numbers n.2 ≡ false → contains nat_cmp numbers i ≡ true
+    → group ≡ group ++ cond (n.2 == i) (n ∷ []) []
+passed_by numbers group n i other wanted = by (n.2 == i) refl
   where
-    first : (xs : List HeldName) → option_map name_held (slice_get xs 0) ≡ slice_get (map name_held xs) 0
-    first [] = refl
-    first (x ∷ xs) = refl
+    by : (b : Bool) → (n.2 == i) ≡ b → group ≡ group ++ cond b (n ∷ []) []
+    by true e = absurd (false≢true (sym other ∙ ap (contains nat_cmp numbers) (eqb-true n.2 i e) ∙ wanted))
+    by false e = sym (append-nil group)
 
-    found : (xs : List NameOf) → slice_get (filter (λ n. n.2 == i) xs) 0 ≡ find (λ n. n.2 == i) xs
-    found [] = refl
-    found (x ∷ xs) = by (x.2 == i) (found xs)
-      where
-        by : (b : Bool) → slice_get (filter (λ n. n.2 == i) xs) 0 ≡ find (λ n. n.2 == i) xs
-            → slice_get (cond b (x ∷ filter (λ n. n.2 == i) xs) (filter (λ n. n.2 == i) xs)) 0 ≡ cond b (Some x) (find (λ n. n.2 == i) xs)
-        by true rest = refl
-        by false rest = rest
+-- ---- the first names of directories
+
+no_more : (o : Option NameOf) → or_else o None ≡ o
+no_more None = refl
+no_more (Some n) = refl
+
+pub first_kept : (s : State) (firsts : BTreeMap ℕ HeldName) (n : HeldName) → (is_directory s n.2 ≡ true → is_some (get nat_cmp firsts n.2) ≡ true)
+    → (i : ℕ) → is_directory s i ≡ true → held_first firsts i ≡ or_else (held_first firsts i) (first_if i n)
+first_kept s firsts n skipped i there = by (n.2 == i) refl
+  where
+    kept : (o : Option HeldName) → is_some o ≡ true → option_map name_held o ≡ or_else (option_map name_held o) (Some (name_held n))
+    kept None some = absurd (false≢true some)
+    kept (Some m) some = refl
+
+    by : (b : Bool) → (n.2 == i) ≡ b → held_first firsts i ≡ or_else (held_first firsts i) (cond b (Some (name_held n)) None)
+    by true e =
+        let same : n.2 ≡ i = eqb-true n.2 i e in
+        kept (get nat_cmp firsts i) (ap (λ (k : ℕ). is_some (get nat_cmp firsts k)) (sym same) ∙ skipped (ap (is_directory s) same ∙ there))
+    by false e = sym (no_more (held_first firsts i))
+
+pub first_noted : (old new : BTreeMap ℕ HeldName) (n : HeldName) → is_some (get nat_cmp old n.2) ≡ false
+    → ((q : ℕ) → get nat_cmp new q ≡ cond (eq_by_cmp nat_cmp n.2 q) (Some n) (get nat_cmp old q))
+    → (i : ℕ) → held_first new i ≡ or_else (held_first old i) (first_if i n)
+first_noted old new n absent at i = by (n.2 == i) refl
+  where
+    was : (o : Option HeldName) → is_some o ≡ false → Some (name_held n) ≡ or_else (option_map name_held o) (Some (name_held n))
+    was None none = refl
+    was (Some m) none = absurd (false≢true (sym none))
+
+    by : (b : Bool) → (n.2 == i) ≡ b → held_first new i ≡ or_else (held_first old i) (cond b (Some (name_held n)) None)
+    by true e =
+        ap (option_map name_held) (at i ∙ ap (λ (t : Bool). cond t (Some n) (get nat_cmp old i)) (unsigned_tied n.2 i ∙ e))
+        ∙ was (get nat_cmp old i) (ap (λ (k : ℕ). is_some (get nat_cmp old k)) (sym (eqb-true n.2 i e)) ∙ absent)
+    by false e =
+        ap (option_map name_held) (at i ∙ ap (λ (t : Bool). cond t (Some n) (get nat_cmp old i)) (unsigned_tied n.2 i ∙ e))
+        ∙ sym (no_more (held_first old i))
+
+-- so far, and those that are left
+abbrev pub FirstsSoFar : State → BTreeMap ℕ HeldName → List NameOf → Type 0
+FirstsSoFar s firsts left = (i : ℕ) → is_directory s i ≡ true → or_else (held_first firsts i) (find (λ n. n.2 == i) left) ≡ first_name s i
+
+pub firsts_begin : (s : State) (firsts : BTreeMap ℕ HeldName) (left : List NameOf) → firsts.entries ≡ [] → left ≡ all_entries s → FirstsSoFar s firsts left
+unfolding first_name
+firsts_begin s firsts left none all i there =
+    ap (λ (es : List (ℕ × HeldName)). or_else (option_map name_held (lookup (eq_by_cmp nat_cmp i) es)) (find (λ n. n.2 == i) left)) none
+    ∙ ap (find (λ n. n.2 == i)) all
+
+pub firsts_more : (s : State) (old new : BTreeMap ℕ HeldName) (n : HeldName) (left rest : List NameOf) → left ≡ name_held n ∷ rest
+    → ((i : ℕ) → is_directory s i ≡ true → held_first new i ≡ or_else (held_first old i) (first_if i n)) → FirstsSoFar s old left → FirstsSoFar s new rest
+firsts_more s old new n left rest is noted so_far i there =
+    ap (λ (o : Option NameOf). or_else o (find (λ x. x.2 == i) rest)) (noted i there) ∙ one (held_first old i) (n.2 == i)
+    ∙ ap (λ (l : List NameOf). or_else (held_first old i) (find (λ x. x.2 == i) l)) (sym is) ∙ so_far i there
+  where
+    one : (o : Option NameOf) (b : Bool) → or_else (or_else o (cond b (Some (name_held n)) None)) (find (λ x. x.2 == i) rest) ≡ or_else o (cond b (Some (name_held n)) (find (λ x. x.2 == i) rest))
+    one None true = refl
+    one None false = refl
+    one (Some m) b = refl
+
+pub firsts_all : (s : State) (firsts : BTreeMap ℕ HeldName) (left : List NameOf) → left ≡ [] → FirstsSoFar s firsts left → AreFirsts s firsts
+firsts_all s firsts left none so_far i there =
+    sym (no_more (held_first firsts i)) ∙ ap (λ (l : List NameOf). or_else (held_first firsts i) (find (λ x. x.2 == i) l)) (sym none) ∙ so_far i there
 
 -- ---- names of a list, one by one
 

@@ -61,3 +61,7 @@ missing_line n (Some path) = codes "missing " ++ (path_shown path ++ missing_end
 unfoldable pub totals_shown : Totals → List ℕ
 totals_shown t = codes "total damaged " ++ decimal t.damaged ++ codes " paths " ++ decimal t.paths
     ++ codes " missing " ++ decimal t.missing ++ codes "\n"
+
+-- the totals of no damage
+abbrev pub no_damage : Totals
+no_damage = record { damaged = 0; paths = 0; missing = 0 }

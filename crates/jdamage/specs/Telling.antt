@@ -1,11 +1,12 @@
 -- What a call adds to the text.
-use Rattle.std.specs.Prelude.{◌≡◌, ℕ, ◌-◌, ◌^◌, Bool, Vec, List, [], ◌++◌, ◌==◌, ◌&&◌, length, min, Option, Some, None, is_some}
+use Rattle.std.specs.Prelude.{◌≡◌, ℕ, ◌-◌, ◌^◌, Bool, Vec, List, [], ◌++◌, ◌==◌, ◌&&◌, length, min, All, Option, Some, None, is_some, true}
 use Rattle.std.specs.BTreeMap.{BTreeMap}
 use Rattle.std.specs.BTreeSet.{BTreeSet, contains}
 use Rattle.std.specs.Ordering.{nat_cmp}
 use Rattle.std.specs.declared.alloc.Global.{Global}
 use Rattle.jnode.specs.declared.order.Endian.{Endian}
 use Rattle.jnode.specs.declared.node.Damage.{Damage}
+use Rattle.jnode.specs.declared.node.Damage.TheVariants.{DataCrc}
 use Rattle.jmount.specs.Mount.{Mount}
 use Rattle.jdamage.specs.Damage.{hurt_text, node_paths, node_text}
 use Rattle.jdamage.specs.Fields.{stretch_at}
@@ -31,6 +32,14 @@ pub record PushesHurt (addr : ℕ) (lost : Stretch) (paths : List (List (List �
 -- a version of this object, which is among some
 abbrev pub is_kept : BTreeSet ℕ → ℕ → Stretch → Bool
 is_kept numbers i s = (s.ino == i) && contains nat_cmp numbers s.ino
+
+-- the number of its object is among some, where a node's data are damaged
+abbrev pub HasListedNumber : Endian → List ℕ → BTreeSet ℕ → ℕ × Damage → Type 0
+HasListedNumber e image numbers d = d.1 ≡ DataCrc
+    → contains nat_cmp numbers (stretch_at e image d.0).ino ≡ true
+
+abbrev pub HaveNumbers : Endian → List ℕ → BTreeSet ℕ → List (ℕ × Damage) → Type 0
+HaveNumbers e image numbers damaged = All (HasListedNumber e image numbers) damaged
 
 -- ---- a damaged node beside the versions of its object
 

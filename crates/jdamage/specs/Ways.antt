@@ -1,7 +1,9 @@
 -- The paths that lead to a number.
-use Rattle.std.specs.Prelude.{◌≡◌, ℕ, zero, suc, ◌+◌, ◌^◌, ◌==◌, min, Vec, List, [], ◌∷◌, ◌++◌, length, map, filter, filter_map, Option, Some, None, option_and_then, if◌then◌else◌}
+use Rattle.std.specs.Prelude.{◌≡◌, ℕ, true, zero, suc, ◌+◌, ◌^◌, ◌==◌, min, Vec, List, [], ◌∷◌, ◌++◌, length, map, filter, filter_map, Option, Some, None, option_and_then, option_map, if◌then◌else◌}
 use Rattle.std.specs.Borrow.{Bor}
-use Rattle.std.specs.BTreeMap.{BTreeMap}
+use Rattle.std.specs.BTreeMap.{BTreeMap, get}
+use Rattle.std.specs.BTreeSet.{BTreeSet, contains}
+use Rattle.std.specs.Ordering.{nat_cmp}
 use Rattle.std.specs.declared.alloc.Global.{Global}
 use Rattle.std.specs.List.{find}
 use Rattle.jdamage.specs.Groups.{group_of}
@@ -60,6 +62,34 @@ names_held path = map (λ name. name.now) path.items
 abbrev pub name_held : ℕ × Bor (List ℕ) × ℕ → NameOf
 name_held n = (n.0, n.1.now, n.2)
 
--- each number has its names
-abbrev pub AreNamed : State → BTreeMap ℕ (Vec (ℕ × Bor (List ℕ) × ℕ) Global) → Type 0
-AreNamed s names = (i : ℕ) → map name_held (group_of names i) ≡ names_for s i
+abbrev pub HeldName : Type 0
+HeldName = ℕ × Bor (List ℕ) × ℕ
+
+-- each of these numbers has its names
+abbrev pub AreNamed : State → BTreeSet ℕ → BTreeMap ℕ (Vec HeldName Global) → Type 0
+AreNamed s numbers names = (i : ℕ) → contains nat_cmp numbers i ≡ true
+    → map name_held (group_of names i) ≡ names_for s i
+
+-- the first name of a number among those that are held
+abbrev pub held_first : BTreeMap ℕ HeldName → ℕ → Option NameOf
+held_first firsts i = option_map name_held (get nat_cmp firsts i)
+
+-- each directory has its first name
+abbrev pub AreFirsts : State → BTreeMap ℕ HeldName → Type 0
+AreFirsts s firsts = (i : ℕ) → is_directory s i ≡ true → held_first firsts i ≡ first_name s i
+
+-- this name, where it stands for this number
+abbrev pub first_if : ℕ → HeldName → Option NameOf
+first_if i n = if n.2 == i then Some (name_held n) else None
+
+abbrev pub or_else : Option NameOf → Option NameOf → Option NameOf
+or_else None later = later
+or_else (Some n) later = Some n
+
+-- ---- directories from which no way leads up to the root
+
+abbrev pub IsNowhere : State → ℕ → Type 0
+IsNowhere s dir = (steps : ℕ) (names : List (List ℕ)) → climbed s steps dir names ≡ None
+
+abbrev pub LeadNowhere : State → BTreeSet ℕ → Type 0
+LeadNowhere s dirs = (dir : ℕ) → contains nat_cmp dirs dir ≡ true → IsNowhere s dir

@@ -1,6 +1,6 @@
 //! What the damage of a mounted image costs.
 
-ghost use Rattle.std.specs.Prelude.{◌≡◌, ◌++◌, ◌-◌, ◌^◌, ◌≤◌, ◌<◌, ℕ, true, All, IfOk, OnOk, length, map, min, sum_by};
+ghost use Rattle.std.specs.Prelude.{◌≡◌, ◌++◌, ◌-◌, ◌^◌, ◌≤◌, ◌<◌, ℕ, true, IfOk, OnOk, length, map, min, sum_by};
 ghost use Rattle.std.specs.BTreeSet.{contains};
 ghost use Rattle.std.specs.List.{flat_map};
 ghost use Rattle.std.specs.Ordering.{nat_cmp};
@@ -9,17 +9,19 @@ ghost use Rattle.jscan.specs.Image.{greatest_image};
 ghost use Rattle.jscan.specs.Scans.{IsScannable};
 ghost use Rattle.jdamage.specs.Damage.{PutsDamage, damage_text, damage_totals, missing_text};
 ghost use Rattle.jdamage.specs.Fields.{stretch_at};
-ghost use Rattle.jdamage.specs.Telling.{own_paths, own_text};
+ghost use Rattle.jdamage.specs.Lines.{no_damage, totals_shown};
+ghost use Rattle.jdamage.specs.Telling.{HaveNumbers, own_paths, own_text};
 
 use crate::fault::DamageFault;
 use crate::fields::{Stretch, stretch_at};
+use crate::firsts::Name;
 use crate::groups::Groups;
 use crate::lines::push_totals;
 use crate::nodes::{damaged_nodes, stretches_of};
 use crate::telling::{push_missing_name, push_node};
 use crate::text::Text;
 use crate::totals::Totals;
-use crate::ways::{Name, Ways};
+use crate::ways::Ways;
 use flashbase::Sink;
 use jline::put_text;
 use jmount::Mounted;
@@ -57,8 +59,7 @@ fn numbers_of<E: Order>(
     damaged: &[(u32, Damage)],
 ) -> Result<BTreeSet<u32>, AllocError>
     requires { length image.now ≤ greatest_image }
-    ensures { IfOk result (λ numbers. All (λ d. d.1 ≡ DataCrc
-        → contains nat_cmp numbers (stretch_at E.order image.now d.0).ino ≡ true) damaged.now) }
+    ensures { IfOk result (λ numbers. HaveNumbers E.order image.now numbers damaged.now) }
 {
     let mut numbers = BTreeSet::new(alloc);
     for (addr, which) in damaged {
@@ -75,7 +76,9 @@ fn push_nodes<E: Order>(
     damaged: &[(u32, Damage)],
     text: &mut Text,
 ) -> Result<u64, AllocError>
-    requires { length ways.now.mounted.now.image ≤ greatest_image }
+    requires image { length ways.now.mounted.now.image ≤ greatest_image }
+    requires numbers { HaveNumbers E.order ways.now.mounted.now.image ways.now.numbers.now
+        damaged.now }
     ensures text { OnOk result (text.new ≡ text.old
         ++ flat_map (own_text E.order ways.now.mounted.now kept.now) damaged.now) }
     ensures count { IfOk result (λ count. count
@@ -107,7 +110,21 @@ fn push_all_missing<'m>(
     Ok(())
 }
 
-/// Tells all.
+/// Tells that there is no damage.
+fn push_none(text: &mut Text) -> Result<Totals, AllocError>
+    ensures text { OnOk result (text.new ≡ text.old ++ totals_shown no_damage) }
+    ensures totals { IfOk result (λ totals. totals ≡ no_damage) }
+{
+    let totals = Totals {
+        damaged: 0,
+        paths: 0,
+        missing: 0,
+    };
+    push_totals(text, &totals)?;
+    Ok(totals)
+}
+
+/// Tells all. Where nothing is damaged and no name lacks its object, it takes memory for one line.
 fn push_all<E: Order>(
     alloc: Global,
     mounted: &Mounted<'_>,
@@ -122,10 +139,13 @@ fn push_all<E: Order>(
 {
     let image = mounted.image();
     let damaged = damaged_nodes::<E>(alloc, image, geometry)?;
+    let missing = mounted.dangling(alloc)?;
+    if damaged.is_empty() && missing.is_empty() {
+        return push_none(text);
+    }
     let numbers = numbers_of::<E>(alloc, image, &damaged)?;
     let kept = stretches_of::<E>(alloc, image, geometry, &numbers)?;
-    let missing = mounted.dangling(alloc)?;
-    let ways = Ways::new(alloc, mounted)?;
+    let ways = Ways::new(alloc, mounted, &numbers)?;
     let paths = push_nodes::<E>(alloc, &ways, &kept, &damaged, text)?;
     push_all_missing(alloc, &ways, &missing, text)?;
     let totals = Totals {
@@ -141,8 +161,9 @@ fn push_all<E: Order>(
 /// address, which paths it hides, that it hides nothing, or that what it said is not known; then a
 /// line for each name whose object is missing, and the totals, which are the answer. A damaged node
 /// hides nothing where the object is the same whatever it said. The image was mounted in `E`'s
-/// order and with this geometry. Takes memory for the text, for the damaged nodes, for the sound
-/// ones of their objects, and for an index of the names.
+/// order and with this geometry. Takes memory for the text; where there is damage, for the damaged
+/// nodes, for the sound ones of their objects, and for the directories and the names of damaged
+/// objects.
 ///
 /// # Errors
 /// `OutOfMemory`, and nothing was put. `Output`: the sink failed, and took a beginning.

@@ -1,11 +1,13 @@
 //! What is told of a damaged node, and of a name whose object is missing.
 
-ghost use Rattle.std.specs.Prelude.{◌≡◌, ◌++◌, ◌-◌, ◌^◌, ◌≤◌, [], if◌then◌else◌, IfOk, OnOk, length, min};
+ghost use Rattle.std.specs.Prelude.{◌≡◌, ◌++◌, ◌-◌, ◌^◌, ◌≤◌, [], true, if◌then◌else◌, IfOk, OnOk, length, min};
 ghost use Rattle.jscan.specs.Image.{greatest_image};
 ghost use Rattle.jdamage.specs.Damage.{data_text, hurt_paths, missing_text, size_at};
+ghost use Rattle.std.specs.BTreeSet.{contains};
 ghost use Rattle.std.specs.List.{flat_map};
+ghost use Rattle.std.specs.Ordering.{nat_cmp};
 ghost use Rattle.jdamage.specs.Lines.{hides_line, loss_line};
-ghost use Rattle.jdamage.specs.Telling.{PushesHurt, PushesPath, own_paths, own_text};
+ghost use Rattle.jdamage.specs.Telling.{HasListedNumber, PushesHurt, PushesPath, own_paths, own_text};
 ghost use Rattle.jdamage.specs.Ways.{path_below, path_to_name, paths_to, root_paths};
 
 use crate::coverage::hides_nothing;
@@ -81,6 +83,7 @@ fn push_hurt(
     lost: &Stretch,
     text: &mut Text,
 ) -> Result<u64, AllocError>
+    requires { contains nat_cmp ways.now.numbers.now lost.now.ino ≡ true }
     ensures { IfOk result (λ count. PushesHurt addr lost.now
         (paths_to ways.now.mounted.now.state lost.now.ino) text.old text.new count) }
 {
@@ -108,6 +111,7 @@ fn push_data(
     lost: &Stretch,
     text: &mut Text,
 ) -> Result<u64, AllocError>
+    requires { contains nat_cmp ways.now.numbers.now lost.now.ino ≡ true }
     ensures text { OnOk result (text.new
         ≡ text.old ++ data_text ways.now.mounted.now.state others.now addr lost.now) }
     ensures count { IfOk result (λ count. count
@@ -144,7 +148,9 @@ pub(crate) fn push_node<E: Order>(
     which: Damage,
     text: &mut Text,
 ) -> Result<u64, AllocError>
-    requires { length ways.now.mounted.now.image ≤ greatest_image }
+    requires image { length ways.now.mounted.now.image ≤ greatest_image }
+    requires number { HasListedNumber E.order ways.now.mounted.now.image ways.now.numbers.now
+        (addr, which) }
     ensures text { OnOk result (text.new
         ≡ text.old ++ own_text E.order ways.now.mounted.now kept.now (addr, which)) }
     ensures count { IfOk result (λ count. count

@@ -1,25 +1,20 @@
 //! The paths that lead to a number.
 
-ghost use Rattle.std.specs.Prelude.{◌≡◌, ◌∷◌, [], IfOk, map, option_map, reverse};
+ghost use Rattle.std.specs.Prelude.{◌≡◌, ◌==◌, ◌++◌, ◌∷◌, ℕ, List, [], true, None, IfOk, OnOk, map, option_map, reverse, if◌then◌else◌};
+ghost use Rattle.std.specs.BTreeSet.{contains};
+ghost use Rattle.std.specs.Ordering.{nat_cmp};
 ghost use Rattle.jmount.specs.Tree as tree;
-ghost use Rattle.jdamage.specs.Ways.{AreNamed, first_name, name_held, names_for, names_held, path_below, steps_at_most};
+ghost use Rattle.jdamage.specs.Groups.{group_of};
+ghost use Rattle.jdamage.specs.Ways.{AreFirsts, AreNamed, LeadNowhere, first_name, name_held, names_for, names_held, path_below, steps_at_most};
 
+use crate::firsts::{Firsts, Name, first_name, firsts_of, is_directory};
 use crate::groups::{Groups, add, group};
-use jmount::{Kind, Mounted};
+use crate::nowhere::nowhere_of;
+use jmount::Mounted;
 use std::alloc::{AllocError, Global};
-use std::collections::BTreeMap;
+use std::collections::{BTreeMap, BTreeSet};
 
 const ROOT: u32 = 1;
-
-/// Whether this number is that of a directory.
-fn is_directory(mounted: &Mounted<'_>, ino: u32) -> bool
-    ensures { result ≡ tree.is_directory mounted.now.state ino }
-{
-    match mounted.object(ino) {
-        Some(object) => object.kind == Kind::Directory,
-        None => false,
-    }
-}
 
 /// So many steps lead up to the root at most.
 fn most_steps(mounted: &Mounted<'_>) -> u64
@@ -32,19 +27,35 @@ fn most_steps(mounted: &Mounted<'_>) -> u64
     count + 1
 }
 
-/// A name: its directory's number, its bytes, and the number that it stands for.
-pub(crate) type Name<'m> = (u32, &'m [u8], u32);
+/// Adds a name, where it stands for one of these numbers.
+fn note_name<'m>(
+    alloc: Global,
+    names: &mut Groups<Name<'m>>,
+    numbers: &BTreeSet<u32>,
+    name: Name<'m>,
+) -> Result<(), AllocError>
+    ensures { OnOk result ((i : ℕ) → contains nat_cmp numbers.now i ≡ true
+        → group_of names.new i ≡ group_of names.old i ++ (if name.entry.2 == i then name.entry ∷ []
+        else [])) }
+{
+    if !numbers.contains(&name.2) {
+        return Ok(());
+    }
+    add(alloc, names, name.2, name)
+}
 
-/// The names of a mounted image by the number that they stand for. O(n log n) for n names.
+/// The names of a mounted image that stand for these numbers, by number. O(n log n) for n names;
+/// takes memory for those that it finds.
 fn names_by_number<'m>(
     alloc: Global,
     mounted: &'m Mounted<'_>,
+    numbers: &BTreeSet<u32>,
 ) -> Result<Groups<Name<'m>>, AllocError>
-    ensures { IfOk result (λ names. AreNamed mounted.now.state names) }
+    ensures { IfOk result (λ names. AreNamed mounted.now.state numbers.now names) }
 {
     let mut names = BTreeMap::new(alloc);
     for name in mounted.names() {
-        add(alloc, &mut names, name.2, name)?;
+        note_name(alloc, &mut names, numbers, name)?;
     }
     Ok(names)
 }
@@ -53,36 +64,61 @@ fn names_by_number<'m>(
 #[derive(Drop)]
 pub(crate) struct Ways<'m, 'a> {
     pub mounted: &'m Mounted<'a>,
+    pub numbers: &'m BTreeSet<u32>,
+    firsts: Firsts<'m>,
+    nowhere: BTreeSet<u32>,
     names: Groups<Name<'m>>,
     steps: u64,
     ghost counted: { steps ≡ steps_at_most mounted.now.state },
-    ghost named: { AreNamed mounted.now.state names },
+    ghost firsts_are: { AreFirsts mounted.now.state firsts },
+    ghost nowhere_is: { LeadNowhere mounted.now.state nowhere },
+    ghost named: { AreNamed mounted.now.state numbers.now names },
 }
 
 impl<'m, 'a> Ways<'m, 'a> {
-    /// Takes memory for an index of the names.
-    pub(crate) fn new(alloc: Global, mounted: &'m Mounted<'a>) -> Result<Ways<'m, 'a>, AllocError>
-        ensures { IfOk result (λ ways. ways.mounted.now ≡ mounted.now) }
+    /// Takes memory for the directories, and for the names that stand for these numbers.
+    pub(crate) fn new(
+        alloc: Global,
+        mounted: &'m Mounted<'a>,
+        numbers: &'m BTreeSet<u32>,
+    ) -> Result<Ways<'m, 'a>, AllocError>
+        ensures image { IfOk result (λ ways. ways.mounted.now ≡ mounted.now) }
+        ensures numbers { IfOk result (λ ways. ways.numbers.now ≡ numbers.now) }
     {
+        let firsts = firsts_of(alloc, mounted)?;
+        let nowhere = nowhere_of(alloc, mounted, &firsts)?;
         Ok(Ways {
             mounted,
-            names: names_by_number(alloc, mounted)?,
+            numbers,
+            firsts,
+            nowhere,
+            names: names_by_number(alloc, mounted, numbers)?,
             steps: most_steps(mounted),
         })
     }
 
-    /// The names that stand for a number.
+    /// The names that stand for one of the numbers.
     pub(crate) fn named(&self, ino: u32) -> &[Name<'m>]
+        requires { contains nat_cmp self.now.numbers.now ino ≡ true }
         ensures { map name_held result.now ≡ names_for self.now.mounted.now.state ino }
     {
         group(&self.names, ino)
     }
 
-    /// The first name that stands for a number.
-    fn first_name(&self, ino: u32) -> Option<Name<'m>>
-        ensures { option_map name_held result ≡ first_name self.now.mounted.now.state ino }
+    /// The first name of a directory.
+    fn first_name(&self, dir: u32) -> Option<Name<'m>>
+        requires { tree.is_directory self.now.mounted.now.state dir ≡ true }
+        ensures { option_map name_held result ≡ first_name self.now.mounted.now.state dir }
     {
-        self.named(ino).first().copied()
+        first_name(self.mounted, &self.firsts, dir)
+    }
+
+    /// Whether it is known of a directory that it leads nowhere.
+    fn is_nowhere(&self, dir: u32) -> bool
+        ensures { result ≡ true → (names : List (List ℕ))
+            → path_below self.now.mounted.now.state dir names ≡ None }
+    {
+        self.nowhere.contains(&dir)
     }
 
     /// The path of a directory.
@@ -114,6 +150,7 @@ impl<'m, 'a> Ways<'m, 'a> {
 }
 
 /// The names from the root to a directory, and after them these, the last of which comes first.
+/// Where no way leads there it takes no step.
 fn climb<'m>(
     ways: &Ways<'m, '_>,
     dir: u32,
@@ -122,6 +159,9 @@ fn climb<'m>(
     ensures { IfOk result (λ path. option_map names_held path
         ≡ path_below ways.now.mounted.now.state dir (reverse (names_held names.entry))) }
 {
+    if ways.is_nowhere(dir) {
+        return Ok(None);
+    }
     let mut path = names;
     let mut left = ways.steps;
     let mut here = dir;

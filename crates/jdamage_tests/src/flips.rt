@@ -69,11 +69,11 @@ fn write_node(image: &mut Vec<u8>, node: Node) -> Result<(), WriteFault> {
     }
 }
 
-/// The image, with a bit flipped in the byte at each of these places.
-fn flipped(alloc: Global, places: &[usize]) -> Result<Vec<u8>, &'static str> {
+/// An image of these nodes, with a bit flipped in the byte at each of these places.
+fn flipped_of(alloc: Global, nodes: &[Node], places: &[usize]) -> Result<Vec<u8>, &'static str> {
     let mut image = Vec::new(alloc);
-    for node in NODES {
-        write_node(&mut image, node).map_err(|_| "no node")?;
+    for node in nodes {
+        write_node(&mut image, *node).map_err(|_| "no node")?;
         fill_up(&mut image).map_err(|_| "no memory")?;
     }
     for place in places {
@@ -81,6 +81,11 @@ fn flipped(alloc: Global, places: &[usize]) -> Result<Vec<u8>, &'static str> {
         *byte ^= 1;
     }
     Ok(image)
+}
+
+/// The image, with a bit flipped in the byte at each of these places.
+fn flipped(alloc: Global, places: &[usize]) -> Result<Vec<u8>, &'static str> {
+    flipped_of(alloc, &NODES, places)
 }
 
 /// Puts what its damage costs, and answers the totals, or nothing where the sink failed.
@@ -211,6 +216,80 @@ fn sinks_that_fail(rt: HostRuntime) -> Result<(), Fail> {
         let found = put(rt.alloc(), &image, &mut sink)?;
         let wanted = TWO_PATHS.as_bytes().get(..limit).ok_or("short")?;
         expect_at(&rt, found.is_none() && sink.took(1, wanted), limit);
+    }
+    Ok(())
+}
+
+/// Two directories that lie in one another, with a file that has two nodes.
+const RING: [Node; 7] = [
+    Node::Inode(2, 1, DIRECTORY, 0, 0, b""), // 0
+    Node::Entry(3, 1, 2, b"up"), // 68
+    Node::Inode(3, 1, DIRECTORY, 0, 0, b""), // 112
+    Node::Entry(2, 1, 3, b"down"), // 180
+    Node::Entry(2, 2, 4, b"file"), // 224
+    Node::Inode(4, 1, FILE, 1, 0, b"x"), // 268
+    Node::Inode(4, 2, FILE, 1, 0, b"y"), // 340
+];
+
+const OLDER_IN_RING: &str = "0000010c data-crc ino 4 version 1 bytes 0 to 1 hides nothing\n\
+total damaged 1 paths 0 missing 0\n";
+
+const NEWER_IN_RING: &str = "00000154 data-crc ino 4 version 2 bytes 0 to 1 has no path\n\
+total damaged 1 paths 0 missing 0\n";
+
+const BOTH_IN_RING: &str = "0000010c data-crc ino 4 version 1 bytes 0 to 1 has no path\n\
+00000154 data-crc ino 4 version 2 bytes 0 to 1 has no path\n\
+missing pino 2 name file ino 4\n\
+total damaged 2 paths 0 missing 1\n";
+
+#[test]
+fn directories_in_one_another(rt: HostRuntime) -> Result<(), Fail> {
+    let rows: [Row; 3] = [
+        (&[336], OLDER_IN_RING, (1, 0, 0)),
+        (&[408], NEWER_IN_RING, (1, 0, 0)),
+        (&[336, 408], BOTH_IN_RING, (2, 0, 1)),
+    ];
+    for (places, text, wanted) in rows {
+        let image = flipped_of(rt.alloc(), &RING, places)?;
+        let mut sink = Taker::new(rt.alloc());
+        let found = put(rt.alloc(), &image, &mut sink)?;
+        equal(&rt, sink.bytes.as_slice(), text.as_bytes());
+        equal(&rt, found, Some(totals(wanted)));
+    }
+    Ok(())
+}
+
+/// One file, of which versions are lost that others give in front of, beside and behind.
+const MANY: [Node; 7] = [
+    Node::Entry(1, 1, 2, b"a"), // 0
+    Node::Inode(2, 4, FILE, 8, 0, b"aaaa"), // 44
+    Node::Inode(2, 2, FILE, 8, 2, b"bbbb"), // 116
+    Node::Inode(2, 6, FILE, 8, 4, b"cccc"), // 188
+    Node::Inode(2, 5, FILE, 8, 2, b"dddd"), // 260
+    Node::Inode(2, 7, FILE, 8, 0, b"eeee"), // 332
+    Node::Inode(2, 3, FILE, 8, 0, b"ffff"), // 404
+];
+
+const MANY_LOST: &str = "00000074 data-crc ino 2 version 2 bytes 2 to 6 hides nothing\n\
+00000104 data-crc ino 2 version 5 bytes 2 to 6 hides /a\n\
+0000014c data-crc ino 2 version 7 bytes 0 to 4 hides /a\n\
+00000194 data-crc ino 2 version 3 bytes 0 to 4 hides nothing\n\
+total damaged 4 paths 2 missing 0\n";
+
+const NOTHING_LOST: &str = "total damaged 0 paths 0 missing 0\n";
+
+#[test]
+fn many_of_one_file(rt: HostRuntime) -> Result<(), Fail> {
+    let rows: [Row; 2] = [
+        (&[184, 328, 400, 472], MANY_LOST, (4, 2, 0)),
+        (&[], NOTHING_LOST, (0, 0, 0)),
+    ];
+    for (places, text, wanted) in rows {
+        let image = flipped_of(rt.alloc(), &MANY, places)?;
+        let mut sink = Taker::new(rt.alloc());
+        let found = put(rt.alloc(), &image, &mut sink)?;
+        equal(&rt, sink.bytes.as_slice(), text.as_bytes());
+        equal(&rt, found, Some(totals(wanted)));
     }
     Ok(())
 }

@@ -12,3 +12,6 @@ loop-addr-preserved g c =
       text = text_more (own_text g.E.Order.order c.args.ways.now.mounted.now c.args.kept.now) c.args.damaged.now c.loop-addr.addr-index d _ _ _ _ c.loop-addr-test.true refl c.loop-addr.invariant.text c.in_ok-more.ensures.text;
       count = count_more (own_paths g.E.Order.order c.args.ways.now.mounted.now c.args.kept.now) c.args.damaged.now c.loop-addr.addr-index d _ (2 ^ 64 - 1) _ _ _ c.loop-addr-test.true refl c.loop-addr.invariant.count c.in_ok-more.ensures.count c.saturating_add-count.ensures;
     }
+
+pub push_node-requires-clause-number : goal.push_node-requires-clause-number
+push_node-requires-clause-number g c = c.requires.numbers c.loop-addr.addr-index (0, NodeCrc) c.loop-addr-test.true

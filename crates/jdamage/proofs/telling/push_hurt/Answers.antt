@@ -1,8 +1,8 @@
 use Rattle.std.proofs.Common.{ℕ, ◌+◌, ◌-◌, ◌^◌, [], get_or, refl, arith, ap, ◌∙◌}
 use Rattle.std.specs.Prelude.{min}
-use Rattle.jdamage.specs.Ways.{name_held, paths_to}
+use Rattle.jdamage.specs.Ways.{HeldName, name_held, paths_to}
 use Rattle.jdamage.proofs.DamageLemmas.{name_more, told_more, names_begin, count_begin, no_paths, some_paths}
-use Rattle.jdamage.proofs.WayLemmas.{HeldName, names_next, no_names_left}
+use Rattle.jdamage.proofs.WayLemmas.{names_next, no_names_left}
 use Rattle.jdamage.proofs.telling.push_hurt.Goals as goal
 
 pub loop-pino-init : goal.loop-pino-init

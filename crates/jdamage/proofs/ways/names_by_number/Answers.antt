@@ -7,7 +7,7 @@ pub loop-name-init : goal.loop-name-init
 loop-name-init c = record {
   can = tt;
   finite = tt;
-  so_far = named_begin c.args.mounted.now.state c.new-names.result _ c.new-names.ensures.empty (c.into_iter-name-iterator.ensures.into_iter_gives ∙ c.names-name-items.ensures);
+  so_far = named_begin c.args.mounted.now.state c.args.numbers.now c.new-names.result _ c.new-names.ensures.empty (c.into_iter-name-iterator.ensures.into_iter_gives ∙ c.names-name-items.ensures);
 }
 
 pub loop-name-preserved : goal.loop-name-preserved
@@ -16,8 +16,8 @@ loop-name-preserved c =
     record {
       can = tt;
       finite = tt;
-      so_far = one_named c.args.mounted.now.state c.loop-name.names c.add.new.groups c.in-Some.name _ _ is c.in_ok-add.ensures c.loop-name.invariant.so_far;
+      so_far = one_named c.args.mounted.now.state c.args.numbers.now c.loop-name.names c.note_name.new.names c.in-Some.name _ _ is c.in_ok-note_name.ensures c.loop-name.invariant.so_far;
     }
 
 pub returns : goal.returns
-returns c = all_named c.args.mounted.now.state _ _ c.in-None.ensures.steps.0 c.loop-name.invariant.so_far
+returns c = all_named c.args.mounted.now.state c.args.numbers.now c.loop-name.names _ c.in-None.ensures.steps.0 c.loop-name.invariant.so_far
