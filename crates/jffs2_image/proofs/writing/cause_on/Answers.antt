@@ -1,6 +1,5 @@
 use Rattle.std.proofs.Common.{◌≡◌, rules}
 use Rattle.jreport.specs.Causes.{cause_of}
-use Rattle.jreport.specs.declared.cause.Cause.{Cause}
 use Rattle.jffs2_image.specs.Writes.{flash_plan}
 use Rattle.jffs2_image.proofs.writing.cause_on.Goals as goal
 

@@ -2,7 +2,7 @@ use Rattle.std.proofs.Common.{rules, ◌≡◌, ◌++◌, ◌∷◌, [], ℕ, Bo
 use Rattle.std.specs.Prelude.{◌==◌, length, codes, if◌then◌else◌}
 use Rattle.flashbase.specs.Device.{Puts}
 use Rattle.jline.specs.Words.{in_line}
-use Rattle.jreport.specs.Advice.{advice_of, named_in, note_of, noted_line}
+use Rattle.jreport.specs.Advice.{advice_of, named_in, note_of}
 use Rattle.jreport.proofs.advice.put_advice.Goals as goal
 
 -- where there is something to say it is said
