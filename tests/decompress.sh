@@ -206,7 +206,7 @@ while read -r name block order address compr changed bytes; do
     run append --decompress "${flash[@]}" --blocks 1 "$image" create none.img
     case $block in
         65536) want 1 "" "jffs2_image: S2 Full needed 112 free 0 line 1"; rm none.img ;;
-        *) want 1 "" "jffs2_image: S7 Geometry"; unmade none.img ;;
+        *) want 1 "" "jffs2_image: S7 Geometry$long_image"; unmade none.img ;;
     esac
     # Without --decompress it is refused, and a note says what to do.
     fault="jffs2_image: M4 Compressed at $address compr $compr"
@@ -240,7 +240,7 @@ while read -r name block order address compr changed bytes; do
     run compress "${flash[@]}" "$image" none.img; want 1 "" "$fault"$'\n'"$note"; unmade none.img
     run compress "${flash[@]}" small.img none.img
     want 1 "" "jffs2_image: M4 Compressed at * compr 6"$'\n'"$note"; unmade none.img
-    run compress "${flash[@]}" out.img /dev/full; want 1 "" "jffs2_image: S4 Sink"
+    run compress "${flash[@]}" out.img /dev/full; want 1 "" "jffs2_image: S4 Sink$no_space"
     line="compress of $name with standard output full"
     "$program" compress "${flash[@]}" out.img image > /dev/full 2> err
     got=$?; : > out; want 1 "" "jffs2_image: P5 Output"; same image small.img
@@ -248,7 +248,7 @@ while read -r name block order address compr changed bytes; do
     cp blank image; run decompress "${flash[@]}" "$image" image
     want 0 "decompressed $changed nodes 29 bytes $bytes" ""; same image out.img
     # A disk that takes nothing, or 1024 bytes
-    run decompress "${flash[@]}" "$image" /dev/full; want 1 "" "jffs2_image: S4 Sink"
+    run decompress "${flash[@]}" "$image" /dev/full; want 1 "" "jffs2_image: S4 Sink$no_space"
     run append --decompress "${flash[@]}" --blocks 16 "$image" create /dev/full
     want 1 "" "jffs2_image: S4 Sink*"
     line="decompress of $name on a disk of 1024 bytes"
@@ -257,7 +257,7 @@ while read -r name block order address compr changed bytes; do
         ulimit -f 1
         "$program" decompress "${flash[@]}" "$image" image > out 2> err
     )
-    got=$?; want 1 "" "jffs2_image: S4 Sink"
+    got=$?; want 1 "" $'jffs2_image: S4 Sink\njffs2_image: note: the file grows too large'
     head -c 1024 out.img > piece; same image piece
     # Standard output that takes nothing: OUT stands.
     line="decompress of $name with standard output full"
@@ -272,6 +272,8 @@ END
 
 # ---- Faults: nothing is made, and what was there stays
 
+unopened_none=$(unopened none)
+
 # refused FAULT WORD..: `decompress` and each command with --decompress, of an image by these words
 refused() {
     local fault="jffs2_image: $1"
@@ -285,7 +287,7 @@ refused() {
     run extract --decompress "$@" none.img; want 1 "" "$fault"; unmade none.img
     run append --decompress --blocks 64 "$@" create none.img; want 1 "" "$fault"; unmade none.img
 }
-refused "P1 File none" none
+refused "${unopened_none#jffs2_image: }" none
 refused "L1 Device" folder
 refused "L2 TooLarge" /dev/zero
 for value in 0 4095 4097 4194308 4294967295; do
@@ -299,11 +301,11 @@ for name in rtime zlib lzo; do
 done
 refused "Z2 TooLong at 0000008c" "${small[@]}" long
 refused "S3 ReadOnly" read_only
-refused "S7 Geometry" --block 4096 good
-refused "S7 Geometry" --block 8188 good
+refused "S7 Geometry$small_block" --block 4096 good
+refused "S7 Geometry$small_block" --block 8188 good
 refused "S2 Full needed 246098596 free 268386304" bomb
 # Of two faults the first in this order
-refused "P1 File none" --block 4097 none
+refused "${unopened_none#jffs2_image: }" --block 4097 none
 refused "M1 BlockSize$block_note" --block 4097 wrong_zlib
 refused "Z1 Data at 0000008c" --block 4096 wrong_zlib
 refused "S3 ReadOnly" --block 4096 read_only
@@ -343,7 +345,7 @@ for words in "ls --clashes higher clash" "compress --clashes higher clash none.i
     run $words; want 2 "" "error: unexpected argument '--clashes' found*"
 done
 run decompress --clashes higher wrong_zlib none.img; want 1 "" "jffs2_image: Z1 Data at 0000008c"
-run decompress --clashes higher none out.img; want 1 "" "jffs2_image: P1 File none"
+run decompress --clashes higher none out.img; want 1 "" "$(unopened none)"
 unmade none.img
 run decompress root_file out.img; want 0 "decompressed 2 nodes 3 bytes 232" ""
 run check out.img; want 3 $'*findings 0\nmount refused M6 RootKind' ""
@@ -374,10 +376,10 @@ run compress blank out.img; want 0 "compressed 0 nodes 0 bytes 0" ""; same out.i
 run decompress damaged plain.img; head -c 3 /dev/zero | cat plain.img - > dirty.img
 run compress dirty.img out.img; want 0 "compressed 1 nodes 2 bytes *" "$(noted 1)"
 # OUT that cannot be made
-run compress plain_little nowhere/out.img; want 1 "" "jffs2_image: P1 File nowhere/out.img"
-run decompress good nowhere/out.img; want 1 "" "jffs2_image: P1 File nowhere/out.img"
-run decompress good folder; want 1 "" "jffs2_image: P1 File folder"
-run decompress good ""; want 1 "" "jffs2_image: P1 File "
+run compress plain_little nowhere/out.img; want 1 "" "$(unopened nowhere/out.img)"
+run decompress good nowhere/out.img; want 1 "" "$(unopened nowhere/out.img)"
+run decompress good folder; want 1 "" "$(unopened folder 'is a directory')"
+run decompress good ""; want 1 "" "$(unopened '')"
 run decompress good /dev/null; want 0 "decompressed 1 nodes 2 bytes 144" ""
 run cat --decompress good a; want 1 "" "jffs2_image: P3 Path BadPath"
 run cat --decompress none '/\'; want 1 "" "jffs2_image: P3 Path BadPath"

@@ -159,7 +159,7 @@ def packed():
     full = b"jffs2_image: S2 Full " in done.err and done.status == 1 and done == wanted
     verdict("a flash that is full holds what was accepted", full and read("packed.img") == read("by_hand.img"), done)
     done = run("pack", "plain/tree", "plain/tree")
-    verdict("no file can be made", done == Done(1, b"", b"jffs2_image: P1 File plain/tree\n"), done)
+    verdict("no file can be made", done == Done(1, b"", b"jffs2_image: P1 File plain/tree\njffs2_image: note: plain/tree: is a directory\n"), done)
     os.mkdir("nothing")
     done = run("pack", "--owner", "0", "0", "--time", "0", "nothing", "packed.img")
     verdict("an empty folder", done == by_hand("nothing", ["--owner", "0", "0", "--time", "0"], ["--blocks", "1"], "by_hand.img"), done)
@@ -366,7 +366,7 @@ def in_the_way():
         verdict(f"{about} is no new folder", done == Done(1, b"", f"jffs2_image: P1 File {name}\n".encode()), done)
     verdict("nothing is made through a symlink", not os.path.exists("elsewhere"))
     done = run("extract", "no such image", "new")
-    verdict("no image, no folder", done == Done(1, b"", b"jffs2_image: P1 File no such image\n") and not os.path.exists("new"), done)
+    verdict("no image, no folder", done == Done(1, b"", b"jffs2_image: P1 File no such image\njffs2_image: note: no such image: no such file\n") and not os.path.exists("new"), done)
     write("not.img", laid([inode(1, 1, 0, 0, b"", 0o100644)]))
     done = run("extract", "not.img", "new")
     verdict("what does not mount makes no folder", done.status == 1 and done.err.startswith(b"jffs2_image: M") and not os.path.exists("new"), done)
@@ -645,7 +645,7 @@ def paths_of_no_part():
         ("part.img", "there", "/none", "P3 Path NotFound"),
         ("part.img", "there", "/d", "P1 File there"),
         ("none.img", "new", "/d\\q", "P3 Path BadPath"),
-        ("none.img", "new", "d", "P1 File none.img"),
+        ("none.img", "new", "d", "P1 File none.img\njffs2_image: note: none.img: no such file"),
         ("clash.img", "new", "/d\\x4", "P3 Path BadPath"),
         ("clash.img", "new", "/none", "M5 Clash at 00000048"),
     )

@@ -384,11 +384,18 @@ def on_devices():
             verdict(f"{words}", (done, made) == (fault(told), None), done)
     os.symlink("loop", "loop")
     os.symlink("nowhere/file", "nowhere.link")
-    for name in ("loop", "nowhere.link", "small.img/file", "x" * 5000, "y" * 256):
+    refused = {
+        "loop": "too many symbolic links",
+        "nowhere.link": "no such file",
+        "small.img/file": "a part of the path is no directory",
+        "x" * 5000: "no file can have this name",
+        "y" * 256: "no file can have this name",
+    }
+    for name, why in refused.items():
         makings = ["build", "--blocks", "2", "small.txt", name], ["decompress", "small.img", name]
         for words in (*readings(name), *makings):
             done = run(words)
-            verdict(f"{words[0]} of {name[:20]}", done == fault(f"P1 File {name}"), done)
+            verdict(f"{words[0]} of {name[:20]}", done == fault(f"P1 File {name}\njffs2_image: note: {name}: {why}"), done)
     null = "/dev/null"
     for words, out in (
         (["ls", null], NOWHERE),

@@ -89,7 +89,7 @@ run build "${flash[@]}" --blocks 16 --pad create /dev/null; want 0 "accepted 1 n
 line="build --pad to a limit"
 ( trap '' XFSZ; ulimit -f 32; "$program" build "${flash[@]}" --blocks 16 --pad create limited.img > out 2> err )
 got=$?
-want 1 "accepted 1 nodes 2 *" "jffs2_image: P1 File limited.img"
+want 1 "accepted 1 nodes 2 *" "$(unopened limited.img 'the file grows too large')"
 for command in "decompress plain x.img" "compress plain x.img" "ls plain" "check plain" "info plain" \
     "cuts --blocks 16 create"; do
     run $command --pad; want 2 "" "error: unexpected argument '--pad' found*"
@@ -123,7 +123,7 @@ for n in "" 1 2; do same "out.img.tmp$n" old; done
 rm out.img.tmp*
 for n in "" $(seq 99); do : > "out.img.tmp$n"; done
 cp old out.img
-run build "${flash[@]}" --blocks 16 --atomic create out.img; want 1 "" "jffs2_image: P1 File out.img"; same out.img old
+run build "${flash[@]}" --blocks 16 --atomic create out.img; want 1 "" "$(unopened out.img 'exists')"; same out.img old
 rm out.img.tmp*
 
 # ---- after a fault
@@ -131,13 +131,13 @@ rm out.img.tmp*
 cp old out.img
 run build "${flash[@]}" --blocks 16 --atomic wrong out.img; holds 1 "" "jffs2_image: S*line 2"
 run build "${flash[@]}" --blocks 16 --atomic nothing out.img; holds 1 "" "jffs2_image: P2 Listing line 1*no operation has this name"
-run build "${flash[@]}" --blocks 16 --atomic none out.img; holds 1 "" "jffs2_image: P1 File none"
+run build "${flash[@]}" --blocks 16 --atomic none out.img; holds 1 "" "$(unopened none)"
 run build "${flash[@]}" --blocks 1 --atomic text out.img; holds 1 "" "jffs2_image: S*"
 run build --weak "${flash[@]}" --blocks 16 --atomic wrong out.img; holds 1 "" "jffs2_image: S*line 2"
 run append "${flash[@]}" --blocks 1 --atomic plain text out.img; holds 1 "" "jffs2_image: S*"
-run append "${flash[@]}" --blocks 48 --atomic none text out.img; holds 1 "" "jffs2_image: P1 File none"
-run decompress "${flash[@]}" --atomic none out.img; holds 1 "" "jffs2_image: P1 File none"
-run compress "${flash[@]}" --atomic none out.img; holds 1 "" "jffs2_image: P1 File none"
+run append "${flash[@]}" --blocks 48 --atomic none text out.img; holds 1 "" "$(unopened none)"
+run decompress "${flash[@]}" --atomic none out.img; holds 1 "" "$(unopened none)"
+run compress "${flash[@]}" --atomic none out.img; holds 1 "" "$(unopened none)"
 run build --block 5 --blocks 16 --atomic create out.img; holds 1 "" "jffs2_image: *"
 # Standard output fails after all was written.
 for command in "${commands[@]}"; do
@@ -152,23 +152,24 @@ for options in "--atomic" "--atomic --pad"; do
     line="build $options to a limit"
     ( trap '' XFSZ; ulimit -f 32; "$program" build "${flash[@]}" --blocks 128 $options large out.img > out 2> err )
     got=$?
-    holds 1 "" "jffs2_image: S4 Sink*"
+    holds 1 "" $'jffs2_image: S4 Sink*\njffs2_image: note: the file grows too large'
     line="build $options create to a limit"
     ( trap '' XFSZ; ulimit -f 32; "$program" build "${flash[@]}" --blocks 128 $options create out.img > out 2> err )
     got=$?
     if [[ $options == --atomic ]]; then
         want 0 "accepted *" ""; cp old out.img; alone
     else
-        holds 1 "accepted *" "jffs2_image: P1 File out.img"
+        holds 1 "accepted *" "$(unopened out.img 'the file grows too large')"
     fi
 done
 if [[ $(id -u) == 0 ]] && mkdir disk && mount -t tmpfs -o size=256k tmpfs disk 2> err; then
     trap 'umount disk; rm -rf "$folder"' EXIT
     cp old disk/out.img
-    run build "${flash[@]}" --blocks 128 --atomic large disk/out.img; want 1 "" "jffs2_image: S4 Sink*"
+    run build "${flash[@]}" --blocks 128 --atomic large disk/out.img
+    want 1 "" "jffs2_image: S4 Sink*$no_space"
     same disk/out.img old; alone
     run build "${flash[@]}" --blocks 64 --atomic --pad create disk/out.img
-    want 1 "accepted *" "jffs2_image: P1 File disk/out.img"; same disk/out.img old; alone
+    want 1 "accepted *" "$(unopened disk/out.img 'no space')"; same disk/out.img old; alone
     run build "${flash[@]}" --blocks 16 --atomic --pad create disk/out.img; want 0 "accepted *" ""
     length disk/out.img 131072; alone
 fi
@@ -193,14 +194,14 @@ for options in "" --pad; do
     alone
 done
 run build "${flash[@]}" --blocks 16 --atomic create /dev/null; want 0 "accepted *" ""; [[ -c /dev/null ]]; count $?
-run build "${flash[@]}" --blocks 16 --atomic create /dev/full; want 1 "" "jffs2_image: S4 Sink"
+run build "${flash[@]}" --blocks 16 --atomic create /dev/full; want 1 "" "jffs2_image: S4 Sink$no_space"
 mkdir folder
-run build "${flash[@]}" --blocks 16 --atomic create folder; want 1 "" "jffs2_image: P1 File folder"; alone
-run build "${flash[@]}" --blocks 16 --atomic create none/out.img; want 1 "" "jffs2_image: P1 File none/out.img"
+run build "${flash[@]}" --blocks 16 --atomic create folder; want 1 "" "$(unopened folder 'is a directory')"; alone
+run build "${flash[@]}" --blocks 16 --atomic create none/out.img; want 1 "" "$(unopened none/out.img)"
 mkdir closed; cp old closed/out.img; chmod 555 closed
 if [[ $(id -u) != 0 ]]; then
     run build "${flash[@]}" --blocks 16 --atomic create closed/out.img
-    want 1 "" "jffs2_image: P1 File closed/out.img"; same closed/out.img old
+    want 1 "" "$(unopened closed/out.img 'no permission')"; same closed/out.img old
 elif command -v setpriv > /dev/null; then
     chmod 755 "$folder"; chown -R nobody closed
     cp "$program" program; chmod 755 program
@@ -209,7 +210,7 @@ elif command -v setpriv > /dev/null; then
         setpriv --reuid nobody --clear-groups ./program build "${flash[@]}" --blocks 16 --atomic \
             create closed/out.img > out 2> err
         got=$?
-        want 1 "" "jffs2_image: P1 File closed/out.img"; same closed/out.img old; alone
+        want 1 "" "$(unopened closed/out.img 'no permission')"; same closed/out.img old; alone
     fi
 fi
 chmod 755 closed

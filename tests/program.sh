@@ -102,15 +102,15 @@ for value in 0 4092 4095 4097 4098 4194305 4194308 4294967295; do
     run check --block $value block; want 1 "" "jffs2_image: C1 BlockSize$block_note"
     run check --scan --block $value block; want 1 "" "jffs2_image: C1 BlockSize$block_note"
     run check --scan --block $value folder; want 1 "" "jffs2_image: C1 BlockSize$block_note"
-    run check --scan --block $value none; want 1 "" "jffs2_image: P1 File none"
+    run check --scan --block $value none; want 1 "" "$(unopened none)"
 done
 
 # Images
-run check --scan none; want 1 "" "jffs2_image: P1 File none"
-run check --scan ""; want 1 "" "jffs2_image: P1 File "
-run check --scan "two words"; want 1 "" "jffs2_image: P1 File two words"
-run check --scan $'two\nlines\x7f\t'; want 1 "" 'jffs2_image: P1 File two\\x0alines\\x7f\\x09'
-run cat $'\e[2J' /a; want 1 "" 'jffs2_image: P1 File \\x1b[[]2J'
+run check --scan none; want 1 "" "$(unopened none)"
+run check --scan ""; want 1 "" "$(unopened '')"
+run check --scan "two words"; want 1 "" "$(unopened 'two words')"
+run check --scan $'two\nlines\x7f\t'; want 1 "" $'jffs2_image: P1 File two\\\\x0alines\\\\x7f\\\\x09\njffs2_image: note: two\\\\x0alines\\\\x7f\\\\x09: no such file'
+run cat $'\e[2J' /a; want 1 "" $'jffs2_image: P1 File \\\\x1b[[]2J\njffs2_image: note: \\\\x1b[[]2J: no such file'
 run check --scan folder; want 1 "" "jffs2_image: L1 Device"
 run check --scan --block 4096 longer
 want 0 $'block 0\n00000000 erased 4096\nblock 1\n00001000 erased 4096\ntotal blocks 2 entries 0 inodes 0 findings 0' ""
@@ -150,7 +150,7 @@ run check --shape --block 4096 "$sample"; want 3 "*mount ok*dangling pino 1 ino 
 run check --block 4096 "$sample"; want 3 "*findings 0*mount ok*dangling pino 1 ino 2 name a" ""
 run check --endian big --block 4096 "$sample"; want 3 "*findings 4*mount ok" ""
 run check --block 4095 block; want 1 "" "jffs2_image: C1 BlockSize$block_note"
-run check none; want 1 "" "jffs2_image: P1 File none"
+run check none; want 1 "" "$(unopened none)"
 run check folder; want 1 "" "jffs2_image: L1 Device"
 
 # Files
@@ -160,7 +160,7 @@ run cat block a; want 1 "" "jffs2_image: P3 Path BadPath"
 run cat block /a; want 1 "" "jffs2_image: P3 Path NotFound"
 run cat block /a/b; want 1 "" "jffs2_image: P3 Path NotFound"
 run cat --block 4096 "$sample" /a; want 1 "" "jffs2_image: P3 Path NotFound"
-run cat none /; want 1 "" "jffs2_image: P1 File none"
+run cat none /; want 1 "" "$(unopened none)"
 run cat folder /; want 1 "" "jffs2_image: L1 Device"
 run cat --block 4095 block /; want 1 "" "jffs2_image: M1 BlockSize$block_note"
 # The word of the path is judged before the image is opened.
@@ -190,7 +190,7 @@ run ls --block 8192 "$tree" /none; want 1 "" "jffs2_image: P3 Path NotFound"
 run ls --block 8192 "$tree" /etc/passwd/a; want 1 "" "jffs2_image: P3 Path NotDirectory"
 run ls --block 8192 "$tree" etc; want 1 "" "jffs2_image: P3 Path BadPath"
 run ls none '/\x1'; want 1 "" "jffs2_image: P3 Path BadPath"
-run ls none /etc; want 1 "" "jffs2_image: P1 File none"
+run ls none /etc; want 1 "" "$(unopened none)"
 run check --block 8192 "$tree"; want 0 "*entries 12 inodes 11 findings 0*mount ok" ""
 run build --block 8192 --blocks 1 "$samples/tree.txt" built; want 0 "accepted 17 nodes 28 bytes 1772" ""
 run ls --block 8192 built; want 0 "$(sed 's/\\/\\\\/g' "$samples/../stdout")" ""
@@ -244,7 +244,7 @@ for value in 0 4092 4095 4097 4194308 4294967295; do
     run ls --block $value block; want 1 "" "jffs2_image: M1 BlockSize$block_note"
     run cat --block $value block /a; want 1 "" "jffs2_image: M1 BlockSize$block_note"
 done
-run ls none; want 1 "" "jffs2_image: P1 File none"
+run ls none; want 1 "" "$(unopened none)"
 run ls folder; want 1 "" "jffs2_image: L1 Device"
 run ls larger; want 1 "" "jffs2_image: L2 TooLarge"
 line="the tree of an image of 256 MiB in 64 MiB of memory"
@@ -259,7 +259,7 @@ run info; want 2 "" "error: *<IMAGE>*Usage: *"
 run info block block; want 2 "" "$wrong"
 run info --block 8192 block; want 2 "" "error: unexpected argument '--block' found*Usage: *"
 run info --endian big block; want 2 "" "error: unexpected argument '--endian' found*Usage: *"
-run info none; want 1 "" "jffs2_image: P1 File none"
+run info none; want 1 "" "$(unopened none)"
 run info folder; want 1 "" "jffs2_image: L1 Device"
 for image in larger /dev/zero; do
     run info $image; want 1 "" "jffs2_image: L2 TooLarge"
@@ -310,15 +310,15 @@ run diff "$tree"; want 2 "" "error: *<B>*Usage: *"
 run diff "$tree" "$tree" block; want 2 "" "$wrong"
 run diff --decompress "$tree" "$tree"; want 2 "" "error: unexpected argument '--decompress' found*Usage: *"
 run diff --block x "$tree" "$tree"; want 2 "" "error: invalid value 'x' for '--block <N>': *"
-run diff none none2; want 1 "" "jffs2_image: P1 File none"
-run diff "$tree" none2; want 1 "" "jffs2_image: P1 File none2"
+run diff none none2; want 1 "" "$(unopened none)"
+run diff "$tree" none2; want 1 "" "$(unopened none2)"
 run diff folder none2; want 1 "" "jffs2_image: L1 Device"
 run diff "$tree" larger; want 1 "" "jffs2_image: L2 TooLarge"
 run diff --block 4097 "$tree" "$tree"; want 1 "" "jffs2_image: M1 BlockSize$block_note"
 run diff --block 8192 "$tree" "$top/tests/data/default.img"; want 1 "" "jffs2_image: M4 Compressed at *"
 run damage; want 2 "" "error: *<IMAGE>*Usage: *"
 run damage --decompress "$tree"; want 2 "" "error: unexpected argument '--decompress' found*Usage: *"
-run damage none; want 1 "" "jffs2_image: P1 File none"
+run damage none; want 1 "" "$(unopened none)"
 run damage --block 4097 "$tree"; want 1 "" "jffs2_image: M1 BlockSize$block_note"
 run damage "$tree"; want 0 "total damaged 0 paths 0 missing 0" ""
 for words in "damage --help" "damage -h" "help damage"; do
@@ -466,7 +466,7 @@ lines listing 'create 0644 /a' 'part /a 0 empty'
 run build "${small[@]}" --blocks 1 listing built; want 0 "accepted 2 nodes 2 bytes 124" ""; same built made_little
 rm built
 lines listing 'create 0644 /a' 'create 0644 /b' 'part /a 0 none'
-run build --blocks 1 listing built; want 1 "" "jffs2_image: P1 File none"; unmade built
+run build --blocks 1 listing built; want 1 "" "$(unopened none)"; unmade built
 lines listing 'part /a 0 folder'
 run build --blocks 1 listing built; want 1 "" "jffs2_image: L1 Device"; unmade built
 lines listing 'part /a 0 larger'
@@ -485,7 +485,7 @@ lines listing 'file 0644 /a empty'
 run build "${small[@]}" --blocks 1 listing built; want 0 "accepted 1 nodes 2 bytes 124" ""; same built made_little
 rm built
 lines listing 'create 0644 /a' 'file 0644 /b no\x20such'
-run build --blocks 1 listing built; want 1 "" "jffs2_image: P1 File no such"; unmade built
+run build --blocks 1 listing built; want 1 "" "$(unopened 'no such')"; unmade built
 lines listing 'file 0644 /a folder'
 run build --blocks 1 listing built; want 1 "" "jffs2_image: L1 Device"; unmade built
 lines listing 'file 0644 /a larger'
@@ -653,17 +653,17 @@ run ls "${small[@]}" built; want 0 "$root"$'\n- 0644 0 0 0 0 2 /a\\\\x0d' ""
 rm built
 
 # Files that cannot be opened, read or made
-run build --blocks 1 none built; want 1 "" "jffs2_image: P1 File none"; unmade built
+run build --blocks 1 none built; want 1 "" "$(unopened none)"; unmade built
 run build --blocks 1 folder built; want 1 "" "jffs2_image: L1 Device"; unmade built
 run build --blocks 1 larger built; want 1 "" "jffs2_image: L2 TooLarge"; unmade built
-run build --blocks 1 create_a nowhere/built; want 1 "" "jffs2_image: P1 File nowhere/built"
-run build --blocks 1 create_a folder; want 1 "" "jffs2_image: P1 File folder"
-run build --blocks 1 create_a ""; want 1 "" "jffs2_image: P1 File "
+run build --blocks 1 create_a nowhere/built; want 1 "" "$(unopened nowhere/built)"
+run build --blocks 1 create_a folder; want 1 "" "$(unopened folder 'is a directory')"
+run build --blocks 1 create_a ""; want 1 "" "$(unopened '')"
 
 # A disk that takes nothing, or 1024 bytes: what it took is a beginning. The bytes go out through a buffer, so no line is told.
-run build --blocks 1 create_a /dev/full; want 1 "" "jffs2_image: S4 Sink"
+run build --blocks 1 create_a /dev/full; want 1 "" "jffs2_image: S4 Sink$no_space"
 lines listing '# two files' 'create 0644 /a' 'create 0644 /b'
-run build --blocks 1 listing /dev/full; want 1 "" "jffs2_image: S4 Sink"
+run build --blocks 1 listing /dev/full; want 1 "" "jffs2_image: S4 Sink$no_space"
 lines listing 'create 0644 /a' 'part /a 0 ones' 'create 0644 /b'
 run build "${small[@]}" --blocks 2 listing built; want 0 "accepted 3 nodes 6 bytes *" ""
 head -c 1024 built > piece
@@ -673,7 +673,7 @@ line="an image on a disk of 1024 bytes"
     ulimit -f 1
     "$program" build "${small[@]}" --blocks 2 listing built > out 2> err
 )
-got=$?; want 1 "" "jffs2_image: S4 Sink"; same built piece
+got=$?; want 1 "" $'jffs2_image: S4 Sink\njffs2_image: note: the file grows too large'; same built piece
 run ls "${small[@]}" built; want 0 "$root"$'\n'"$file_a" "*"
 line="an image on a disk of 1024 bytes, by an image with more"
 { cat made_little; erased 8068; } > image
@@ -682,15 +682,33 @@ line="an image on a disk of 1024 bytes, by an image with more"
     ulimit -f 1
     "$program" append "${small[@]}" --blocks 2 image create_b built > out 2> err
 )
-got=$?; want 1 "" "jffs2_image: S4 Sink"
+got=$?; want 1 "" $'jffs2_image: S4 Sink\njffs2_image: note: the file grows too large'
 head -c 1024 image > piece; same built piece
 rm built
 
+# A file that may not be read
+cp made_little closed
+chmod 000 closed
+if [[ $(id -u) != 0 ]]; then
+    run ls closed; want 1 "" "$(unopened closed 'no permission')"
+elif command -v setpriv > /dev/null; then
+    chmod 755 "$folder"
+    cp "$program" reader; chmod 755 reader
+    line="ls of a file that may not be read"
+    if setpriv --reuid nobody --clear-groups ./reader --version > out 2> err; then
+        setpriv --reuid nobody --clear-groups ./reader ls closed > out 2> err
+        got=$?; want 1 "" "$(unopened closed 'no permission')"
+    fi
+    rm reader
+fi
+
 # Flash that is not written: the sizes come behind the listing, and before OUT is made
-for words in "--blocks 0" "--block 4096 --blocks 2" "--block 8188 --blocks 2" "--block 8192 --blocks 32769" "--blocks 4097" "--blocks 4294967295" \
-    "--block 4194304 --blocks 65" "--block 4194304 --blocks 4294967295"; do
-    run build $words create_a built; want 1 "" "jffs2_image: S7 Geometry"; unmade built
-    run build $words none built; want 1 "" "jffs2_image: P1 File none"; unmade built
+for row in "$no_block|--blocks 0" "$small_block|--block 4096 --blocks 2" "$small_block|--block 8188 --blocks 2" \
+    "$large_flash|--block 8192 --blocks 32769" "$large_flash|--blocks 4097" "$large_flash|--blocks 4294967295" \
+    "$large_flash|--block 4194304 --blocks 65" "$large_flash|--block 4194304 --blocks 4294967295"; do
+    words=${row#*|}
+    run build $words create_a built; want 1 "" "jffs2_image: S7 Geometry${row%|*}"; unmade built
+    run build $words none built; want 1 "" "$(unopened none)"; unmade built
 done
 for value in 0 4095 4097 8190 4194308 4294967295; do
     run build --block $value --blocks 0 create_a built; want 1 "" "jffs2_image: M1 BlockSize$block_note"; unmade built
@@ -731,8 +749,8 @@ lines more 'part /a 16000 long' 'create 0644 /b' 'part /b 0 long'
 run append --endian big --blocks 2 --page 16384 built more built; want 0 "accepted 3 nodes 7 bytes 13400" ""
 run cat --endian big built /b; whole long
 for row in "8192 8192" "8192 16384" "8268 8192" "16384 16384" "16460 16384"; do
-    run build --block "${row% *}" --blocks 2 --page "${row#* }" create_a unmade_image; want 1 "" "jffs2_image: S7 Geometry"; unmade unmade_image
-    run append --block "${row% *}" --blocks 2 --page "${row#* }" made_little create_b unmade_image; want 1 "" "jffs2_image: S7 Geometry"; unmade unmade_image
+    run build --block "${row% *}" --blocks 2 --page "${row#* }" create_a unmade_image; want 1 "" "jffs2_image: S7 Geometry$large_page"; unmade unmade_image
+    run append --block "${row% *}" --blocks 2 --page "${row#* }" made_little create_b unmade_image; want 1 "" "jffs2_image: S7 Geometry$large_page"; unmade unmade_image
 done
 for row in "8192 4096" "8272 8192" "16464 16384"; do
     run build --block "${row% *}" --blocks 2 --page "${row#* }" create_a built; want 0 "accepted 1 nodes 2 bytes 124" ""; same built made_little
@@ -783,7 +801,7 @@ run append --blocks 2 --endian big file create_b built; want 0 "accepted 1 nodes
 run append "${small[@]}" --blocks 4 "$tree" create_b built; want 0 "accepted 1 nodes 2 bytes 124" ""
 run append "${small[@]}" --blocks 4 --endian big "$tree" create_b built; want 0 "accepted 1 nodes 2 bytes 124" "$(noted "[1-9]*")"
 run append --blocks 1 flipped create_b built; want 1 "" "jffs2_image: S2 Full needed 112 free 0 line 1"
-run append --blocks 2 flipped create_b none/built; want 1 "" "jffs2_image: P1 File none/built"
+run append --blocks 2 flipped create_b none/built; want 1 "" "$(unopened none/built)"
 
 # IMAGE and OUT in one file, also where the first operation is refused
 cp made_little image
@@ -867,12 +885,12 @@ run append "${small[@]}" --blocks 2 read_only create_a built; want 1 "" "jffs2_i
 run append "${small[@]}" --blocks 0 read_only create_a built; want 1 "" "jffs2_image: S3 ReadOnly"; unmade built
 run append "${small[@]}" --blocks 2 later create_a built; want 1 "" "jffs2_image: M3 Incompatible at 0000000c type e0f7"; unmade built
 erased 8193 > image
-run append "${small[@]}" --blocks 1 image create_a built; want 1 "" "jffs2_image: S7 Geometry"; unmade built
-run append --blocks 0 made_little create_a built; want 1 "" "jffs2_image: S7 Geometry"; unmade built
-run append --block 4096 --blocks 2 made_little create_a built; want 1 "" "jffs2_image: S7 Geometry"; unmade built
+run append "${small[@]}" --blocks 1 image create_a built; want 1 "" "jffs2_image: S7 Geometry$long_image"; unmade built
+run append --blocks 0 made_little create_a built; want 1 "" "jffs2_image: S7 Geometry$no_block"; unmade built
+run append --block 4096 --blocks 2 made_little create_a built; want 1 "" "jffs2_image: S7 Geometry$small_block"; unmade built
 run append --block 4097 --blocks 2 made_little create_a built; want 1 "" "jffs2_image: M1 BlockSize$block_note"; unmade built
-run append --blocks 2 none absent built; want 1 "" "jffs2_image: P1 File none"; unmade built
-run append --blocks 2 made_little none built; want 1 "" "jffs2_image: P1 File none"; unmade built
+run append --blocks 2 none absent built; want 1 "" "$(unopened none)"; unmade built
+run append --blocks 2 made_little none built; want 1 "" "$(unopened none)"; unmade built
 run append --blocks 2 folder create_b built; want 1 "" "jffs2_image: L1 Device"; unmade built
 for file in larger /dev/zero; do
     run append --blocks 2 $file create_b built; want 1 "" "jffs2_image: L2 TooLarge"; unmade built
@@ -882,18 +900,18 @@ done
 lines listing 'paint'
 run append --block 4097 --blocks 2 made_little listing built
 want 1 "" $'jffs2_image: P2 Listing line 1\njffs2_image: note: no operation has this name'; unmade built
-run append --blocks 2 made_little create_b folder; want 1 "" "jffs2_image: P1 File folder"
-run append --blocks 2 made_little create_b nowhere/built; want 1 "" "jffs2_image: P1 File nowhere/built"
-run append --blocks 2 made_little empty /dev/full; want 1 "" "jffs2_image: S4 Sink"
-run append --blocks 2 empty create_a /dev/full; want 1 "" "jffs2_image: S4 Sink"
+run append --blocks 2 made_little create_b folder; want 1 "" "$(unopened folder 'is a directory')"
+run append --blocks 2 made_little create_b nowhere/built; want 1 "" "$(unopened nowhere/built)"
+run append --blocks 2 made_little empty /dev/full; want 1 "" "jffs2_image: S4 Sink$no_space"
+run append --blocks 2 empty create_a /dev/full; want 1 "" "jffs2_image: S4 Sink$no_space"
 run append --blocks 2 empty empty /dev/full; want 0 "$none_accepted" ""
 # More than the buffer holds: the operation is named at which the device is seen to be full; none where it is full before.
 head -c 70000 /dev/zero > long
 lines listing 'create 0644 /c' 'part /c 0 long'
-run build --blocks 4 listing /dev/full; want 1 "" "jffs2_image: S4 Sink line 2"
-run append --blocks 4 made_little listing /dev/full; want 1 "" "jffs2_image: S4 Sink line 1"
+run build --blocks 4 listing /dev/full; want 1 "" "jffs2_image: S4 Sink line 2$no_space"
+run append --blocks 4 made_little listing /dev/full; want 1 "" "jffs2_image: S4 Sink line 1$no_space"
 run build --blocks 4 listing built; want 0 "accepted 2 nodes 20 bytes *" ""
-run append --blocks 8 built create_b /dev/full; want 1 "" "jffs2_image: S4 Sink"
+run append --blocks 8 built create_b /dev/full; want 1 "" "jffs2_image: S4 Sink$no_space"
 rm built
 
 # The examples of the help, of the manual page and of its folder
@@ -1007,9 +1025,9 @@ lines refused_listing "create 0644 /a" "write /a 0 bef98e24fe" "create 0644 /a"
 run build --block 8192 --blocks 1 refused_listing refused; want 1 "" "jffs2_image: S1 Refused O5 Exists line 3"
 run build --block 8192 --blocks 1 --weak refused_listing noted; want 1 "" "jffs2_image: S1 Refused O5 Exists line 3"
 same noted refused
-run build --block 8192 --blocks 0 --weak listing noted; want 1 "" "jffs2_image: S7 Geometry"
-run build --block 8192 --blocks 1 --weak listing folder; want 1 "" "jffs2_image: P1 File folder"
-run build --block 8192 --blocks 1 --weak none noted; want 1 "" "jffs2_image: P1 File none"
+run build --block 8192 --blocks 0 --weak listing noted; want 1 "" "jffs2_image: S7 Geometry$no_block"
+run build --block 8192 --blocks 1 --weak listing folder; want 1 "" "$(unopened folder 'is a directory')"
+run build --block 8192 --blocks 1 --weak none noted; want 1 "" "$(unopened none)"
 line="build --weak, standard output is full"
 "$program" build --block 8192 --blocks 1 --weak listing noted > /dev/full 2> err; got=$?; : > out; want 1 "" "jffs2_image: P5 Output"
 same noted weak_image
@@ -1031,9 +1049,9 @@ lines listing "paint /a"
 run cuts --blocks 1 listing
 want 1 "" $'jffs2_image: P2 Listing line 1\njffs2_image: note: no operation has this name'
 lines listing "create 0644 /a" "part /a 0 none"
-run cuts --blocks 1 listing; want 1 "" "jffs2_image: P1 File none"
-run cuts --blocks 1 none; want 1 "" "jffs2_image: P1 File none"
-run cuts --blocks 1 --on none listing; want 1 "" "jffs2_image: P1 File none"
+run cuts --blocks 1 listing; want 1 "" "$(unopened none)"
+run cuts --blocks 1 none; want 1 "" "$(unopened none)"
+run cuts --blocks 1 --on none listing; want 1 "" "$(unopened none)"
 run cuts --blocks 1 --on folder listing; want 1 "" "jffs2_image: L1 Device"
 run cuts listing; want 2 "" "error: *--blocks*"
 run cuts --blocks 1 listing out; want 2 "" "error: unexpected argument 'out' found*"

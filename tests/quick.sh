@@ -136,7 +136,7 @@ gives 0 "accepted 2 nodes 3 bytes 192" build --blocks 1 attr.txt attr.img
 gives 0 $'d 0755 0 0 0 0 1 /\nd 0700 0 0 0 0 2 /bin' ls attr.img
 
 # Exit statuses: 1 a fault, 2 a wrong command line, 3 something was found or left out
-gives 1 "jffs2_image: P1 File none" ls none
+gives 1 $'jffs2_image: P1 File none\njffs2_image: note: none: no such file' ls none
 found=$(jffs2_image paint 2>&1)
 same "status of a wrong command line" $? 2
 found=$(jffs2_image check --block 8192 --endian big tree.img)

@@ -64,6 +64,24 @@ block_note=$'\n'"jffs2_image: note: --block takes a multiple of 4 from 4096 to 4
 clash_note=$'\n'"jffs2_image: note: two nodes differ; \
 decompress --clashes higher keeps that of the higher address"
 
+# shellcheck disable=SC2034
+no_space=$'\n'"jffs2_image: note: no space"
+# shellcheck disable=SC2034
+small_block=$'\n'"jffs2_image: note: a flash that is written has blocks of at least 8192 bytes"
+# shellcheck disable=SC2034
+no_block=$'\n'"jffs2_image: note: a flash has at least one block"
+# shellcheck disable=SC2034
+large_flash=$'\n'"jffs2_image: note: a flash has at most 268435456 bytes, blocks times their size"
+# shellcheck disable=SC2034
+long_image=$'\n'"jffs2_image: note: the image is longer than the flash, blocks times their size"
+# shellcheck disable=SC2034
+large_page=$'\n'"jffs2_image: note: a page and 80 bytes are more than a block"
+
+# unopened NAME WHY: what standard error says of a file that can't be opened or made
+unopened() {
+    printf 'jffs2_image: P1 File %s\njffs2_image: note: %s: %s' "$1" "$1" "${2:-no such file}"
+}
+
 # noted N: what standard error says
 noted() {
     local word=findings

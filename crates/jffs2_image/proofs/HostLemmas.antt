@@ -30,6 +30,7 @@ use Rattle.jbuild.specs.Emitting.{IsEmitted, IsNotEmitted, front_before}
 use Rattle.jbuild.specs.Operations.{op_in, ops_in}
 use Rattle.jbuild.specs.Parts.{part_contents, read_of}
 use Rattle.jbuild.specs.declared.parts.Parts.{Parts}
+use Rattle.jreport.specs.declared.cause.Cause.{Cause}
 use Rattle.jreport.specs.declared.faults.ProgramFault.{ProgramFault}
 use Rattle.jreport.specs.declared.faults.ProgramFault.TheVariants as program
 use Rattle.jffs2_image.specs.Host.{AreAllRead, AreLoaded, AreOf, AreRead, Blames, BlamesMaker, HasFailed, HaveBytes, IsCutShort, IsHandedBack, IsMadeUntil, IsMakeFault, IsReadFault, Leaves, RunsFiles}
@@ -45,16 +46,16 @@ make_fault page e size blocks m output from u v same before now (program.Scan f)
 make_fault page e size blocks m output from u v same before now (program.Mount f) on not made left = absurd not
 make_fault page e size blocks m output from u v same before now (program.File name) on not made left = made
 make_fault page e size blocks m output from u v same before now (program.Listing k) on not made left = absurd not
-make_fault page e size blocks m output from u v same before now (program.Session session.ReadOnly None) on (inl is) made left = cc
-make_fault page e size blocks m output from u v same before now (program.Session session.ReadOnly None) on (inr is) made left = absurd (is.1)
-make_fault page e size blocks m output from u v same before now (program.Session session.Geometry None) on (inl is) made left = cc
-make_fault page e size blocks m output from u v same before now (program.Session session.Geometry None) on (inr is) made left = absurd (is.1)
-make_fault page e size blocks m output from u v same before now (program.Session session.Sink None) on not made left = (made, left)
-make_fault page e size blocks m output from u v same before now (program.Session (session.Refused f) None) on not made left = left
-make_fault page e size blocks m output from u v same before now (program.Session (session.Full a b) None) on not made left = left
-make_fault page e size blocks m output from u v same before now (program.Session session.OutOfMemory None) on not made left = left
-make_fault page e size blocks m output from u v same before now (program.Session session.Broken None) on not made left = left
-make_fault page e size blocks m output from u v same before now (program.Session f (Some k)) on not made left = absurd not
+make_fault page e size blocks m output from u v same before now (program.Session session.ReadOnly None cause) on (inl is, why) made left = cc
+make_fault page e size blocks m output from u v same before now (program.Session session.ReadOnly None cause) on (inr is, why) made left = absurd (is.1)
+make_fault page e size blocks m output from u v same before now (program.Session session.Geometry None cause) on (inl is, why) made left = cc
+make_fault page e size blocks m output from u v same before now (program.Session session.Geometry None cause) on (inr is, why) made left = absurd (is.1)
+make_fault page e size blocks m output from u v same before now (program.Session session.Sink None cause) on not made left = (made, left)
+make_fault page e size blocks m output from u v same before now (program.Session (session.Refused f) None cause) on not made left = left
+make_fault page e size blocks m output from u v same before now (program.Session (session.Full a b) None cause) on not made left = left
+make_fault page e size blocks m output from u v same before now (program.Session session.OutOfMemory None cause) on not made left = left
+make_fault page e size blocks m output from u v same before now (program.Session session.Broken None cause) on not made left = left
+make_fault page e size blocks m output from u v same before now (program.Session f (Some k) cause) on not made left = absurd not
 make_fault page e size blocks m output from u v same before now (program.Path f) on not made left = absurd not
 make_fault page e size blocks m output from u v same before now program.NotRegular on not made left = absurd not
 make_fault page e size blocks m output from u v same before now (program.NoSpace folder) on not made left = absurd not
@@ -64,26 +65,26 @@ make_fault page e size blocks m output from u v same before now program.Output o
 make_fault page e size blocks m output from u v same before now program.OutOfMemory on not made left = inr left
 
 -- the image is not gone on from
-pub resume_fault : (page : Page) (e : Endian) (size blocks : ℕ) (m : Mount) (u v : Type 0) (before now : ℕ) (f : SessionFault) (line : Option ℕ)
-    → resumes_by page e size blocks m ≡ Err f → u → BlamesMaker {T = ℕ} u v before now (Err (program.Session f line))
-resume_fault page e size blocks m u v before now f line is still = by m.read_only (is_flash_of size blocks m.image && page_fits size page) is
+pub resume_fault : (page : Page) (e : Endian) (size blocks : ℕ) (m : Mount) (u v : Type 0) (before now : ℕ) (f : SessionFault) (line : Option ℕ) (cause : Cause)
+    → resumes_by page e size blocks m ≡ Err f → u → BlamesMaker {T = ℕ} u v before now (Err (program.Session f line cause))
+resume_fault page e size blocks m u v before now f line cause is still = by m.read_only (is_flash_of size blocks m.image && page_fits size page) is
   where
     by : (b c : Bool) → (if b then Err session.ReadOnly else (if c then Ok (resume_address e size blocks m.image) else Err session.Geometry)) ≡ Err f
-        → BlamesMaker {T = ℕ} u v before now (Err (program.Session f line))
-    by true c same = let is : session.ReadOnly ≡ f = cc in subst (λ (z : SessionFault). BlamesMaker {T = ℕ} u v before now (Err (program.Session z line))) is still
+        → BlamesMaker {T = ℕ} u v before now (Err (program.Session f line cause))
+    by true c same = let is : session.ReadOnly ≡ f = cc in subst (λ (z : SessionFault). BlamesMaker {T = ℕ} u v before now (Err (program.Session z line cause))) is still
     by false true same = cc
-    by false false same = let is : session.Geometry ≡ f = cc in subst (λ (z : SessionFault). BlamesMaker {T = ℕ} u v before now (Err (program.Session z line))) is still
+    by false false same = let is : session.Geometry ≡ f = cc in subst (λ (z : SessionFault). BlamesMaker {T = ℕ} u v before now (Err (program.Session z line cause))) is still
 
 -- a run on it stopped
-pub run_fault : (held : Held) (page : Page) (e : Endian) (size blocks : ℕ) (m : Mount) (ops : List Op) (accepted : ℕ) (places : List Place) (u v : Type 0) (before now : ℕ) (f : SessionFault) (line : Option ℕ)
-    → IsMade held page e size blocks m ops accepted places (Some f) → IsMadeUntil before now (Some f) → v → BlamesMaker {T = ℕ} u v before now (Err (program.Session f line))
-run_fault held page e size blocks m ops accepted places u v before now session.ReadOnly line made until left = absurd (made.put.emitted.runs.stop)
-run_fault held page e size blocks m ops accepted places u v before now session.Geometry line made until left = absurd (made.put.emitted.runs.stop)
-run_fault held page e size blocks m ops accepted places u v before now session.Sink line made until left = (until, left)
-run_fault held page e size blocks m ops accepted places u v before now (session.Refused f) line made until left = left
-run_fault held page e size blocks m ops accepted places u v before now (session.Full a b) line made until left = left
-run_fault held page e size blocks m ops accepted places u v before now session.OutOfMemory line made until left = left
-run_fault held page e size blocks m ops accepted places u v before now session.Broken line made until left = left
+pub run_fault : (held : Held) (page : Page) (e : Endian) (size blocks : ℕ) (m : Mount) (ops : List Op) (accepted : ℕ) (places : List Place) (u v : Type 0) (before now : ℕ) (f : SessionFault) (line : Option ℕ) (cause : Cause)
+    → IsMade held page e size blocks m ops accepted places (Some f) → IsMadeUntil before now (Some f) → v → BlamesMaker {T = ℕ} u v before now (Err (program.Session f line cause))
+run_fault held page e size blocks m ops accepted places u v before now session.ReadOnly line cause made until left = absurd (made.put.emitted.runs.stop)
+run_fault held page e size blocks m ops accepted places u v before now session.Geometry line cause made until left = absurd (made.put.emitted.runs.stop)
+run_fault held page e size blocks m ops accepted places u v before now session.Sink line cause made until left = (until, left)
+run_fault held page e size blocks m ops accepted places u v before now (session.Refused f) line cause made until left = left
+run_fault held page e size blocks m ops accepted places u v before now (session.Full a b) line cause made until left = left
+run_fault held page e size blocks m ops accepted places u v before now session.OutOfMemory line cause made until left = left
+run_fault held page e size blocks m ops accepted places u v before now session.Broken line cause made until left = left
 
 -- the answer is that fault
 pub maker_fault : (u v : Type 0) (before now : ℕ) (f : ProgramFault) (r : Result ℕ ProgramFault)
@@ -101,13 +102,13 @@ lines_blame u v rb rn mb mn (Err (program.Scan f)) read made = tt
 lines_blame u v rb rn mb mn (Err (program.Mount f)) read made = made
 lines_blame u v rb rn mb mn (Err (program.File name)) read made = inr made
 lines_blame u v rb rn mb mn (Err (program.Listing k)) read made = absurd made
-lines_blame u v rb rn mb mn (Err (program.Session session.ReadOnly line)) read made = made
-lines_blame u v rb rn mb mn (Err (program.Session session.Geometry line)) read made = made
-lines_blame u v rb rn mb mn (Err (program.Session session.Sink line)) read made = made
-lines_blame u v rb rn mb mn (Err (program.Session (session.Refused f) line)) read made = made
-lines_blame u v rb rn mb mn (Err (program.Session (session.Full a b) line)) read made = made
-lines_blame u v rb rn mb mn (Err (program.Session session.OutOfMemory line)) read made = made
-lines_blame u v rb rn mb mn (Err (program.Session session.Broken line)) read made = made
+lines_blame u v rb rn mb mn (Err (program.Session session.ReadOnly line cause)) read made = made
+lines_blame u v rb rn mb mn (Err (program.Session session.Geometry line cause)) read made = made
+lines_blame u v rb rn mb mn (Err (program.Session session.Sink line cause)) read made = made
+lines_blame u v rb rn mb mn (Err (program.Session (session.Refused f) line cause)) read made = made
+lines_blame u v rb rn mb mn (Err (program.Session (session.Full a b) line cause)) read made = made
+lines_blame u v rb rn mb mn (Err (program.Session session.OutOfMemory line cause)) read made = made
+lines_blame u v rb rn mb mn (Err (program.Session session.Broken line cause)) read made = made
 lines_blame u v rb rn mb mn (Err (program.Path f)) read made = tt
 lines_blame u v rb rn mb mn (Err program.NotRegular) read made = tt
 lines_blame u v rb rn mb mn (Err (program.NoSpace folder)) read made = tt
@@ -125,7 +126,7 @@ parts_blame T u v rb rn mb mn told lines (program.Scan f) still not read = absur
 parts_blame T u v rb rn mb mn told lines (program.Mount f) still not read = absurd not
 parts_blame T u v rb rn mb mn told lines (program.File name) still not read = inl (still, read)
 parts_blame T u v rb rn mb mn told lines (program.Listing k) still not read = absurd not
-parts_blame T u v rb rn mb mn told lines (program.Session f line) still not read = absurd not
+parts_blame T u v rb rn mb mn told lines (program.Session f line cause) still not read = absurd not
 parts_blame T u v rb rn mb mn told lines (program.Path f) still not read = absurd not
 parts_blame T u v rb rn mb mn told lines program.NotRegular still not read = absurd not
 parts_blame T u v rb rn mb mn told lines (program.NoSpace folder) still not read = absurd not
@@ -143,7 +144,7 @@ file_blame T u v rb rn mb mn name told (program.Scan f) still not read = absurd 
 file_blame T u v rb rn mb mn name told (program.Mount f) still not read = absurd not
 file_blame T u v rb rn mb mn name told (program.File other) still not read = inl (still, read)
 file_blame T u v rb rn mb mn name told (program.Listing k) still not read = absurd not
-file_blame T u v rb rn mb mn name told (program.Session f line) still not read = absurd not
+file_blame T u v rb rn mb mn name told (program.Session f line cause) still not read = absurd not
 file_blame T u v rb rn mb mn name told (program.Path f) still not read = absurd not
 file_blame T u v rb rn mb mn name told program.NotRegular still not read = absurd not
 file_blame T u v rb rn mb mn name told (program.NoSpace folder) still not read = absurd not
@@ -161,13 +162,13 @@ any_blame T u v rb rn mb mn (program.Scan f) w = w
 any_blame T u v rb rn mb mn (program.Mount f) w = w
 any_blame T u v rb rn mb mn (program.File name) w = w
 any_blame T u v rb rn mb mn (program.Listing k) w = w
-any_blame T u v rb rn mb mn (program.Session session.ReadOnly line) w = w
-any_blame T u v rb rn mb mn (program.Session session.Geometry line) w = w
-any_blame T u v rb rn mb mn (program.Session session.Sink line) w = w
-any_blame T u v rb rn mb mn (program.Session (session.Refused f) line) w = w
-any_blame T u v rb rn mb mn (program.Session (session.Full a b) line) w = w
-any_blame T u v rb rn mb mn (program.Session session.OutOfMemory line) w = w
-any_blame T u v rb rn mb mn (program.Session session.Broken line) w = w
+any_blame T u v rb rn mb mn (program.Session session.ReadOnly line cause) w = w
+any_blame T u v rb rn mb mn (program.Session session.Geometry line cause) w = w
+any_blame T u v rb rn mb mn (program.Session session.Sink line cause) w = w
+any_blame T u v rb rn mb mn (program.Session (session.Refused f) line cause) w = w
+any_blame T u v rb rn mb mn (program.Session (session.Full a b) line cause) w = w
+any_blame T u v rb rn mb mn (program.Session session.OutOfMemory line cause) w = w
+any_blame T u v rb rn mb mn (program.Session session.Broken line cause) w = w
 any_blame T u v rb rn mb mn (program.Path f) w = w
 any_blame T u v rb rn mb mn program.NotRegular w = w
 any_blame T u v rb rn mb mn (program.NoSpace folder) w = w
@@ -256,12 +257,12 @@ no_line e files lines n o at none = by (slice_get lines n) (sym (slice_get-map (
     by None at none = cc
 
 pub files_until : (told : List ℕ → Option (List ℕ)) (held : Held) (page : Page) (e : Endian) (size blocks : ℕ) (base text : List ℕ) (lines : List Line) (parts : Parts) (m : Mount) (accepted : ℕ) (places : List Place)
-    (old new : Option (List ℕ)) (f : SessionFault) (line : Option ℕ) → line ≡ option_map (λ l. l.number) (slice_get lines accepted) → AreRead told lines parts → lines_of text ≡ Ok lines
+    (old new : Option (List ℕ)) (f : SessionFault) (line : Option ℕ) (cause : Cause) → line ≡ option_map (λ l. l.number) (slice_get lines accepted) → AreRead told lines parts → lines_of text ≡ Ok lines
     → Answers e size base (Ok m) → IsMade held page e size blocks m (ops_in e (part_contents parts) lines) accepted places (Some f)
-    → RunsFiles {T = ℕ} told held page e size blocks base text old new (Err (program.Session f line))
-files_until told held page e size blocks base text lines parts m accepted places old new f None is are read mounts made =
+    → RunsFiles {T = ℕ} told held page e size blocks base text old new (Err (program.Session f line cause))
+files_until told held page e size blocks base text lines parts m accepted places old new f None cause is are read mounts made =
     absurd (no_line e (part_contents parts) lines accepted made.put.emitted.runs.op made.put.emitted.runs.next is)
-files_until told held page e size blocks base text lines parts m accepted places old new f (Some n) is are read mounts made =
+files_until told held page e size blocks base text lines parts m accepted places old new f (Some n) cause is are read mounts made =
     (lines, accepted, places, record { mount = m; files = part_contents parts; read = read; mounts = mounts; made = made }, have_bytes told lines parts are, sym is)
 
 all_of_text : (told : List ℕ → Option (List ℕ)) (lines : List Line) (parts : Parts) (text : List ℕ) → AreRead told lines parts → lines_of text ≡ Ok lines → AreAllRead told text
@@ -274,20 +275,20 @@ files_not_mounted told held page e size blocks base text lines parts old new f (
 files_not_mounted told held page e size blocks base text lines parts old new f (Err g) fault are read =
     subst (λ (z : ProgramFault). RunsFiles {T = ℕ} told held page e size blocks base text old new (Err z)) (sym fault) (all_of_text told lines parts text are read)
 
-pub files_not_resumed : (told : List ℕ → Option (List ℕ)) (held : Held) (page : Page) (e : Endian) (size blocks : ℕ) (base text : List ℕ) (lines : List Line) (parts : Parts) (m : Mount) (old new : Option (List ℕ)) (f : SessionFault) (r : Result ℕ ProgramFault)
-    → resumes_by page e size blocks m ≡ Err f → IsErrAnd r (λ is. is ≡ program.Session f None) → AreRead told lines parts → lines_of text ≡ Ok lines → RunsFiles {T = ℕ} told held page e size blocks base text old new r
-files_not_resumed told held page e size blocks base text lines parts m old new f (Ok x) is fault are read = absurd fault
-files_not_resumed told held page e size blocks base text lines parts m old new f (Err g) is fault are read =
+pub files_not_resumed : (told : List ℕ → Option (List ℕ)) (held : Held) (page : Page) (e : Endian) (size blocks : ℕ) (base text : List ℕ) (lines : List Line) (parts : Parts) (m : Mount) (old new : Option (List ℕ)) (f : SessionFault) (cause : Cause) (r : Result ℕ ProgramFault)
+    → resumes_by page e size blocks m ≡ Err f → IsErrAnd r (λ is. is ≡ program.Session f None cause) → AreRead told lines parts → lines_of text ≡ Ok lines → RunsFiles {T = ℕ} told held page e size blocks base text old new r
+files_not_resumed told held page e size blocks base text lines parts m old new f cause (Ok x) is fault are read = absurd fault
+files_not_resumed told held page e size blocks base text lines parts m old new f cause (Err g) is fault are read =
     subst (λ (z : ProgramFault). RunsFiles {T = ℕ} told held page e size blocks base text old new (Err z)) (sym fault)
     (by m.read_only (is_flash_of size blocks m.image && page_fits size page) is)
   where
     by : (b c : Bool) → (if b then Err session.ReadOnly else (if c then Ok (resume_address e size blocks m.image) else Err session.Geometry)) ≡ Err f
-        → RunsFiles {T = ℕ} told held page e size blocks base text old new (Err (program.Session f None))
+        → RunsFiles {T = ℕ} told held page e size blocks base text old new (Err (program.Session f None cause))
     by true c same = let is : session.ReadOnly ≡ f = cc in
-        subst (λ (z : SessionFault). RunsFiles {T = ℕ} told held page e size blocks base text old new (Err (program.Session z None))) is (all_of_text told lines parts text are read)
+        subst (λ (z : SessionFault). RunsFiles {T = ℕ} told held page e size blocks base text old new (Err (program.Session z None cause))) is (all_of_text told lines parts text are read)
     by false true same = cc
     by false false same = let is : session.Geometry ≡ f = cc in
-        subst (λ (z : SessionFault). RunsFiles {T = ℕ} told held page e size blocks base text old new (Err (program.Session z None))) is (all_of_text told lines parts text are read)
+        subst (λ (z : SessionFault). RunsFiles {T = ℕ} told held page e size blocks base text old new (Err (program.Session z None cause))) is (all_of_text told lines parts text are read)
 
 -- no fault of making is one of a line
 pub files_not_made : (told : List ℕ → Option (List ℕ)) (held : Held) (page : Page) (e : Endian) (size blocks : ℕ) (output base text : List ℕ) (lines : List Line) (parts : Parts) (m : Mount) (old new : Option (List ℕ)) (f : ProgramFault) (r : Result ℕ ProgramFault)
@@ -304,14 +305,14 @@ files_not_made told held page e size blocks output base text lines parts m old n
     by (program.Mount f) not cut = absurd not
     by (program.File name) not cut = cut
     by (program.Listing k) not cut = tt
-    by (program.Session session.Sink None) not cut = cut_short told held page e size blocks base text lines parts m same are read cut
-    by (program.Session session.OutOfMemory None) not cut = (all_of_text told lines parts text are read, subst (λ (image : List ℕ). HoldsFront held e size blocks image) same cut)
-    by (program.Session session.ReadOnly None) not cut = all_of_text told lines parts text are read
-    by (program.Session session.Geometry None) not cut = all_of_text told lines parts text are read
-    by (program.Session (session.Refused f) None) not cut = tt
-    by (program.Session (session.Full a b) None) not cut = tt
-    by (program.Session session.Broken None) not cut = tt
-    by (program.Session f (Some k)) not cut = absurd not
+    by (program.Session session.Sink None cause) not cut = cut_short told held page e size blocks base text lines parts m same are read cut
+    by (program.Session session.OutOfMemory None cause) not cut = (all_of_text told lines parts text are read, subst (λ (image : List ℕ). HoldsFront held e size blocks image) same cut)
+    by (program.Session session.ReadOnly None cause) not cut = all_of_text told lines parts text are read
+    by (program.Session session.Geometry None cause) not cut = all_of_text told lines parts text are read
+    by (program.Session (session.Refused f) None cause) not cut = tt
+    by (program.Session (session.Full a b) None cause) not cut = tt
+    by (program.Session session.Broken None cause) not cut = tt
+    by (program.Session f (Some k) cause) not cut = absurd not
     by (program.Path f) not cut = tt
     by program.NotRegular not cut = tt
     by (program.NoSpace folder) not cut = tt
@@ -395,23 +396,23 @@ part_of_front page e size blocks m ops old mid taken given before now (session.F
 part_of_front page e size blocks m ops old mid taken given before now session.Broken not kept part = absurd not
 
 -- it is what the file holds
-pub cut_part : (held : Held) (page : Page) (e : Endian) (size blocks : ℕ) (base : List ℕ) (ops : List Op) (old given : Option (List ℕ)) (f : SessionFault)
-    → GivesCut f page e size blocks base ops old given → IsHanded held old given → HoldsCut held page e size blocks base ops (program.Session f None)
-cut_part held page e size blocks base ops old given session.Sink part handed = (old, given, part, handed)
-cut_part held page e size blocks base ops old given session.OutOfMemory part handed = (old, given, part, handed)
-cut_part held page e size blocks base ops old given session.ReadOnly part handed = tt
-cut_part held page e size blocks base ops old given session.Geometry part handed = tt
-cut_part held page e size blocks base ops old given (session.Refused f) part handed = tt
-cut_part held page e size blocks base ops old given (session.Full a b) part handed = tt
-cut_part held page e size blocks base ops old given session.Broken part handed = tt
+pub cut_part : (held : Held) (page : Page) (e : Endian) (size blocks : ℕ) (base : List ℕ) (ops : List Op) (old given : Option (List ℕ)) (f : SessionFault) (cause : Cause)
+    → GivesCut f page e size blocks base ops old given → IsHanded held old given → HoldsCut held page e size blocks base ops (program.Session f None cause)
+cut_part held page e size blocks base ops old given session.Sink cause part handed = (old, given, part, handed)
+cut_part held page e size blocks base ops old given session.OutOfMemory cause part handed = (old, given, part, handed)
+cut_part held page e size blocks base ops old given session.ReadOnly cause part handed = tt
+cut_part held page e size blocks base ops old given session.Geometry cause part handed = tt
+cut_part held page e size blocks base ops old given (session.Refused f) cause part handed = tt
+cut_part held page e size blocks base ops old given (session.Full a b) cause part handed = tt
+cut_part held page e size blocks base ops old given session.Broken cause part handed = tt
 
 -- it is handed back
-pub cut_gone : (held : Held) (page : Page) (e : Endian) (size blocks : ℕ) (base : List ℕ) (ops : List Op) (before : ℕ) (f : SessionFault)
-    → IsHandedBack before f None → HoldsCut held page e size blocks base ops (program.Session f None)
-cut_gone held page e size blocks base ops before session.Sink back = absurd back
-cut_gone held page e size blocks base ops before session.OutOfMemory back = absurd back
-cut_gone held page e size blocks base ops before session.ReadOnly back = tt
-cut_gone held page e size blocks base ops before session.Geometry back = tt
-cut_gone held page e size blocks base ops before (session.Refused f) back = tt
-cut_gone held page e size blocks base ops before (session.Full a b) back = tt
-cut_gone held page e size blocks base ops before session.Broken back = tt
+pub cut_gone : (held : Held) (page : Page) (e : Endian) (size blocks : ℕ) (base : List ℕ) (ops : List Op) (before : ℕ) (f : SessionFault) (cause : Cause)
+    → IsHandedBack before f None → HoldsCut held page e size blocks base ops (program.Session f None cause)
+cut_gone held page e size blocks base ops before session.Sink cause back = absurd back
+cut_gone held page e size blocks base ops before session.OutOfMemory cause back = absurd back
+cut_gone held page e size blocks base ops before session.ReadOnly cause back = tt
+cut_gone held page e size blocks base ops before session.Geometry cause back = tt
+cut_gone held page e size blocks base ops before (session.Refused f) cause back = tt
+cut_gone held page e size blocks base ops before (session.Full a b) cause back = tt
+cut_gone held page e size blocks base ops before session.Broken cause back = tt

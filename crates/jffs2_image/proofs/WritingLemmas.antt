@@ -17,6 +17,7 @@ use Rattle.jlog.specs.declared.fault.SessionFault.TheVariants as session
 use Rattle.jlog.specs.declared.report.Place.{Place}
 use Rattle.jbuild.specs.Accepted.{accepted_line}
 use Rattle.jbuild.specs.Operations.{ops_in}
+use Rattle.jreport.specs.declared.cause.Cause.{Cause}
 use Rattle.jreport.specs.declared.faults.ProgramFault.{ProgramFault}
 use Rattle.jreport.specs.declared.faults.ProgramFault.TheVariants as program
 use Rattle.std.proofs.Common.{[], ◌∷◌, ◌++◌}
@@ -29,30 +30,32 @@ use Rattle.jcommand.specs.Parsed.{Parsed, ScanParsed, CheckParsed, ListParsed, C
 use Rattle.jcommand.specs.declared.parsed.Options.{Options}
 use Rattle.jffs2_image.specs.Host.{AreLoaded, RunsFiles}
 use Rattle.jffs2_image.specs.Runs.{Meets, RunsListed}
-use Rattle.jffs2_image.specs.Writes.{Held, IsHanded, IsMade, IsNotMade, IsNotedIn, IsRunOn, IsSessionFault, WritesImage}
+use Rattle.jffs2_image.specs.Writes.{Held, IsCause, IsHanded, IsMade, IsNotMade, IsNotedIn, IsRunOn, IsSessionFault, WritesImage}
 
 -- the image is not gone on from
-pub not_resumed : (held : Held) (page : Page) (e : Endian) (size blocks : ℕ) (output base text : List ℕ) (m : Mount) (f : SessionFault) (old : Option (List ℕ)) (n : ℕ)
-    → Answers e size base (Ok m) → resumes_by page e size blocks m ≡ Err f → WritesImage {T = ℕ} held page e size blocks output base text old old n n (Err (program.Session f None))
-not_resumed held page e size blocks output base text m f old n mounts refused = (inl (refl, (m, mounts, inl refused)), refl, refl)
+pub not_resumed : (held : Held) (page : Page) (e : Endian) (size blocks : ℕ) (output base text : List ℕ) (m : Mount) (f : SessionFault) (cause : Cause) (old : Option (List ℕ)) (n : ℕ)
+    → m.image ≡ base → Answers e size base (Ok m) → resumes_by page e size blocks m ≡ Err f → IsCause page size blocks m.image f cause → WritesImage {T = ℕ} held page e size blocks output base text old old n n (Err (program.Session f None cause))
+not_resumed held page e size blocks output base text m f cause old n same mounts refused why =
+    ((inl (refl, (m, mounts, inl refused)), subst (λ (image : List ℕ). IsCause page size blocks image f cause) same why), refl, refl)
 
 -- no file was made, or not to its end
 pub not_made : (held : Held) (page : Page) (e : Endian) (size blocks : ℕ) (output base text : List ℕ) (m : Mount) (f : ProgramFault) (old : Option (List ℕ)) (n : ℕ)
-    → Answers e size base (Ok m) → IsNotMade page e size blocks m output f → WritesImage {T = ℕ} held page e size blocks output base text old old n n (Err f)
-not_made held page e size blocks output base text m (program.Load f) old n mounts not = absurd not
-not_made held page e size blocks output base text m (program.Scan f) old n mounts not = absurd not
-not_made held page e size blocks output base text m (program.Mount f) old n mounts not = absurd not
-not_made held page e size blocks output base text m (program.File name) old n mounts not = (inl not, refl, refl)
-not_made held page e size blocks output base text m (program.Listing k) old n mounts not = absurd not
-not_made held page e size blocks output base text m (program.Session f None) old n mounts not = (inl (refl, (m, mounts, not)), refl, refl)
-not_made held page e size blocks output base text m (program.Session f (Some k)) old n mounts not = absurd not
-not_made held page e size blocks output base text m (program.Path f) old n mounts not = absurd not
-not_made held page e size blocks output base text m program.NotRegular old n mounts not = absurd not
-not_made held page e size blocks output base text m (program.NoSpace folder) old n mounts not = absurd not
-not_made held page e size blocks output base text m (program.Data addr) old n mounts not = absurd not
-not_made held page e size blocks output base text m (program.TooLong addr) old n mounts not = absurd not
-not_made held page e size blocks output base text m program.Output old n mounts not = absurd not
-not_made held page e size blocks output base text m program.OutOfMemory old n mounts not = (tt, refl, refl)
+    → m.image ≡ base → Answers e size base (Ok m) → IsNotMade page e size blocks m output f → WritesImage {T = ℕ} held page e size blocks output base text old old n n (Err f)
+not_made held page e size blocks output base text m (program.Load f) old n same mounts not = absurd not
+not_made held page e size blocks output base text m (program.Scan f) old n same mounts not = absurd not
+not_made held page e size blocks output base text m (program.Mount f) old n same mounts not = absurd not
+not_made held page e size blocks output base text m (program.File name) old n same mounts not = (inl not, refl, refl)
+not_made held page e size blocks output base text m (program.Listing k) old n same mounts not = absurd not
+not_made held page e size blocks output base text m (program.Session f None cause) old n same mounts not =
+    ((inl (refl, (m, mounts, not.0)), subst (λ (image : List ℕ). IsCause page size blocks image f cause) same not.1), refl, refl)
+not_made held page e size blocks output base text m (program.Session f (Some k) cause) old n same mounts not = absurd not
+not_made held page e size blocks output base text m (program.Path f) old n same mounts not = absurd not
+not_made held page e size blocks output base text m program.NotRegular old n same mounts not = absurd not
+not_made held page e size blocks output base text m (program.NoSpace folder) old n same mounts not = absurd not
+not_made held page e size blocks output base text m (program.Data addr) old n same mounts not = absurd not
+not_made held page e size blocks output base text m (program.TooLong addr) old n same mounts not = absurd not
+not_made held page e size blocks output base text m program.Output old n same mounts not = absurd not
+not_made held page e size blocks output base text m program.OutOfMemory old n same mounts not = (tt, refl, refl)
 
 -- what was made of the lines of a listing
 pub run_on : (held : Held) (page : Page) (e : Endian) (size blocks : ℕ) (base text : List ℕ) (lines : List Line) (files : List ℕ → List ℕ) (m : Mount) (accepted : ℕ) (places : List Place) (stopped : Option SessionFault)

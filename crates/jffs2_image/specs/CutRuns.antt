@@ -17,6 +17,7 @@ use Rattle.jcuts.specs.declared.cuts.CutsFault.TheVariants as cuts
 use Rattle.jcuts.specs.declared.cuts.Flash.{Flash}
 use Rattle.jcuts.specs.declared.lines.Telling.TheVariants.{Nodes}
 use Rattle.jreport.specs.Advice.{fault_lines_of}
+use Rattle.jreport.specs.declared.cause.Cause.TheVariants as causes
 use Rattle.jreport.specs.declared.faults.ProgramFault.{ProgramFault}
 use Rattle.jreport.specs.declared.faults.ProgramFault.TheVariants as program
 use Rattle.jcommand.specs.Parsed.{CutsParsed, IsFaultless, parsed_from}
@@ -39,7 +40,8 @@ asked_of e files lines =
 -- the program's answer where this is told
 abbrev pub answer_of_cuts : Result ℕ CutsFault → Result ℕ ProgramFault
 answer_of_cuts (Ok weak) = Ok weak
-answer_of_cuts (Err (cuts.Session fault line)) = Err (program.Session fault line)
+answer_of_cuts (Err (cuts.Session fault line)) =
+    Err (program.Session fault line causes.Unknown)
 answer_of_cuts (Err cuts.Output) = Err program.Output
 
 -- The listing's operations on a base that mounts are told, with the bytes of the host's files.
@@ -59,8 +61,8 @@ pub record TellsLines (told : List ℕ → Option (List ℕ)) (e : Endian) (flas
 abbrev pub IsLinesFault : (List ℕ → Option (List ℕ)) → Endian → ℕ → List ℕ → List ℕ → ProgramFault
     → Type 0
 IsLinesFault told e size base text (program.Listing bad) = IsBadLine text bad
-IsLinesFault told e size base text (program.File name) =
-    (lines : List Line) × (lines_of text ≡ Ok lines) × IsNamedByLine lines name.now
+IsLinesFault told e size base text (program.File file) =
+    (lines : List Line) × (lines_of text ≡ Ok lines) × IsNamedByLine lines file.name.now
 IsLinesFault told e size base text (program.Load fault) =
     (lines : List Line) × (lines_of text ≡ Ok lines) × IsPartUnread told lines (program.Load fault)
 IsLinesFault told e size base text (program.Mount fault) =

@@ -13,9 +13,13 @@ use Rattle.jexpand.specs.declared.fault.ConvertFault.{ConvertFault}
 use Rattle.jexpand.specs.declared.fault.ConvertFault.TheVariants as convert
 use Rattle.jreport.specs.ConvertedLine.{decompressed_line}
 use Rattle.jreport.specs.FoundIn.{found_in}
+use Rattle.jreport.specs.declared.cause.Cause.{Cause}
+use Rattle.jreport.specs.declared.cause.Cause.TheVariants as causes
+use Rattle.jreport.specs.declared.cause.Limit.TheVariants as limits
 use Rattle.jreport.specs.declared.faults.ProgramFault.{ProgramFault}
 use Rattle.jreport.specs.declared.faults.ProgramFault.TheVariants as program
-use Rattle.jffs2_image.specs.Writes.{GivesText, Held, HoldsNothing, IsHanded}
+use Rattle.jreport.specs.declared.reason.Reason.{Reason}
+use Rattle.jffs2_image.specs.Writes.{GivesText, Held, HoldsNothing, IsFaultOfMaking, IsHanded}
 use Rattle.jffs2_image.specs.declared.decompressing.Taken.{Taken}
 
 -- the program's fault that a fault of a conversion is
@@ -27,11 +31,14 @@ fault_of_conversion (convert.Incompatible addr nodetype) =
 fault_of_conversion (convert.Compressed addr compr) = program.Mount (mount.Compressed addr compr)
 fault_of_conversion (convert.Data addr) = program.Data addr
 fault_of_conversion (convert.TooLong addr) = program.TooLong addr
-fault_of_conversion convert.ReadOnly = program.Session session.ReadOnly None
-fault_of_conversion convert.Geometry = program.Session session.Geometry None
-fault_of_conversion (convert.Full needed free) = program.Session (session.Full needed free) None
-fault_of_conversion convert.Sink = program.Session session.Sink None
-fault_of_conversion convert.OutOfMemory = program.Session session.OutOfMemory None
+fault_of_conversion convert.ReadOnly = program.Session session.ReadOnly None causes.Unknown
+fault_of_conversion convert.Geometry =
+    program.Session session.Geometry None (causes.Limit limits.SmallBlock)
+fault_of_conversion (convert.Full needed free) =
+    program.Session (session.Full needed free) None causes.Unknown
+fault_of_conversion convert.Sink = program.Session session.Sink None causes.Unknown
+fault_of_conversion convert.OutOfMemory =
+    program.Session session.OutOfMemory None causes.Unknown
 
 -- why nothing is made of an image
 abbrev pub IsNotConverted : Endian → ℕ → List ℕ → ProgramFault → Type 0
@@ -84,11 +91,18 @@ HoldsMadeInPart held bytes = (old : Option (List ℕ)) × (given : Option (List 
 abbrev pub line_of_counts : Converted → List ℕ
 line_of_counts c = decompressed_line c.changed c.nodes c.bytes
 
+-- why the file failed that is made: the host's reason, which is not told; without memory there is
+-- none
+abbrev pub IsSinkCause : SessionFault → Cause → Type 0
+IsSinkCause session.Sink cause = (reason : Reason) × (cause ≡ causes.Host reason)
+IsSinkCause _ cause = cause ≡ causes.Unknown
+
 -- Where what is made of an image can't be written, or not to its end.
 abbrev pub IsNotWritten : Held → List ℕ → List ℕ → ProgramFault → Type 0
-IsNotWritten held output made (program.File name) = (name.now ≡ output) × (held.1 ≡ held.0)
-IsNotWritten held output made (program.Session session.Sink None) = HoldsMadeInPart held made
-IsNotWritten held output made (program.Session session.OutOfMemory None) = HoldsMadeInPart held made
+IsNotWritten held output made (program.File file) =
+    (file.name.now ≡ output) × (held.1 ≡ held.0)
+IsNotWritten held output made (program.Session fault None cause) =
+    IsFaultOfMaking fault × HoldsMadeInPart held made × IsSinkCause fault cause
 IsNotWritten held output made program.OutOfMemory = HoldsNothing held
 IsNotWritten held output made _ = ⊥
 

@@ -47,7 +47,7 @@ use Rattle.jffs2_image.specs.declared.folders.Extracted.{Extracted}
 
 -- what an extraction says by its fault, where the folder has this name
 abbrev pub IsExtractFault : List ℕ → ExtractFault → ProgramFault → Type 0
-IsExtractFault name extract.Folder (program.File file) = file.now ≡ name
+IsExtractFault name extract.Folder (program.File file) = file.name.now ≡ name
 IsExtractFault name extract.Notes program.Output = Unit {0}
 IsExtractFault name extract.NoSpace (program.NoSpace file) = file.now ≡ name
 IsExtractFault name extract.OutOfMemory program.OutOfMemory = Unit {0}
@@ -201,7 +201,7 @@ extracting_of e asked path = record {
 
 -- what a reading says by its fault, where the folder has this name
 abbrev pub IsReadingFault : List ℕ → ReadFault → ProgramFault → Type 0
-IsReadingFault name (read.Folder reason) (program.File file) = file.now ≡ name
+IsReadingFault name (read.Folder reason) (program.File file) = file.name.now ≡ name
 IsReadingFault name read.Notes program.Output = Unit {0}
 IsReadingFault name read.OutOfMemory program.OutOfMemory = Unit {0}
 IsReadingFault name _ _ = ⊥

@@ -38,7 +38,7 @@ use Rattle.jffs2_image.specs.declared.program.Stop.TheVariants as stop
 -- a file that was not opened, or failed while it was read, counts once
 abbrev pub CountsFile : {T : Type 0} → ℕ → ℕ → Result T FileFault → Type 0
 CountsFile before now (Ok _) = now ≡ before
-CountsFile before now (Err file.NotOpened) = now ≡ next_count before
+CountsFile before now (Err (file.NotOpened reason)) = now ≡ next_count before
 CountsFile before now (Err (file.Load load.Device)) = now ≡ next_count before
 CountsFile before now (Err (file.Load load.TooLarge)) = now ≡ before
 CountsFile before now (Err (file.Load load.OutOfMemory)) = now ≡ before
@@ -105,7 +105,7 @@ RunsFiles told held page e size blocks base text old new (Err program.Output) =
     × HaveBytes told lines run.files
     × PutsPart old new (accepted_line (resume_address e size blocks base) accepted places)
 RunsFiles told held page e size blocks base text old new
-    (Err (program.Session fault (Some number))) =
+    (Err (program.Session fault (Some number) cause)) =
     (lines : List Line) × (accepted : ℕ) × (places : List Place)
     × (run : IsRunOn held page e size blocks base text lines accepted places (Some fault))
     × HaveBytes told lines run.files
@@ -113,15 +113,16 @@ RunsFiles told held page e size blocks base text old new
 RunsFiles told held page e size blocks base text old new (Err (program.Load load.TooLarge)) =
     (lines : List Line) × (lines_of text ≡ Ok lines)
     × IsPartUnread told lines (program.Load load.TooLarge)
-RunsFiles told held page e size blocks base text old new (Err (program.Session session.Sink None)) =
+RunsFiles told held page e size blocks base text old new
+    (Err (program.Session session.Sink None cause)) =
     IsCutShort told held page e size blocks base text
 RunsFiles told held page e size blocks base text old new
-    (Err (program.Session session.OutOfMemory None)) =
+    (Err (program.Session session.OutOfMemory None cause)) =
     AreAllRead told text × HoldsFront held e size blocks base
 RunsFiles told held page e size blocks base text old new
-    (Err (program.Session session.ReadOnly None)) = AreAllRead told text
+    (Err (program.Session session.ReadOnly None cause)) = AreAllRead told text
 RunsFiles told held page e size blocks base text old new
-    (Err (program.Session session.Geometry None)) = AreAllRead told text
+    (Err (program.Session session.Geometry None cause)) = AreAllRead told text
 RunsFiles told held page e size blocks base text old new (Err (program.Mount fault)) =
     AreAllRead told text
 RunsFiles told held page e size blocks base text old new (Err program.OutOfMemory) =
@@ -130,6 +131,11 @@ RunsFiles told held page e size blocks base text old new (Err (program.File name
 RunsFiles told held page e size blocks base text old new (Err _) = Unit {0}
 
 -- ---- the file that is made
+
+-- a file that was not made counts once
+abbrev pub CountsNotMade : {T : Type 0} → ℕ → ℕ → Result T MakeFault → Type 0
+CountsNotMade before now (Err (make.NotMade reason)) = now ≡ next_count before
+CountsNotMade before now _ = Unit {0}
 
 -- a file of this name was made after those that were made before, where their names are told
 abbrev pub MakesFile : List ℕ → Option (List (List ℕ)) → Option (List (List ℕ)) → Type 0
@@ -140,14 +146,14 @@ abbrev pub MakesBy : {T : Type 0} → List ℕ → Option (List (List ℕ)) → 
     → Result T MakeFault → Type 0
 MakesBy name old new (Ok made) = MakesFile name old new
 MakesBy name old new (Err make.OutOfMemory) = MakesFile name old new
-MakesBy name old new (Err make.NotMade) = new ≡ old
+MakesBy name old new (Err (make.NotMade reason)) = new ≡ old
 
 -- what files hold then: where there is no memory to write the one that was made, nothing was given
 -- to it
 abbrev pub HoldsBy : {T : Type 0} → Option (List (List ℕ)) → Option (List (List ℕ))
     → Result T MakeFault → Type 0
 HoldsBy old new (Ok made) = new ≡ old
-HoldsBy old new (Err make.NotMade) = new ≡ old
+HoldsBy old new (Err (make.NotMade reason)) = new ≡ old
 HoldsBy old new (Err make.OutOfMemory) = HoldsNothing (old, new)
 
 -- what a fault of making leaves: a file that was made, or none where it can't be opened
@@ -178,7 +184,7 @@ IsMadeUntil before now None = now ≡ before
 -- why no file was made, or not to its end
 abbrev pub IsMakeFault : ℕ → ℕ → ProgramFault → Type 0
 IsMakeFault before now (program.File name) = now ≡ next_count before
-IsMakeFault before now (program.Session session.Sink line) = HasFailed before now
+IsMakeFault before now (program.Session session.Sink line cause) = HasFailed before now
 IsMakeFault before now _ = Unit {0}
 
 -- By the answer: a fault of the file that is made comes only where it failed; what is judged before
@@ -187,11 +193,13 @@ IsMakeFault before now _ = Unit {0}
 abbrev pub BlamesMaker : {T : Type 0} → Type 0 → Type 0 → ℕ → ℕ → Result T ProgramFault → Type 0
 BlamesMaker untouched makes before now (Ok _) = (now ≡ before) × makes
 BlamesMaker untouched makes before now (Err (program.Mount fault)) = untouched
-BlamesMaker untouched makes before now (Err (program.Session session.ReadOnly line)) = untouched
-BlamesMaker untouched makes before now (Err (program.Session session.Geometry line)) = untouched
-BlamesMaker untouched makes before now (Err (program.Session session.Sink line)) =
+BlamesMaker untouched makes before now (Err (program.Session session.ReadOnly line cause)) =
+    untouched
+BlamesMaker untouched makes before now (Err (program.Session session.Geometry line cause)) =
+    untouched
+BlamesMaker untouched makes before now (Err (program.Session session.Sink line cause)) =
     HasFailed before now × makes
-BlamesMaker untouched makes before now (Err (program.Session fault line)) = makes
+BlamesMaker untouched makes before now (Err (program.Session fault line cause)) = makes
 BlamesMaker untouched makes before now (Err (program.File name)) = now ≡ next_count before
 BlamesMaker untouched makes before now (Err (program.Load fault)) = ⊥
 BlamesMaker untouched makes before now (Err (program.Data addr)) = ⊥
@@ -212,13 +220,13 @@ Blames untouched makes read_before read_now made_before made_now (Err (program.L
 Blames untouched makes read_before read_now made_before made_now (Err (program.Mount fault)) =
     untouched
 Blames untouched makes read_before read_now made_before made_now
-    (Err (program.Session session.ReadOnly line)) = untouched
+    (Err (program.Session session.ReadOnly line cause)) = untouched
 Blames untouched makes read_before read_now made_before made_now
-    (Err (program.Session session.Geometry line)) = untouched
+    (Err (program.Session session.Geometry line cause)) = untouched
 Blames untouched makes read_before read_now made_before made_now
-    (Err (program.Session session.Sink line)) = HasFailed made_before made_now × makes
+    (Err (program.Session session.Sink line cause)) = HasFailed made_before made_now × makes
 Blames untouched makes read_before read_now made_before made_now
-    (Err (program.Session fault line)) = makes
+    (Err (program.Session fault line cause)) = makes
 Blames untouched makes read_before read_now made_before made_now (Err (program.File name)) =
     (untouched × (read_now ≡ next_count read_before)) ⊎ (made_now ≡ next_count made_before)
 Blames untouched makes read_before read_now made_before made_now (Err (program.Load load.Device)) =
@@ -261,9 +269,9 @@ BlamesDecompress untouched makes read_before read_now made_before made_now
 BlamesDecompress untouched makes read_before read_now made_before made_now
     (Err (program.Load load.Device)) = untouched × (read_now ≡ next_count read_before)
 BlamesDecompress untouched makes read_before read_now made_before made_now
-    (Err (program.Session session.Sink line)) = HasFailed made_before made_now × makes
+    (Err (program.Session session.Sink line cause)) = HasFailed made_before made_now × makes
 BlamesDecompress untouched makes read_before read_now made_before made_now
-    (Err (program.Session session.OutOfMemory line)) = untouched ⊎ makes
+    (Err (program.Session session.OutOfMemory line cause)) = untouched ⊎ makes
 BlamesDecompress untouched makes read_before read_now made_before made_now (Err program.Output) =
     makes
 BlamesDecompress untouched makes read_before read_now made_before made_now

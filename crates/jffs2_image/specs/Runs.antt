@@ -109,8 +109,8 @@ PutsAnswer told held e (DecompressParsed options name output) =
 
 -- its file can't be opened
 abbrev pub IsUnopened : List ℕ → ProgramFault → Type 0
-IsUnopened file (program.File name) = name.now ≡ file
-IsUnopened file _ = ⊥
+IsUnopened name (program.File file) = file.name.now ≡ name
+IsUnopened name _ = ⊥
 
 -- the same, and one that is decompressed can't be read to its end either, since it is held in
 -- memory first

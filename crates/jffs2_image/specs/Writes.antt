@@ -20,9 +20,13 @@ use Rattle.jlog.specs.declared.report.Place.{Place}
 use Rattle.jbuild.specs.Accepted.{accepted_line}
 use Rattle.jbuild.specs.Emitting.{IsEmitted, front_before}
 use Rattle.jbuild.specs.Operations.{ops_in}
+use Rattle.jreport.specs.Causes.{cause_of}
 use Rattle.jreport.specs.Notes.{noted}
+use Rattle.jreport.specs.declared.cause.Cause.{Cause}
+use Rattle.jreport.specs.declared.cause.Plan.{Plan}
 use Rattle.jreport.specs.declared.faults.ProgramFault.{ProgramFault}
 use Rattle.jreport.specs.declared.faults.ProgramFault.TheVariants as program
+use Rattle.jreport.specs.declared.reason.Reason.{Reason}
 
 -- a file is longer than the greatest image, where the host tells its bytes
 abbrev pub IsTooLong : Option (List ℕ) → Type 0
@@ -31,11 +35,11 @@ IsTooLong told = IfSome told (λ bytes. greatest_image < length bytes)
 -- A file of this name, of which the host tells these bytes, can't be opened, or not be read to its
 -- end.
 abbrev pub IsUnreadFile : List ℕ → Option (List ℕ) → ProgramFault → Type 0
-IsUnreadFile file told (program.File name) = name.now ≡ file
-IsUnreadFile file told (program.Load load.Device) = Unit {0}
-IsUnreadFile file told (program.Load load.TooLarge) = IsTooLong told
-IsUnreadFile file told (program.Load load.OutOfMemory) = Unit {0}
-IsUnreadFile file told _ = ⊥
+IsUnreadFile name told (program.File file) = file.name.now ≡ name
+IsUnreadFile name told (program.Load load.Device) = Unit {0}
+IsUnreadFile name told (program.Load load.TooLarge) = IsTooLong told
+IsUnreadFile name told (program.Load load.OutOfMemory) = Unit {0}
+IsUnreadFile name told _ = ⊥
 
 -- a line names this file of the host
 abbrev pub IsNamedByLine : List Line → List ℕ → Type 0
@@ -43,7 +47,7 @@ IsNamedByLine lines name = Any (λ line. file_of line.action ≡ Some name) line
 
 -- a file that a line names can't be read, or there is no memory for it
 abbrev pub IsPartUnread : (List ℕ → Option (List ℕ)) → List Line → ProgramFault → Type 0
-IsPartUnread told lines (program.File name) = IsNamedByLine lines name.now
+IsPartUnread told lines (program.File file) = IsNamedByLine lines file.name.now
 IsPartUnread told lines (program.Load load.Device) = Unit {0}
 IsPartUnread told lines (program.Load load.TooLarge) =
     (name : List ℕ) × IsNamedByLine lines name × IsTooLong (told name)
@@ -152,9 +156,9 @@ HoldsNothing held = IsHanded held (Some []) (Some [])
 -- What is held by the file that was made where no run is told, by the fault: a beginning of what
 -- goes out for the base and the operations, or nothing; or there is no file.
 abbrev pub HoldsCut : Held → Page → Endian → ℕ → ℕ → List ℕ → List Op → ProgramFault → Type 0
-HoldsCut held page e size blocks base ops (program.Session session.Sink line) =
+HoldsCut held page e size blocks base ops (program.Session session.Sink line cause) =
     HoldsPart held page e size blocks base ops
-HoldsCut held page e size blocks base ops (program.Session session.OutOfMemory line) =
+HoldsCut held page e size blocks base ops (program.Session session.OutOfMemory line cause) =
     HoldsFront held e size blocks base
 HoldsCut held page e size blocks base ops program.OutOfMemory = HoldsNothing held
 HoldsCut held page e size blocks base ops (program.File name) = held.1 ≡ held.0
@@ -184,11 +188,26 @@ abbrev pub IsNotGoneOn : Page → Endian → ℕ → ℕ → Mount → SessionFa
 IsNotGoneOn page e size blocks m fault = (resumes_by page e size blocks m ≡ Err fault)
     ⊎ (IsOk (resumes_by page e size blocks m) × IsFaultOfMaking fault)
 
+-- a flash, and an image on it
+abbrev pub flash_plan : Page → ℕ → ℕ → List ℕ → Plan
+flash_plan page size blocks base = record {
+  geometry = record { block = size };
+  blocks = blocks;
+  page = page;
+  length = length base;
+}
+
+-- Why a session was refused, or stopped by this fault: the host's reason, which is not told, or the
+-- first limit that the flash does not keep.
+abbrev pub IsCause : Page → ℕ → ℕ → List ℕ → SessionFault → Cause → Type 0
+IsCause page size blocks base fault cause =
+    (reason : Reason) × (cause ≡ cause_of (flash_plan page size blocks base) fault reason)
+
 -- why no file was made, or not to its end
 abbrev pub IsNotMade : Page → Endian → ℕ → ℕ → Mount → List ℕ → ProgramFault → Type 0
-IsNotMade page e size blocks m output (program.File name) = name.now ≡ output
-IsNotMade page e size blocks m output (program.Session fault None) =
-    IsNotGoneOn page e size blocks m fault
+IsNotMade page e size blocks m output (program.File file) = file.name.now ≡ output
+IsNotMade page e size blocks m output (program.Session fault None cause) =
+    IsNotGoneOn page e size blocks m fault × IsCause page size blocks m.image fault cause
 IsNotMade page e size blocks m output program.OutOfMemory = Unit {0}
 IsNotMade page e size blocks m output _ = ⊥
 
@@ -206,14 +225,16 @@ IsSessionFault held page e size blocks base text fault line =
 abbrev pub IsWriteFault : Held → Page → Endian → ℕ → ℕ → List ℕ → List ℕ → List ℕ → ProgramFault
     → Type 0
 IsWriteFault held page e size blocks output base text (program.Listing bad) = IsBadLine text bad
-IsWriteFault held page e size blocks output base text (program.File name) = (name.now ≡ output)
-    ⊎ ((lines : List Line) × (lines_of text ≡ Ok lines) × IsNamedByLine lines name.now)
+IsWriteFault held page e size blocks output base text (program.File file) =
+    (file.name.now ≡ output)
+    ⊎ ((lines : List Line) × (lines_of text ≡ Ok lines) × IsNamedByLine lines file.name.now)
 IsWriteFault held page e size blocks output base text (program.Load fault) =
     (lines : List Line) × (lines_of text ≡ Ok lines)
 IsWriteFault held page e size blocks output base text (program.Mount fault) =
     Answers e size base (Err fault)
-IsWriteFault held page e size blocks output base text (program.Session fault line) =
+IsWriteFault held page e size blocks output base text (program.Session fault line cause) =
     IsSessionFault held page e size blocks base text fault line
+    × IsCause page size blocks base fault cause
 IsWriteFault held page e size blocks output base text program.OutOfMemory = Unit {0}
 IsWriteFault held page e size blocks output base text _ = ⊥
 

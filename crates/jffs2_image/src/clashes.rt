@@ -15,7 +15,7 @@ ghost use Rattle.jffs2_image.specs.Host.{BlamesDecompress, HasFailed, MakesFile}
 ghost use Rattle.jffs2_image.specs.Runs.{IsSaid};
 ghost use Rattle.jffs2_image.specs.Writes.{GivesText, IsFaultOfMaking};
 
-use crate::decompressing::conversion_fault;
+use crate::decompressing::{conversion_fault, sink_cause};
 use crate::host::{Loader, MakeFault, Maker};
 use crate::output::Output;
 use crate::program::{note, report_fault};
@@ -27,7 +27,7 @@ use jconvert::{ConvertFault, LeftOut, Parted, judge, part, write_nodes};
 use jline::{LineBuffer, put_text};
 use jlog::SessionFault;
 use jnode::{Endian, NodeRef, Order};
-use jreport::{ProgramFault, found_in, put_decompressed};
+use jreport::{ProgramFault, Unopened, found_in, put_decompressed};
 use jscan::Geometry;
 use std::alloc::Global;
 
@@ -92,14 +92,20 @@ fn make_apart<'a, E: Order, M: Maker>(
 {
     let mut output = match maker.make(name) {
         Ok(output) => output,
-        Err(MakeFault::NotMade) => return Err(ProgramFault::File(name)),
+        Err(MakeFault::NotMade(reason)) => {
+            return Err(ProgramFault::File(Unopened { name, reason }));
+        }
         Err(MakeFault::OutOfMemory) => return Err(ProgramFault::OutOfMemory),
     };
     let answer = put_apart::<E, M::Made>(alloc, nodes, geometry, &mut output);
     maker.take_back(output);
     match answer {
         Ok(end) => Ok(end),
-        Err(fault) => Err(ProgramFault::from(fault)),
+        Err(fault) => Err(ProgramFault::Session {
+            fault,
+            line: None,
+            cause: sink_cause(fault, maker.reason()),
+        }),
     }
 }
 

@@ -8,7 +8,7 @@ ghost use Rattle.jffs2_image.specs.Decompressing.{HoldsMade, IsNotWritten};
 ghost use Rattle.jffs2_image.specs.Host.{BlamesDecompress, HasFailed, MakesFile};
 ghost use Rattle.jffs2_image.specs.Writes.{IsFaultOfMaking};
 
-use crate::decompressing::conversion_fault;
+use crate::decompressing::{conversion_fault, sink_cause};
 use crate::host::{Loader, MakeFault, Maker};
 use crate::output::Output;
 use crate::program::{note, report_fault};
@@ -19,7 +19,7 @@ use jcommand::{Compression, Options, Outcome};
 use jconvert::{ConvertFault, judge_plain, write_packed};
 use jlog::SessionFault;
 use jnode::{Endian, Order};
-use jreport::{ProgramFault, found_in, put_compressed};
+use jreport::{ProgramFault, Unopened, found_in, put_compressed};
 use jscan::Geometry;
 use std::alloc::Global;
 
@@ -72,14 +72,20 @@ fn make_packed<'a, E: Order, M: Maker>(
 {
     let mut output = match maker.make(name) {
         Ok(output) => output,
-        Err(MakeFault::NotMade) => return Err(ProgramFault::File(name)),
+        Err(MakeFault::NotMade(reason)) => {
+            return Err(ProgramFault::File(Unopened { name, reason }));
+        }
         Err(MakeFault::OutOfMemory) => return Err(ProgramFault::OutOfMemory),
     };
     let answer = put_packed::<E, M::Made>(alloc, image, geometry, &mut output);
     maker.take_back(output);
     match answer {
         Ok(done) => Ok(done),
-        Err(fault) => Err(ProgramFault::from(fault)),
+        Err(fault) => Err(ProgramFault::Session {
+            fault,
+            line: None,
+            cause: sink_cause(fault, maker.reason()),
+        }),
     }
 }
 

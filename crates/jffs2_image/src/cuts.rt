@@ -21,7 +21,7 @@ use jcuts::{CutsFault, Flash, Telling, put_cuts};
 use jlisting::{Line, listing};
 use jmount::{Mounted, mount};
 use jnode::{Endian, Order};
-use jreport::ProgramFault;
+use jreport::{Cause, ProgramFault};
 use jsteps::Op;
 use std::alloc::Global;
 
@@ -51,7 +51,11 @@ fn tell_ops<E: Order, T: Sink>(
 {
     match put_cuts::<E, T>(alloc, mounted, flash, Telling::Nodes, ops, lines, sink) {
         Ok(weak) => Ok(weak as u64),
-        Err(CutsFault::Session { fault, line }) => Err(ProgramFault::Session { fault, line }),
+        Err(CutsFault::Session { fault, line }) => Err(ProgramFault::Session {
+            fault,
+            line,
+            cause: Cause::Unknown,
+        }),
         Err(CutsFault::Output) => Err(ProgramFault::Output),
     }
 }

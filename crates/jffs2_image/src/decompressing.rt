@@ -3,7 +3,7 @@ ghost use Rattle.std.specs.Prelude.{◌≡◌, ◌⊎◌, ℕ, List, None, IfOk,
 ghost use Rattle.std.specs.Io.KnownBytes.{Appends};
 ghost use Rattle.jconvert.specs.Converting.{convert_fault, converted_image};
 ghost use Rattle.jconvert.specs.Holding.{IsHeldOf};
-ghost use Rattle.jffs2_image.specs.Decompressing.{DecompressesFile, HoldsMade, IsNotConverted, IsNotWritten, IsTaken, fault_of_conversion};
+ghost use Rattle.jffs2_image.specs.Decompressing.{DecompressesFile, HoldsMade, IsNotConverted, IsNotWritten, IsSinkCause, IsTaken, fault_of_conversion};
 ghost use Rattle.jffs2_image.specs.Host.{AreLoaded, BlamesDecompress, HasFailed, MakesFile, ReadsFile};
 ghost use Rattle.jffs2_image.specs.Writes.{GivesText, IsFaultOfMaking, IsUnreadFile};
 
@@ -15,7 +15,7 @@ use jconvert::{ConvertFault, HELD_MOST, decompressed, judge, write_converted};
 use jlog::SessionFault;
 use jmount::MountFault;
 use jnode::Order;
-use jreport::{Found, ProgramFault, found_in, put_decompressed};
+use jreport::{Cause, Found, Limit, ProgramFault, Reason, Unopened, found_in, put_decompressed};
 use jscan::Geometry;
 use std::alloc::Global;
 
@@ -43,12 +43,26 @@ pub(crate) fn conversion_fault(fault: ConvertFault) -> ProgramFault<'static>
         ConvertFault::Data { addr } => ProgramFault::Data { addr },
         ConvertFault::TooLong { addr } => ProgramFault::TooLong { addr },
         ConvertFault::ReadOnly => ProgramFault::from(SessionFault::ReadOnly),
-        ConvertFault::Geometry => ProgramFault::from(SessionFault::Geometry),
+        ConvertFault::Geometry => ProgramFault::Session {
+            fault: SessionFault::Geometry,
+            line: None,
+            cause: Cause::Limit(Limit::SmallBlock),
+        },
         ConvertFault::Full { needed, free } => {
             ProgramFault::from(SessionFault::Full { needed, free })
         }
         ConvertFault::Sink => ProgramFault::from(SessionFault::Sink),
         ConvertFault::OutOfMemory => ProgramFault::from(SessionFault::OutOfMemory),
+    }
+}
+
+/// Why a file failed that was made.
+pub(crate) fn sink_cause(fault: SessionFault, reason: Reason) -> Cause
+    ensures { IsSinkCause fault result }
+{
+    match fault {
+        SessionFault::Sink => Cause::Host(reason),
+        _ => Cause::Unknown,
     }
 }
 
@@ -148,14 +162,20 @@ fn make_converted<'a, E: Order, M: Maker>(
 {
     let mut output = match maker.make(name) {
         Ok(output) => output,
-        Err(MakeFault::NotMade) => return Err(ProgramFault::File(name)),
+        Err(MakeFault::NotMade(reason)) => {
+            return Err(ProgramFault::File(Unopened { name, reason }));
+        }
         Err(MakeFault::OutOfMemory) => return Err(ProgramFault::OutOfMemory),
     };
     let answer = put_converted::<E, M::Made>(alloc, image, geometry, held, &mut output);
     maker.take_back(output);
     match answer {
         Ok(()) => Ok(()),
-        Err(fault) => Err(ProgramFault::from(fault)),
+        Err(fault) => Err(ProgramFault::Session {
+            fault,
+            line: None,
+            cause: sink_cause(fault, maker.reason()),
+        }),
     }
 }
 

@@ -22,7 +22,7 @@ use jextract::{ExtractFault, Folder, PartFault, Totals, extract, extract_part, p
 use jfolder::{HostFolder, ReadFault, put_listing, read_folder};
 use jmount::{Mounted, mount};
 use jnode::{Endian, Order};
-use jreport::{ProgramFault, attribute_count, noted, path_word, put_notes};
+use jreport::{ProgramFault, Reason, Unopened, attribute_count, noted, path_word, put_notes};
 use std::alloc::{AllocError, Global};
 
 /// What an extraction came to: what it counted, and how many findings and nodes of extended
@@ -68,12 +68,22 @@ pub trait Folders {
         ensures { made self.new ≡ made self.old };
 }
 
+/// A folder that can't be opened or made; why is not told.
+fn unopened(name: &str) -> Unopened<'_>
+    ensures { result.name.now ≡ name.now }
+{
+    Unopened {
+        name,
+        reason: Reason::Other,
+    }
+}
+
 /// What an extraction into the folder of a name gives up for.
 fn extract_fault(fault: ExtractFault, name: &str) -> ProgramFault<'_>
     ensures { IsExtractFault name.now fault result }
 {
     match fault {
-        ExtractFault::Folder => ProgramFault::File(name),
+        ExtractFault::Folder => ProgramFault::File(unopened(name)),
         ExtractFault::Notes => ProgramFault::Output,
         ExtractFault::NoSpace => ProgramFault::NoSpace(name),
         ExtractFault::OutOfMemory => ProgramFault::OutOfMemory,
@@ -377,7 +387,7 @@ pub(crate) fn read_fault(fault: ReadFault, name: &str) -> ProgramFault<'_>
     ensures { IsReadingFault name.now fault result }
 {
     match fault {
-        ReadFault::Folder(_) => ProgramFault::File(name),
+        ReadFault::Folder(_) => ProgramFault::File(unopened(name)),
         ReadFault::Notes => ProgramFault::Output,
         ReadFault::OutOfMemory => ProgramFault::OutOfMemory,
     }

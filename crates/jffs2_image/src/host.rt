@@ -2,11 +2,12 @@
 ghost use Rattle.std.specs.Prelude.{◌≡◌, ◌<◌, ◌≤◌, ◌++◌, ℕ, List, [], ◌∷◌, Option, IfOk, IfErr, IfSome, OnOk, None, Some, Err, length, vec_len};
 ghost use Rattle.flashbase.specs.Device.{CountsErr, CountsLoad, next_count};
 ghost use Rattle.jffs2_image.specs.Filling.{HoldsFilled, HoldsFilledInPart};
-ghost use Rattle.jffs2_image.specs.Host.{AreOf, CountsFile, GivesFile, HoldsBy, MakesBy};
+ghost use Rattle.jffs2_image.specs.Host.{AreOf, CountsFile, CountsNotMade, GivesFile, HoldsBy, MakesBy};
 
 use crate::filling::{Filling, fill_output};
 use crate::output::{BufferedOutput, Output};
 use flashbase::{DeviceFault, FromReader, LoadFault, Source};
+use jreport::Reason;
 use std::alloc::{AllocError, Global};
 use std::fs;
 use std::io::Write;
@@ -16,7 +17,7 @@ use std::rt::Files;
 #[derive(Clone, Copy, Debug, PartialEq, Eq)]
 pub enum FileFault {
     /// It can't be opened.
-    NotOpened,
+    NotOpened(Reason),
     /// It was not read to its end.
     Load(LoadFault),
 }
@@ -41,7 +42,7 @@ pub trait Loader {
         ensures stays { (other : List ℕ) → told self.new other ≡ told self.old other };
 
     /// The file of a name, to be read from its start. It goes on with the count of failures.
-    fn open(&mut self, name: &str) -> Result<Self::Opened, DeviceFault>
+    fn open(&mut self, name: &str) -> Result<Self::Opened, Reason>
         ensures opened { IfOk result
             (λ opened. GivesFile (told self.old name.now) (Self.Opened.rest opened)) }
         ensures counting { IfOk result (λ opened. Self.Opened.failures opened ≡ failures self.old) }
@@ -58,7 +59,7 @@ pub trait Loader {
 #[derive(Clone, Copy, Debug, PartialEq, Eq)]
 pub enum MakeFault {
     /// It can't be opened for writing.
-    NotMade,
+    NotMade(Reason),
     OutOfMemory,
 }
 
@@ -80,8 +81,7 @@ pub trait Maker {
     /// count of failures.
     fn make(&mut self, name: &str) -> Result<Self::Made, MakeFault>
         ensures made { IfOk result (λ made. Self.Made.failures made ≡ failures self.old) }
-        ensures not_made { result ≡ Err MakeFault.NotMade
-            → failures self.new ≡ next_count (failures self.old) }
+        ensures not_made { CountsNotMade (failures self.old) (failures self.new) result }
         ensures names { MakesBy name.now (names self.old) (names self.new) result }
         ensures empty { IfOk result
             (λ made. IfSome (held self.old) (λ _. Self.Made.taken made ≡ Some [])) }
@@ -96,12 +96,15 @@ pub trait Maker {
             (λ bytes. held self.new ≡ Some (files ++ bytes ∷ []))) };
 
     /// Fills up the file that was taken back last with erased flash.
-    fn fill_up(&mut self, filling: Filling) -> Result<(), DeviceFault>
+    fn fill_up(&mut self, filling: Filling) -> Result<(), Reason>
         ensures names { names self.new ≡ names self.old }
         ensures filled { OnOk result (HoldsFilled (held self.old, held self.new) filling) }
         ensures part { IfErr result
             (λ _. HoldsFilledInPart (held self.old, held self.new) filling) }
         ensures count { CountsErr (failures self.old) (failures self.new) result };
+
+    /// Why the file that was taken back last failed, as far as the host tells.
+    fn reason(&self) -> Reason;
 }
 
 /// How many bytes a file is asked for at once.
@@ -188,8 +191,9 @@ impl<'r, R: Files + AllocGlobal> Loader for FileLoader<'r, R> {
     ghost failures = { λ s. s.failures };
 
     fn load(&mut self, name: &str, limit: usize) -> Result<Vec<u8>, FileFault> {
-        let Ok(mut file) = self.open(name) else {
-            return Err(FileFault::NotOpened);
+        let mut file = match self.open(name) {
+            Ok(file) => file,
+            Err(reason) => return Err(FileFault::NotOpened(reason)),
         };
         let loaded = load_by_piece(self.rt.alloc(), &mut file, &mut self.piece, limit);
         self.close(file);
@@ -199,12 +203,14 @@ impl<'r, R: Files + AllocGlobal> Loader for FileLoader<'r, R> {
         }
     }
 
-    fn open(&mut self, name: &str) -> Result<FromReader<R::File>, DeviceFault> {
-        let Ok(file) = fs::open(self.rt, name) else {
-            self.failures = self.failures.wrapping_add(1);
-            return Err(DeviceFault);
-        };
-        Ok(FromReader::counting_from(file, self.failures))
+    fn open(&mut self, name: &str) -> Result<FromReader<R::File>, Reason> {
+        match fs::open(self.rt, name) {
+            Ok(file) => Ok(FromReader::counting_from(file, self.failures)),
+            Err(error) => {
+                self.failures = self.failures.wrapping_add(1);
+                Err(Reason::of(&error))
+            }
+        }
     }
 
     fn close(&mut self, opened: FromReader<R::File>) {
@@ -212,17 +218,28 @@ impl<'r, R: Files + AllocGlobal> Loader for FileLoader<'r, R> {
     }
 }
 
+/// Why a file that is there failed.
+pub(crate) fn reason_of_last<W: Write + Drop>(last: &Option<BufferedOutput<W>>) -> Reason {
+    match last {
+        Some(output) => output.reason(),
+        None => Reason::Other,
+    }
+}
+
 /// Fills up a file that is there.
 pub(crate) fn fill_last<W: Write + Drop>(
     last: &mut Option<BufferedOutput<W>>,
     filling: Filling,
-) -> Result<(), DeviceFault> {
+) -> Result<(), Reason> {
     match last {
         Some(output) => {
             let length = output.length();
-            fill_output(output, filling, length)
+            match fill_output(output, filling, length) {
+                Ok(()) => Ok(()),
+                Err(DeviceFault) => Err(output.reason()),
+            }
         }
-        None => Err(DeviceFault),
+        None => Err(Reason::Other),
     }
 }
 
@@ -256,9 +273,12 @@ impl<'r, R: Files + AllocGlobal> Maker for FileMaker<'r, R> {
     ghost held = { λ _. None };
 
     fn make(&mut self, name: &str) -> Result<BufferedOutput<R::File>, MakeFault> {
-        let Ok(file) = fs::create(self.rt, name) else {
-            self.failures = self.failures.wrapping_add(1);
-            return Err(MakeFault::NotMade);
+        let file = match fs::create(self.rt, name) {
+            Ok(file) => file,
+            Err(error) => {
+                self.failures = self.failures.wrapping_add(1);
+                return Err(MakeFault::NotMade(Reason::of(&error)));
+            }
         };
         match BufferedOutput::counting_from(self.rt.alloc(), file, self.failures) {
             Ok(output) => Ok(output),
@@ -271,7 +291,11 @@ impl<'r, R: Files + AllocGlobal> Maker for FileMaker<'r, R> {
         self.last = Some(made);
     }
 
-    fn fill_up(&mut self, filling: Filling) -> Result<(), DeviceFault> {
+    fn reason(&self) -> Reason {
+        reason_of_last(&self.last)
+    }
+
+    fn fill_up(&mut self, filling: Filling) -> Result<(), Reason> {
         let filled = fill_last(&mut self.last, filling);
         if filled.is_err() {
             self.failures = self.failures.wrapping_add(1);

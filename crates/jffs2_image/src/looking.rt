@@ -13,14 +13,14 @@ use flashbase::Sink;
 use jcommand::Options;
 use jnode::Order;
 use jreport::{
-    ProgramFault, check_lines, file_bytes, image_file, image_tree, list_lines, path_word,
+    ProgramFault, Unopened, check_lines, file_bytes, image_file, image_tree, list_lines, path_word,
     stream_lines,
 };
 use std::alloc::Global;
 
 /// The file of an image.
-fn open<'a, L: Loader>(loader: &mut L, image: &'a str) -> Result<L::Opened, ProgramFault<'a>>
-    ensures fault { IfErr result (λ fault. fault ≡ ProgramFault.File image.entry) }
+fn open<'a, L: Loader>(loader: &mut L, image: &'a str) -> Result<L::Opened, Unopened<'a>>
+    ensures unopened { IfErr result (λ file. file.name.now ≡ image.entry.now) }
     ensures opened { IfOk result
         (λ source. GivesFile (L.told loader.old image.entry.now) (L.Opened.rest source)) }
     ensures counting { IfOk result (λ source. L.Opened.failures source ≡ L.failures loader.old) }
@@ -28,7 +28,10 @@ fn open<'a, L: Loader>(loader: &mut L, image: &'a str) -> Result<L::Opened, Prog
 {
     match loader.open(image) {
         Ok(source) => Ok(source),
-        Err(_) => Err(ProgramFault::File(image)),
+        Err(reason) => Err(Unopened {
+            name: image,
+            reason,
+        }),
     }
 }
 

@@ -3,10 +3,11 @@ ghost use Rattle.std.specs.Prelude.{◌≡◌, ℕ, List, Option, IfOk, IfErr, O
 ghost use Rattle.std.specs.Io.KnownBytes.{Keeps};
 ghost use Rattle.std.specs.IoError.{error_kind};
 ghost use Rattle.std.specs.Io.Buffered.{writer_contents, writer_inner};
-ghost use Rattle.flashbase.specs.Device.{CountsErr};
+ghost use Rattle.flashbase.specs.Device.{CountsErr, PutsOnce};
 ghost use Rattle.jffs2_image.specs.Writes.{IsBehind};
 
-use flashbase::{DeviceFault, Sink, write_once};
+use flashbase::{DeviceFault, Sink};
+use jreport::Reason;
 use std::alloc::Global;
 use std::fs::OpenFile;
 use std::io;
@@ -35,6 +36,33 @@ pub struct BufferedOutput<W: Write + Drop> {
     writer: BufWriter<W>,
     failures: u64,
     length: u64,
+    reason: Reason,
+}
+
+/// Writes bytes by one call, and counts a failure: an error, also one that only interrupts, or
+/// nothing taken of a nonempty slice. The reason of an error is noted.
+fn write_noting<W: Write>(
+    writer: &mut W,
+    failures: &mut u64,
+    reason: &mut Reason,
+    bytes: &[u8],
+) -> Result<usize, DeviceFault>
+    ensures { PutsOnce (W.contents writer.old) (W.contents writer.new) failures.old failures.new
+        bytes.now result }
+{
+    match writer.write(bytes) {
+        Ok(n) => {
+            if n == 0 && !bytes.is_empty() {
+                *failures = failures.wrapping_add(1);
+            }
+            Ok(n)
+        }
+        Err(error) => {
+            *reason = Reason::of(&error);
+            *failures = failures.wrapping_add(1);
+            Err(DeviceFault)
+        }
+    }
 }
 
 impl<W: Write + Drop> BufferedOutput<W> {
@@ -66,6 +94,7 @@ impl<W: Write + Drop> BufferedOutput<W> {
             writer,
             failures,
             length: 0,
+            reason: Reason::Other,
         })
     }
 
@@ -74,6 +103,11 @@ impl<W: Write + Drop> BufferedOutput<W> {
         ensures { result ≡ ⟦<BufferedOutput<W> as Sink>⟧.failures self.now }
     {
         self.failures
+    }
+
+    /// Why it failed last, as far as the host tells.
+    pub(crate) fn reason(&self) -> Reason {
+        self.reason
     }
 
     /// How many bytes it took, up to the greatest u64.
@@ -95,7 +129,12 @@ impl<W: Write + Drop> Sink for BufferedOutput<W> {
     ghost failures = { λ s. s.failures };
 
     fn put(&mut self, bytes: &[u8]) -> Result<usize, DeviceFault> {
-        let put = write_once(&mut self.writer, &mut self.failures, bytes);
+        let put = write_noting(
+            &mut self.writer,
+            &mut self.failures,
+            &mut self.reason,
+            bytes,
+        );
         if let Ok(n) = put {
             self.length = self.length.saturating_add(n as u64);
         }
@@ -109,7 +148,8 @@ impl<W: Write + Drop> Output for BufferedOutput<W> {
     fn finish(&mut self) -> Result<(), DeviceFault> {
         match self.writer.flush() {
             Ok(()) => Ok(()),
-            Err(_) => {
+            Err(error) => {
+                self.reason = Reason::of(&error);
                 self.failures = self.failures.wrapping_add(1);
                 Err(DeviceFault)
             }

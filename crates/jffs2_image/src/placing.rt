@@ -3,9 +3,9 @@ ghost use Rattle.std.specs.Prelude.{◌≡◌, ℕ, List, Option, IfErr, OnOk, N
 ghost use Rattle.flashbase.specs.Device.{CountsErr, next_count};
 
 use crate::filling::Filling;
-use crate::host::{FileMaker, MakeFault, Maker, fill_last};
+use crate::host::{FileMaker, MakeFault, Maker, fill_last, reason_of_last};
 use crate::output::{BufferedOutput, Output};
-use flashbase::DeviceFault;
+use jreport::Reason;
 use std::alloc::{AllocError, Global};
 use std::fs::OpenOptions;
 use std::io::{ErrorKind, Write};
@@ -25,7 +25,7 @@ pub trait Placer: Maker {
 
     /// Gives the files their names, when all that was given to them is on the disk. At a fault they
     /// are removed.
-    fn place(&mut self, beside: Self::Beside) -> Result<(), DeviceFault>
+    fn place(&mut self, beside: Self::Beside) -> Result<(), Reason>
         ensures names { OnOk result (Self.names self.new ≡ Self.Beside.names beside) }
         ensures held { OnOk result (Self.held self.new ≡ Self.Beside.held beside) }
         ensures names_left { IfErr result (λ _. Self.names self.new ≡ Self.names self.old) }
@@ -105,10 +105,10 @@ fn create_beside<R: Files + AllocGlobal>(
         match create_new(rt, beside.as_str()) {
             Ok(file) => return Ok((file, beside)),
             Err(error) if error.kind() == ErrorKind::AlreadyExists => {}
-            Err(_) => return Err(MakeFault::NotMade),
+            Err(error) => return Err(MakeFault::NotMade(Reason::of(&error))),
         }
     }
-    Err(MakeFault::NotMade)
+    Err(MakeFault::NotMade(Reason::Exists))
 }
 
 /// Makes the file that is written for a name: a new one, with the permissions of a regular file
@@ -122,7 +122,7 @@ fn create_aside<R: Files + AllocGlobal>(
         if !known.is_file() {
             return match fs::create(rt, name.as_str()) {
                 Ok(file) => Ok((file, aside_of(name, None))),
-                Err(_) => Err(MakeFault::NotMade),
+                Err(error) => Err(MakeFault::NotMade(Reason::of(&error))),
             };
         }
     }
@@ -154,24 +154,24 @@ fn remove<R: Files + AllocGlobal>(rt: &R, aside: Aside<R::File>) {
 }
 
 /// Gives the new file its name, when it is on the disk.
-fn take_name<R: Files + AllocGlobal>(rt: &R, aside: &Aside<R::File>) -> Result<(), DeviceFault> {
+fn take_name<R: Files + AllocGlobal>(rt: &R, aside: &Aside<R::File>) -> Result<(), Reason> {
     let Some(output) = &aside.output else {
-        return Err(DeviceFault);
+        return Err(Reason::Other);
     };
     let Some(beside) = &aside.beside else {
         return Ok(());
     };
-    if output.sync().is_err() {
-        return Err(DeviceFault);
+    if let Err(error) = output.sync() {
+        return Err(Reason::of(&error));
     }
     match fs::rename(rt, beside.as_str(), aside.name.as_str()) {
         Ok(()) => Ok(()),
-        Err(_) => Err(DeviceFault),
+        Err(error) => Err(Reason::of(&error)),
     }
 }
 
 /// The same, or it is removed.
-fn place_aside<R: Files + AllocGlobal>(rt: &R, aside: Aside<R::File>) -> Result<(), DeviceFault> {
+fn place_aside<R: Files + AllocGlobal>(rt: &R, aside: Aside<R::File>) -> Result<(), Reason> {
     let placed = take_name(rt, &aside);
     if placed.is_err() {
         remove(rt, aside);
@@ -183,7 +183,7 @@ impl<'r, R: Files + AllocGlobal> BesideMaker<'r, R> {
     /// Makes the file that is written for a name, once.
     fn make_aside(&self, name: &str) -> Result<(R::File, Aside<R::File>), MakeFault> {
         if self.aside.is_some() {
-            return Err(MakeFault::NotMade);
+            return Err(MakeFault::NotMade(Reason::Other));
         }
         match meant_by(self.rt, name) {
             Ok(name) => create_aside(self.rt, name),
@@ -204,9 +204,9 @@ impl<'r, R: Files + AllocGlobal> Maker for BesideMaker<'r, R> {
     fn make(&mut self, name: &str) -> Result<BufferedOutput<R::File>, MakeFault> {
         let (file, aside) = match self.make_aside(name) {
             Ok(made) => made,
-            Err(MakeFault::NotMade) => {
+            Err(MakeFault::NotMade(reason)) => {
                 self.failures = self.failures.wrapping_add(1);
-                return Err(MakeFault::NotMade);
+                return Err(MakeFault::NotMade(reason));
             }
             Err(MakeFault::OutOfMemory) => return Err(MakeFault::OutOfMemory),
         };
@@ -229,10 +229,17 @@ impl<'r, R: Files + AllocGlobal> Maker for BesideMaker<'r, R> {
         }
     }
 
-    fn fill_up(&mut self, filling: Filling) -> Result<(), DeviceFault> {
+    fn reason(&self) -> Reason {
+        match &self.aside {
+            Some(aside) => reason_of_last(&aside.output),
+            None => Reason::Other,
+        }
+    }
+
+    fn fill_up(&mut self, filling: Filling) -> Result<(), Reason> {
         let filled = match &mut self.aside {
             Some(aside) => fill_last(&mut aside.output, filling),
-            None => Err(DeviceFault),
+            None => Err(Reason::Other),
         };
         if filled.is_err() {
             self.failures = self.failures.wrapping_add(1);
@@ -252,7 +259,7 @@ impl<'r, R: Files + AllocGlobal> Placer for FileMaker<'r, R> {
         }
     }
 
-    fn place(&mut self, beside: BesideMaker<'r, R>) -> Result<(), DeviceFault> {
+    fn place(&mut self, beside: BesideMaker<'r, R>) -> Result<(), Reason> {
         let BesideMaker {
             rt,
             failures,

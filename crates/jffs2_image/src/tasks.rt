@@ -18,9 +18,9 @@ use crate::packing::run_pack;
 use crate::placing::Placer;
 use crate::program::{report_fault, run_image};
 use crate::weak::run_weak;
-use flashbase::{DeviceFault, Sink};
+use flashbase::Sink;
 use jcommand::{Asked, Options, Outcome, Placing, Request, Task};
-use jreport::ProgramFault;
+use jreport::{ProgramFault, Unopened};
 use std::alloc::Global;
 
 /// The end of a flash of so many blocks.
@@ -103,7 +103,7 @@ fn fill_up<M: Maker, E: Sink>(
 {
     match maker.fill_up(filling) {
         Ok(()) => ended,
-        Err(DeviceFault) => report_fault(&ProgramFault::File(name), errors),
+        Err(reason) => report_fault(&ProgramFault::File(Unopened { name, reason }), errors),
     }
 }
 
@@ -149,7 +149,7 @@ fn settle<M: Placer, E: Sink>(
     }
     match maker.place(beside) {
         Ok(()) => ended,
-        Err(DeviceFault) => report_fault(&ProgramFault::File(name), errors),
+        Err(reason) => report_fault(&ProgramFault::File(Unopened { name, reason }), errors),
     }
 }
 

@@ -1,5 +1,5 @@
 //! Writing an image to a file of the host: a listing's operations on a base.
-ghost use Rattle.std.specs.Prelude.{◌≡◌, ◌≢◌, ◌≤◌, ℕ, List, Option, Some, IsTrue, IsFalse, Ok, IfOk, IfErr, IfSome, OnOk, length, map, option_map, slice_get};
+ghost use Rattle.std.specs.Prelude.{◌≡◌, ◌≢◌, ◌≤◌, ℕ, List, Option, Some, IsTrue, IsFalse, Ok, Err, IfOk, IfErr, IfSome, OnOk, length, map, option_map, slice_get};
 ghost use Rattle.jmount.specs.Mounts.{IsMountOf};
 ghost use Rattle.jscan.specs.Image.{greatest_image};
 ghost use Rattle.jlisting.specs.Listing.{lines_of};
@@ -8,7 +8,7 @@ ghost use Rattle.jffs2_image.specs.Host.{AreOf, AreRead, Blames, BlamesMaker, Is
 ghost use Rattle.jbuild.specs.Operations.{ops_in};
 ghost use Rattle.jbuild.specs.Parts.{part_contents};
 ghost use Rattle.jffs2_image.specs.WeakRuns.{AreNotes, AreNotesOn};
-ghost use Rattle.jffs2_image.specs.Writes.{GivesCut, HoldsCut, IsMade, IsNotGoneOn, IsNotMade, IsNotedIn, IsPartUnread, IsPut, IsUnreadFile, WritesImage};
+ghost use Rattle.jffs2_image.specs.Writes.{GivesCut, HoldsCut, IsCause, IsMade, IsNotGoneOn, IsNotMade, IsNotedIn, IsPartUnread, IsPut, IsUnreadFile, WritesImage};
 
 use crate::host::{FileFault, Loader, MakeFault, Maker};
 use crate::output::Output;
@@ -21,7 +21,7 @@ use jlisting::{Line, listing};
 use jlog::{RunReport, SessionFault, page_fits, resume_at};
 use jmount::{Mounted, mount};
 use jnode::Order;
-use jreport::{ProgramFault, noted};
+use jreport::{Cause, Plan, ProgramFault, Reason, Refused, Unopened, cause_of, noted};
 use jscan::GREATEST_IMAGE;
 use jsteps::Op;
 use std::alloc::{AllocError, Global};
@@ -59,7 +59,7 @@ pub fn load_file<'a, L: Loader>(loader: &mut L, name: &'a str) -> Result<Vec<u8>
 {
     match loader.load(name, GREATEST_IMAGE) {
         Ok(bytes) => Ok(bytes),
-        Err(FileFault::NotOpened) => Err(ProgramFault::File(name)),
+        Err(FileFault::NotOpened(reason)) => Err(ProgramFault::File(Unopened { name, reason })),
         Err(FileFault::Load(fault)) => Err(ProgramFault::Load(fault)),
     }
 }
@@ -85,9 +85,10 @@ pub fn load_parts<'a, L: Loader>(
                 let key = file.to_string(alloc)?;
                 match loader.load(file, GREATEST_IMAGE) {
                     Ok(bytes) => parts.insert(key, &bytes)?,
-                    Err(FileFault::NotOpened) => {
+                    Err(FileFault::NotOpened(reason)) => {
                         *unread = key;
-                        return Err(ProgramFault::File(unread.as_str()));
+                        let name = unread.as_str();
+                        return Err(ProgramFault::File(Unopened { name, reason }));
                     }
                     Err(FileFault::Load(fault)) => return Err(ProgramFault::Load(fault)),
                 }
@@ -111,8 +112,23 @@ fn number_at(numbers: &[usize], i: usize) -> Option<usize>
     numbers.get(i).copied()
 }
 
-/// Where writing goes on, by the target's page.
-fn resumed_from<E: Order>(mounted: &Mounted<'_>, target: Target<'_>) -> Result<u32, SessionFault>
+/// Why a session on a mounted image was refused, or stopped by this fault; `reason` is that of the
+/// file that is written.
+fn cause_on(mounted: &Mounted<'_>, target: Target<'_>, fault: SessionFault, reason: Reason) -> Cause
+    ensures { IsCause target.entry.page target.entry.options.geometry.block target.entry.blocks
+        mounted.now.image fault result }
+{
+    let plan = Plan {
+        geometry: target.options.geometry,
+        blocks: target.blocks,
+        page: target.page,
+        length: mounted.image().len(),
+    };
+    cause_of(plan, fault, reason)
+}
+
+/// Where writing goes on, by the target's page, or why it does not.
+fn goes_on_from<E: Order>(mounted: &Mounted<'_>, target: Target<'_>) -> Result<u32, SessionFault>
     requires { IsMountOf E.order target.options.geometry.block mounted.now }
     ensures { result ≡ resumes_by target.entry.page E.order target.entry.options.geometry.block
         target.entry.blocks mounted.now }
@@ -122,6 +138,26 @@ fn resumed_from<E: Order>(mounted: &Mounted<'_>, target: Target<'_>) -> Result<u
         return Err(SessionFault::Geometry);
     }
     Ok(from)
+}
+
+/// The same with the cause of a fault.
+fn resumed_from<E: Order>(mounted: &Mounted<'_>, target: Target<'_>) -> Result<u32, Refused>
+    requires { IsMountOf E.order target.options.geometry.block mounted.now }
+    ensures from { IfOk result (λ from. resumes_by target.entry.page E.order
+        target.entry.options.geometry.block target.entry.blocks mounted.now ≡ Ok from) }
+    ensures refused { IfErr result (λ refused. resumes_by target.entry.page E.order
+        target.entry.options.geometry.block target.entry.blocks mounted.now ≡ Err refused.fault) }
+    ensures cause { IfErr result (λ refused. IsCause target.entry.page
+        target.entry.options.geometry.block target.entry.blocks mounted.now.image refused.fault
+        refused.cause) }
+{
+    match goes_on_from::<E>(mounted, target) {
+        Ok(from) => Ok(from),
+        Err(fault) => Err(Refused {
+            fault,
+            cause: cause_on(mounted, target, fault, Reason::Other),
+        }),
+    }
 }
 
 /// Whether the output stopped a run.
@@ -214,7 +250,10 @@ fn make_image<'a, E: Order, M: Maker>(
 {
     let output = match maker.make(target.output) {
         Ok(output) => output,
-        Err(MakeFault::NotMade) => return Err(ProgramFault::File(target.output)),
+        Err(MakeFault::NotMade(reason)) => {
+            let name = target.output;
+            return Err(ProgramFault::File(Unopened { name, reason }));
+        }
         Err(MakeFault::OutOfMemory) => return Err(ProgramFault::OutOfMemory),
     };
     match put_image::<E, M::Made>(alloc, mounted, target, ops, output) {
@@ -226,7 +265,11 @@ fn make_image<'a, E: Order, M: Maker>(
             if let Some(output) = output {
                 maker.take_back(output);
             }
-            Err(ProgramFault::from(fault))
+            Err(ProgramFault::Session {
+                fault,
+                line: None,
+                cause: cause_on(mounted, target, fault, maker.reason()),
+            })
         }
     }
 }
@@ -286,7 +329,8 @@ fn write_lines<'a, 'p, 'b: 'p, E: Order, M: Maker, T: Sink>(
     let report = make_image::<E, M>(alloc, maker, target, &mounted, &ops)?;
     if let Some(fault) = report.stopped {
         let line = number_at(&numbers, report.accepted);
-        return Err(ProgramFault::Session { fault, line });
+        let cause = cause_on(&mounted, target, fault, maker.reason());
+        return Err(ProgramFault::Session { fault, line, cause });
     }
     put_accepted(from, report.accepted, &report.places, sink)?;
     Ok(noted(&mounted))

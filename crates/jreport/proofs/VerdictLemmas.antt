@@ -60,7 +60,7 @@ verdict_of_mounted e size image asked m old new before now (Err (program.Scan f)
 verdict_of_mounted e size image asked m old new before now (Err (program.Mount f)) answers put = absurd put
 verdict_of_mounted e size image asked m old new before now (Err (program.File f)) answers put = absurd put
 verdict_of_mounted e size image asked m old new before now (Err (program.Listing line)) answers put = absurd put
-verdict_of_mounted e size image asked m old new before now (Err (program.Session fault line)) answers put = absurd put
+verdict_of_mounted e size image asked m old new before now (Err (program.Session fault line cause)) answers put = absurd put
 verdict_of_mounted e size image asked m old new before now (Err (program.Path f)) answers put = absurd put
 verdict_of_mounted e size image asked m old new before now (Err program.NotRegular) answers put = absurd put
 verdict_of_mounted e size image asked m old new before now (Err (program.NoSpace folder)) answers put = absurd put

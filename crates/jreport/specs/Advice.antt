@@ -7,7 +7,10 @@ use Rattle.jlisting.specs.declared.rule.WordRule.TheVariants as word
 use Rattle.jmount.specs.declared.fault.MountFault.{MountFault}
 use Rattle.jmount.specs.declared.fault.MountFault.TheVariants as mount
 use Rattle.jscan.specs.declared.geometry.ScanFault.TheVariants as scan
+use Rattle.jline.specs.Words.{in_line}
+use Rattle.jreport.specs.Causes.{cause_note}
 use Rattle.jreport.specs.Faults.{fault_line_of}
+use Rattle.jreport.specs.Reasons.{file_note}
 use Rattle.jreport.specs.declared.faults.ProgramFault.{ProgramFault}
 use Rattle.jreport.specs.declared.faults.ProgramFault.TheVariants as program
 
@@ -68,21 +71,29 @@ mount_note _ = []
 
 -- ---- a fault
 
+-- the file that a note is on, if it is on one
+unfoldable pub named_in : ProgramFault → List ℕ
+named_in (program.File file) = file.name.now
+named_in _ = []
+
 -- what is said of a fault beside its line, if anything is
 unfoldable pub note_of : ProgramFault → List ℕ
 note_of (program.Listing bad) = rule_note bad.rule
 note_of (program.Scan scan.BlockSize) = block_note
 note_of (program.Mount fault) = mount_note fault
+note_of (program.File file) = file_note file.reason
+note_of (program.Session fault line cause) = cause_note cause
 note_of _ = []
 
 -- as a line, where there is something to say
-abbrev pub noted_line : List ℕ → List ℕ
-noted_line note =
-    if length note == 0 then [] else codes "jffs2_image: note: " ++ note ++ 10 ∷ []
+abbrev pub noted_line : List ℕ → List ℕ → List ℕ
+noted_line name note =
+    if length note == 0 then [] else
+    codes "jffs2_image: note: " ++ (in_line name ++ (note ++ 10 ∷ []))
 
 -- the line after that of a fault, if there is one
 unfoldable pub advice_of : ProgramFault → List ℕ
-advice_of fault = noted_line (note_of fault)
+advice_of fault = noted_line (named_in fault) (note_of fault)
 
 -- all that standard error is told of a fault
 unfoldable pub fault_lines_of : ProgramFault → List ℕ

@@ -97,9 +97,9 @@ unfoldable pub fault_text_of : ProgramFault → List ℕ
 fault_text_of (program.Load fault) = load_text fault
 fault_text_of (program.Scan fault) = scan_fault_text fault
 fault_text_of (program.Mount fault) = mount_text fault
-fault_text_of (program.File name) = codes "P1 File " ++ name.now
+fault_text_of (program.File file) = codes "P1 File " ++ file.name.now
 fault_text_of (program.Listing bad) = codes "P2 Listing" ++ line_text bad.line
-fault_text_of (program.Session fault line) = session_text fault ++ line_text_of line
+fault_text_of (program.Session fault line cause) = session_text fault ++ line_text_of line
 fault_text_of (program.Path fault) = find_text fault
 fault_text_of program.NotRegular = codes "P4 NotRegular"
 fault_text_of program.Output = codes "P5 Output"

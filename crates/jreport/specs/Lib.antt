@@ -1,4 +1,5 @@
 pub mod Advice
+pub mod Causes
 pub mod ConvertedLine
 pub mod FoundIn
 pub mod Content
@@ -9,6 +10,7 @@ pub mod ListedOnce
 pub mod Notes
 pub mod Paths
 pub mod Puts
+pub mod Reasons
 pub mod Report
 pub mod Stream
 pub mod TreeLaws

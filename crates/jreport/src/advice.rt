@@ -1,12 +1,17 @@
 //! The note after a fault's line, on what a person may do about it.
 
-ghost use Rattle.std.specs.Prelude.{◌≡◌, ◌≤◌, [], length};
+ghost use Rattle.std.specs.Prelude.{◌≡◌, ◌≤◌, ◌++◌, [], codes, length};
 ghost use Rattle.flashbase.specs.Sinks.{PutsTo};
-ghost use Rattle.jreport.specs.Advice.{advice_of, fault_lines_of, is_read_method, mount_note, note_of, rule_note, word_note};
+ghost use Rattle.jline.specs.Words.{in_line};
+ghost use Rattle.jreport.specs.Advice.{advice_of, fault_lines_of, is_read_method, mount_note, named_in, note_of, rule_note, word_note};
+ghost use Rattle.jreport.specs.Causes.{cause_note, limit_note};
+ghost use Rattle.jreport.specs.Reasons.{file_note, host_text};
 
+use crate::cause::{Cause, Limit};
 use crate::faults::{ProgramFault, fault_line};
+use crate::reason::Reason;
 use flashbase::{DeviceFault, Sink};
-use jline::{LineBuffer, put_text};
+use jline::{LineBuffer, put_in_line, put_text};
 use jlisting::{Rule, WordRule};
 use jmount::MountFault;
 use jscan::ScanFault;
@@ -108,6 +113,82 @@ fn push_mount_note(line: &mut LineBuffer, fault: MountFault)
     }
 }
 
+/// Why the host refuses a file.
+#[tactic(auto, unfolding(crate::specs::Reasons::host_text))]
+fn host_text(reason: Reason) -> &'static [u8]
+    ensures text { result.now ≡ host_text reason }
+    ensures short { length result.now ≤ 100 }
+{
+    match reason {
+        Reason::NotFound => b"no such file",
+        Reason::NoPermission => b"no permission",
+        Reason::IsDirectory => b"is a directory",
+        Reason::NotDirectory => b"a part of the path is no directory",
+        Reason::Exists => b"exists",
+        Reason::NoSpace => b"no space",
+        Reason::ReadOnly => b"read-only file system",
+        Reason::TooLarge => b"the file grows too large",
+        Reason::TooManyLinks => b"too many symbolic links",
+        Reason::BadName => b"no file can have this name",
+        Reason::Busy => b"in use",
+        Reason::Other => b"",
+    }
+}
+
+/// The same behind the name of the file.
+fn push_file_note(line: &mut LineBuffer, reason: Reason)
+    requires { line.old ≡ [] }
+    ensures text { line.new ≡ file_note reason }
+    ensures short { length line.new ≤ 200 }
+{
+    let text = host_text(reason);
+    if !text.is_empty() {
+        line.push_text(b": ");
+        line.push_text(text);
+    }
+}
+
+/// What a flash that is written does not keep.
+#[tactic(auto, unfolding(crate::specs::Causes::limit_note))]
+fn limit_note(limit: Limit) -> &'static [u8]
+    ensures text { result.now ≡ limit_note limit }
+    ensures short { length result.now ≤ 100 }
+{
+    match limit {
+        Limit::SmallBlock => b"a flash that is written has blocks of at least 8192 bytes",
+        Limit::BlockMultiple => b"the size of a block is a multiple of 4",
+        Limit::LargeBlock => b"a block has at most 4194304 bytes",
+        Limit::NoBlock => b"a flash has at least one block",
+        Limit::LargeFlash => b"a flash has at most 268435456 bytes, blocks times their size",
+        Limit::LongImage => b"the image is longer than the flash, blocks times their size",
+        Limit::LargePage => b"a page and 80 bytes are more than a block",
+    }
+}
+
+/// Why a session was refused, or stopped.
+#[tactic(auto, unfolding(crate::specs::Causes::cause_note))]
+fn cause_note(cause: Cause) -> &'static [u8]
+    ensures text { result.now ≡ cause_note cause }
+    ensures short { length result.now ≤ 100 }
+{
+    match cause {
+        Cause::Unknown => b"",
+        Cause::Host(reason) => host_text(reason),
+        Cause::Limit(limit) => limit_note(limit),
+    }
+}
+
+/// The file that a note is on, if it is on one.
+#[tactic(auto, unfolding(crate::specs::Advice::named_in))]
+fn named_in<'a>(fault: &ProgramFault<'a>) -> &'a str
+    ensures { result.now ≡ named_in fault.now }
+{
+    match *fault {
+        ProgramFault::File(file) => file.name,
+        _ => "",
+    }
+}
+
 /// What is said of a fault beside its line.
 #[tactic(auto, unfolding(crate::specs::Advice::note_of, crate::specs::Advice::block_note))]
 fn push_note(line: &mut LineBuffer, fault: &ProgramFault<'_>)
@@ -121,23 +202,34 @@ fn push_note(line: &mut LineBuffer, fault: &ProgramFault<'_>)
         ProgramFault::Scan(ScanFault::BlockSize) => {
             line.push_text(b"--block takes a multiple of 4 from 4096 to 4194304");
         }
+        ProgramFault::File(file) => push_file_note(line, file.reason),
+        ProgramFault::Session { cause, .. } => line.push_text(cause_note(cause)),
         _ => {}
     }
 }
 
-/// The note after the line of a fault; nothing where there is none.
+/// Puts a line that notes something, with a name before the rest of it.
+fn put_note<T: Sink>(sink: &mut T, name: &[u8], rest: &[u8]) -> Result<(), DeviceFault>
+    ensures { PutsTo T.Sink sink.old sink.new
+        (codes "jffs2_image: note: " ++ (in_line name.now ++ rest.now)) result }
+{
+    put_text(sink, b"jffs2_image: note: ")?;
+    put_in_line(sink, name)?;
+    put_text(sink, rest)
+}
+
+/// Puts the note after the line of a fault; nothing where there is none.
 #[tactic(auto, unfolding(crate::specs::Advice::advice_of))]
-fn push_advice(line: &mut LineBuffer, fault: &ProgramFault<'_>)
-    requires { line.old ≡ [] }
-    ensures { line.new ≡ advice_of fault.now }
+fn put_advice<T: Sink>(fault: &ProgramFault<'_>, sink: &mut T) -> Result<(), DeviceFault>
+    ensures { PutsTo T.Sink sink.old sink.new (advice_of fault.now) result }
 {
     let mut note = LineBuffer::new();
     push_note(&mut note, fault);
-    if !note.as_slice().is_empty() {
-        line.push_text(b"jffs2_image: note: ");
-        line.push_text(note.as_slice());
-        line.push_text(b"\n");
+    if note.as_slice().is_empty() {
+        return Ok(());
     }
+    note.push_text(b"\n");
+    put_note(sink, named_in(fault).as_bytes(), note.as_slice())
 }
 
 /// Puts the line of a fault as it is on standard error, and the note after it, where there is one.
@@ -145,7 +237,5 @@ pub fn fault_lines<T: Sink>(fault: &ProgramFault<'_>, sink: &mut T) -> Result<()
     ensures { PutsTo T.Sink sink.old sink.new (fault_lines_of fault.now) result }
 {
     fault_line(fault, sink)?;
-    let mut line = LineBuffer::new();
-    push_advice(&mut line, fault);
-    put_text(sink, line.as_slice())
+    put_advice(fault, sink)
 }

@@ -6,6 +6,7 @@ ghost use Rattle.jsteps.specs.declared.fault.OpFault.TheVariants as op;
 ghost use Rattle.jlog.specs.declared.fault.SessionFault.TheVariants as session;
 ghost use Rattle.jlisting.specs.declared.rule.Rule.TheVariants as rule;
 ghost use Rattle.jreport.specs.Faults.{fault_text_of};
+ghost use Rattle.jreport.specs.declared.cause.Cause.TheVariants as causes;
 ghost use Rattle.jreport.specs.declared.faults.ProgramFault.TheVariants as fault;
 
 /// The texts of faults.
@@ -25,10 +26,12 @@ pub fn known_fault_texts()
 pub fn known_session_texts()
     ensures listing { fault_text_of (fault.Listing (record { line = 3; rule = rule.TwoSpaces }))
         ≡ codes "P2 Listing line 3" }
-    ensures refused { fault_text_of (fault.Session (session.Refused op.Exists) (Some 2))
+    ensures refused { fault_text_of
+        (fault.Session (session.Refused op.Exists) (Some 2) causes.Unknown)
         ≡ codes "S1 Refused O5 Exists line 2" }
-    ensures full { fault_text_of (fault.Session (session.Full 4164 3904) (Some 3))
+    ensures full { fault_text_of (fault.Session (session.Full 4164 3904) (Some 3) causes.Unknown)
         ≡ codes "S2 Full needed 4164 free 3904 line 3" }
-    ensures sink { fault_text_of (fault.Session session.Sink None) ≡ codes "S4 Sink" }
-    ensures geometry { fault_text_of (fault.Session session.Geometry None) ≡ codes "S7 Geometry" }
+    ensures sink { fault_text_of (fault.Session session.Sink None causes.Unknown) ≡ codes "S4 Sink" }
+    ensures geometry { fault_text_of (fault.Session session.Geometry None causes.Unknown)
+        ≡ codes "S7 Geometry" }
 {}

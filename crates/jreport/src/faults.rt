@@ -6,6 +6,8 @@ ghost use Rattle.flashbase.specs.Sinks.{PutsTo};
 ghost use Rattle.jline.specs.Words.{in_line};
 ghost use Rattle.jreport.specs.Faults.{fault_line_of, fault_text_of, find_text, load_text, mount_text, scan_fault_text};
 
+use crate::cause::{Cause, Refused};
+use crate::reason::Unopened;
 use crate::report_fault::ReportFault;
 use crate::session_fault::{push_line, push_session};
 use flashbase::{DeviceFault, LoadFault, PutFault, Sink, put_all};
@@ -25,8 +27,8 @@ pub enum ProgramFault<'a> {
     Scan(ScanFault),
     /// The image does not mount.
     Mount(MountFault),
-    /// The file of this name can't be opened.
-    File(&'a str),
+    /// This file can't be opened or made.
+    File(Unopened<'a>),
     /// A line of the listing means nothing.
     Listing(BadLine),
     /// Nothing was written, or writing stopped, at the operation of a line of the listing if it
@@ -34,6 +36,7 @@ pub enum ProgramFault<'a> {
     Session {
         fault: SessionFault,
         line: Option<usize>,
+        cause: Cause,
     },
     /// The path names nothing.
     Path(FindFault),
@@ -61,6 +64,16 @@ impl From<LoadFault> for ProgramFault<'_> {
 
     fn from(fault: LoadFault) -> Self {
         ProgramFault::Load(fault)
+    }
+}
+
+impl<'a> From<Unopened<'a>> for ProgramFault<'a> {
+    ghost use Rattle.jreport.specs.declared.faults.ProgramFault.TheVariants.{File};
+
+    ghost from_gives = { λ file e. e ≡ File file };
+
+    fn from(file: Unopened<'a>) -> Self {
+        ProgramFault::File(file)
     }
 }
 
@@ -97,11 +110,31 @@ impl From<FindFault> for ProgramFault<'_> {
 impl From<SessionFault> for ProgramFault<'_> {
     ghost use Rattle.std.specs.Prelude.{None};
     ghost use Rattle.jreport.specs.declared.faults.ProgramFault.TheVariants.{Session};
+    ghost use Rattle.jreport.specs.declared.cause.Cause.TheVariants.{Unknown};
 
-    ghost from_gives = { λ fault e. e ≡ Session fault None };
+    ghost from_gives = { λ fault e. e ≡ Session fault None Unknown };
 
     fn from(fault: SessionFault) -> Self {
-        ProgramFault::Session { fault, line: None }
+        ProgramFault::Session {
+            fault,
+            line: None,
+            cause: Cause::Unknown,
+        }
+    }
+}
+
+impl From<Refused> for ProgramFault<'_> {
+    ghost use Rattle.std.specs.Prelude.{None};
+    ghost use Rattle.jreport.specs.declared.faults.ProgramFault.TheVariants.{Session};
+
+    ghost from_gives = { λ refused e. e ≡ Session refused.fault None refused.cause };
+
+    fn from(refused: Refused) -> Self {
+        ProgramFault::Session {
+            fault: refused.fault,
+            line: None,
+            cause: refused.cause,
+        }
     }
 }
 
@@ -266,9 +299,9 @@ fn push_fault<'a>(line: &mut LineBuffer, fault: &ProgramFault<'a>) -> &'a str
         ProgramFault::Load(fault) => push_load(line, fault),
         ProgramFault::Scan(fault) => push_scan(line, fault),
         ProgramFault::Mount(fault) => push_mount(line, fault),
-        ProgramFault::File(name) => {
+        ProgramFault::File(file) => {
             line.push_text(b"P1 File ");
-            return name;
+            return file.name;
         }
         ProgramFault::Listing(bad) => {
             line.push_text(b"P2 Listing");
@@ -277,6 +310,7 @@ fn push_fault<'a>(line: &mut LineBuffer, fault: &ProgramFault<'a>) -> &'a str
         ProgramFault::Session {
             fault,
             line: number,
+            ..
         } => {
             push_session(line, fault);
             if let Some(number) = number {

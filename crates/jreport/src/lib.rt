@@ -8,14 +8,16 @@
 //!
 //! `specs/Report.antt` says what the report of an image is, `specs/Verdict.antt` what is said of
 //! its mount, `specs/TreeText.antt` what the listing is, `specs/Content.antt` which bytes a path
-//! names, `specs/Notes.antt` what is told of findings beside them, and `specs/Faults.antt` how
-//! faults are spelled. `specs/Puts.antt` (of an image in memory), `specs/Stream.antt` (block by
-//! block) and `specs/WholeImage.antt` (read as a whole) say what the calls do. `report_examples`
-//! and `fault_examples` have worked examples, and `tree_laws` laws of the listing.
+//! names, `specs/Notes.antt` what is told of findings beside them, `specs/Faults.antt` how faults
+//! are spelled, and `specs/Advice.antt` what is noted after them. `specs/Puts.antt` (of an image in
+//! memory), `specs/Stream.antt` (block by block) and `specs/WholeImage.antt` (read as a whole) say
+//! what the calls do. `report_examples` and `fault_examples` have worked examples, and `tree_laws`
+//! laws of the listing.
 #![tactic(auto)]
 
 mod advice;
 mod blocks;
+mod cause;
 mod converted;
 mod extraction_notes;
 pub mod fault_examples;
@@ -26,6 +28,7 @@ mod listing;
 mod notes;
 pub mod path_laws;
 mod paths;
+mod reason;
 mod report;
 pub mod report_examples;
 mod report_fault;
@@ -37,6 +40,7 @@ mod verdict;
 mod whole_image;
 
 pub use crate::advice::fault_lines;
+pub use crate::cause::{Cause, Limit, Plan, Refused, cause_of, first_limit};
 pub use crate::converted::{put_compressed, put_decompressed};
 pub use crate::extraction_notes::{attribute_count, put_notes};
 pub use crate::faults::{ProgramFault, fault_line, fault_text};
@@ -45,6 +49,7 @@ pub use crate::findings::{Found, found_in};
 pub use crate::listing::{part_lines, tree_lines};
 pub use crate::notes::{note_line, noted};
 pub use crate::paths::path_word;
+pub use crate::reason::{Reason, Unopened};
 pub use crate::report::{Lines, put_report, scan_lines};
 pub use crate::report_fault::ReportFault;
 pub use crate::stream::stream_lines;

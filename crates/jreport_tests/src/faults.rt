@@ -5,9 +5,12 @@ use flashbase::{FromWriter, LoadFault};
 use jlisting::{BadLine, ListingFault, Rule, WordRule};
 use jlog::SessionFault;
 use jmount::{FindFault, MountFault};
-use jreport::{ProgramFault, fault_line, fault_lines, fault_text};
-use jscan::ScanFault;
-use jsteps::OpFault;
+use jreport::{
+    Cause, Limit, Plan, ProgramFault, Reason, Refused, Unopened, cause_of, fault_line, fault_lines,
+    fault_text, first_limit,
+};
+use jscan::{Geometry, ScanFault};
+use jsteps::{OpFault, Page};
 use std::alloc::Global;
 use std::test::Fail;
 
@@ -30,7 +33,10 @@ const FAULTS: [(ProgramFault<'static>, &str); 25] = [
     ),
     (ProgramFault::Scan(ScanFault::OutOfMemory), "C5 OutOfMemory"),
     (
-        ProgramFault::File("two \\ words/é"),
+        ProgramFault::File(Unopened {
+            name: "two \\ words/é",
+            reason: Reason::Exists,
+        }),
         "P1 File two \\ words/é",
     ),
     (ProgramFault::Mount(MountFault::BlockSize), "M1 BlockSize"),
@@ -171,7 +177,11 @@ fn texts_of_a_session(rt: HostRuntime) -> Result<(), Fail> {
             text,
         );
         let line = Some(number);
-        let told = ProgramFault::Session { fault, line };
+        let told = ProgramFault::Session {
+            fault,
+            line,
+            cause: Cause::Unknown,
+        };
         expect_at(&rt, is_told(rt.alloc(), &told, with_line)?, with_line);
     }
     for (fault, text) in OP_FAULTS {
@@ -179,6 +189,7 @@ fn texts_of_a_session(rt: HostRuntime) -> Result<(), Fail> {
         let told = ProgramFault::Session {
             fault,
             line: Some(12),
+            cause: Cause::Unknown,
         };
         expect_at(&rt, is_told(rt.alloc(), &told, text)?, text);
     }
@@ -262,7 +273,7 @@ fn is_noted(alloc: Global, fault: &ProgramFault<'_>, wanted: &str) -> Result<boo
     Ok(note.len() <= 106 && rest == Some(wanted.as_bytes()))
 }
 
-const NOTES: [(ProgramFault<'static>, &str); 9] = [
+const NOTES: [(ProgramFault<'static>, &str); 8] = [
     (ProgramFault::Scan(ScanFault::BlockSize), BLOCK_NOTE),
     (ProgramFault::Mount(MountFault::BlockSize), BLOCK_NOTE),
     (
@@ -277,8 +288,79 @@ const NOTES: [(ProgramFault<'static>, &str); 9] = [
         "",
     ),
     (ProgramFault::OutOfMemory, ""),
-    (ProgramFault::File("note"), ""),
 ];
+
+/// Files that the host refuses, and what is noted.
+const REASONS: [(&str, Reason, &str); 12] = [
+    ("note", Reason::Other, ""),
+    ("a", Reason::NotFound, "a: no such file"),
+    ("b c", Reason::NoPermission, "b c: no permission"),
+    ("d/e", Reason::IsDirectory, "d/e: is a directory"),
+    (
+        "f/g",
+        Reason::NotDirectory,
+        "f/g: a part of the path is no directory",
+    ),
+    ("h", Reason::Exists, "h: exists"),
+    ("i\x1b", Reason::NoSpace, "i\\x1b: no space"),
+    ("é", Reason::ReadOnly, "é: read-only file system"),
+    ("j", Reason::TooLarge, "j: the file grows too large"),
+    ("k", Reason::TooManyLinks, "k: too many symbolic links"),
+    ("l", Reason::BadName, "l: no file can have this name"),
+    ("", Reason::Busy, ": in use"),
+];
+
+/// Why a session did not write, and what is noted.
+const CAUSES: [(Cause, &str); 10] = [
+    (Cause::Unknown, ""),
+    (Cause::Host(Reason::Other), ""),
+    (Cause::Host(Reason::NoSpace), "no space"),
+    (
+        Cause::Limit(Limit::SmallBlock),
+        "a flash that is written has blocks of at least 8192 bytes",
+    ),
+    (
+        Cause::Limit(Limit::BlockMultiple),
+        "the size of a block is a multiple of 4",
+    ),
+    (
+        Cause::Limit(Limit::LargeBlock),
+        "a block has at most 4194304 bytes",
+    ),
+    (
+        Cause::Limit(Limit::NoBlock),
+        "a flash has at least one block",
+    ),
+    (
+        Cause::Limit(Limit::LargeFlash),
+        "a flash has at most 268435456 bytes, blocks times their size",
+    ),
+    (
+        Cause::Limit(Limit::LongImage),
+        "the image is longer than the flash, blocks times their size",
+    ),
+    (
+        Cause::Limit(Limit::LargePage),
+        "a page and 80 bytes are more than a block",
+    ),
+];
+
+#[test]
+fn notes_with_a_reason(rt: HostRuntime) -> Result<(), Fail> {
+    for (name, reason, wanted) in REASONS {
+        let fault = ProgramFault::from(Unopened { name, reason });
+        expect_at(&rt, is_noted(rt.alloc(), &fault, wanted)?, wanted);
+    }
+    for (cause, wanted) in CAUSES {
+        let refused = Refused {
+            fault: SessionFault::Geometry,
+            cause,
+        };
+        let fault = ProgramFault::from(refused);
+        expect_at(&rt, is_noted(rt.alloc(), &fault, wanted)?, wanted);
+    }
+    Ok(())
+}
 
 #[test]
 fn notes_after_faults(rt: HostRuntime) -> Result<(), Fail> {
@@ -289,6 +371,63 @@ fn notes_after_faults(rt: HostRuntime) -> Result<(), Fail> {
     }
     for (fault, wanted) in NOTES {
         expect_at(&rt, is_noted(rt.alloc(), &fault, wanted)?, wanted);
+    }
+    Ok(())
+}
+
+/// What a flash is, and the first limit that it does not keep.
+const PLANS: [(u32, u32, Page, usize, Option<Limit>); 17] = [
+    (8192, 1, Page::P4096, 0, None),
+    (8192, 1, Page::P4096, 8192, None),
+    (8192, 1, Page::P4096, 8193, Some(Limit::LongImage)),
+    (8192, 1, Page::P8192, 8193, Some(Limit::LongImage)),
+    (8192, 2, Page::P8192, 8193, Some(Limit::LargePage)),
+    (8268, 2, Page::P8192, 0, Some(Limit::LargePage)),
+    (8272, 2, Page::P8192, 0, None),
+    (16460, 2, Page::P16384, 0, Some(Limit::LargePage)),
+    (16464, 2, Page::P16384, 0, None),
+    (8188, 0, Page::P8192, 9, Some(Limit::SmallBlock)),
+    (8194, 0, Page::P4096, 9, Some(Limit::BlockMultiple)),
+    (4_194_308, 0, Page::P4096, 9, Some(Limit::LargeBlock)),
+    (4_194_304, 0, Page::P4096, 9, Some(Limit::NoBlock)),
+    (4_194_304, 64, Page::P4096, 9, None),
+    (
+        4_194_304,
+        65,
+        Page::P4096,
+        usize::MAX,
+        Some(Limit::LargeFlash),
+    ),
+    (65536, u32::MAX, Page::P4096, 9, Some(Limit::LargeFlash)),
+    (
+        65536,
+        4096,
+        Page::P16384,
+        usize::MAX,
+        Some(Limit::LongImage),
+    ),
+];
+
+#[test]
+fn limits_of_a_flash(rt: HostRuntime) -> Result<(), Fail> {
+    for (block, blocks, page, length, limit) in PLANS {
+        let plan = Plan {
+            geometry: Geometry { block },
+            blocks,
+            page,
+            length,
+        };
+        expect_at(&rt, first_limit(plan) == limit, block);
+        let cause = match limit {
+            Some(limit) => Cause::Limit(limit),
+            None => Cause::Unknown,
+        };
+        let told = cause_of(plan, SessionFault::Geometry, Reason::Busy);
+        expect_at(&rt, told == cause, block);
+        let told = cause_of(plan, SessionFault::Sink, Reason::Busy);
+        expect_at(&rt, told == Cause::Host(Reason::Busy), block);
+        let told = cause_of(plan, SessionFault::Broken, Reason::Busy);
+        expect_at(&rt, told == Cause::Unknown, block);
     }
     Ok(())
 }

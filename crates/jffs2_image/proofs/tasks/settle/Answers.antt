@@ -9,4 +9,4 @@ pub returns-in-Ok : goal.returns-in-Ok
 returns-in-Ok g c = inl (sym c.is_well.ensures ∙ c.if-not-is_well.false, c.in-Ok.ensures.names, c.in-Ok.ensures.held, c.in-Ok.ensures.count, (refl, refl))
 
 pub returns-in-Err : goal.returns-in-Err
-returns-in-Err g c = inr (inl (sym c.is_well.ensures ∙ c.if-not-is_well.false, c.in-Err.ensures.names_left, c.in-Err.ensures.held_left, c.in-Err.ensures.count, ((program.File c.args.name, refl, c.report_fault.ensures.reported), c.report_fault.ensures.fault)))
+returns-in-Err g c = inr (inl (sym c.is_well.ensures ∙ c.if-not-is_well.false, c.in-Err.ensures.names_left, c.in-Err.ensures.held_left, c.in-Err.ensures.count, ((program.File (record { name = c.args.name; reason = c.in-Err.reason }), refl, c.report_fault.ensures.reported), c.report_fault.ensures.fault)))

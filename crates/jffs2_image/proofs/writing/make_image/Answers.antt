@@ -33,17 +33,16 @@ returns-after-output-clause-cut g c =
     let base = a.mounted.now.image in
     let was = g.M.Maker.held a.maker.now in
     let cut = λ (maker : g.row.M.Denot) (fault : ProgramFault). HoldsCut (was, g.M.Maker.held maker) t.page e size t.blocks base a.ops.now fault in
-    let told = c.from.ensures in
     let put = c.in-Err.ensures in
-    subst (cut c.match-output.maker) (sym told) (elim c.match-output.branch [
+    elim c.match-output.branch [
       | in-Some w ↦
           let part = subst (λ (back : Option g.row.M-Made.Denot). IfSome back (λ back. GivesCut c.in-Err.fault t.page e size t.blocks base a.ops.now (g.M.Made.Sink.taken c.in-Ok.output) (g.M.Made.Output.given back)))
           w.in-Some.is put.part in
-          subst (λ (maker : g.row.M.Denot). cut maker (program.Session c.in-Err.fault None)) (sym w.maker-is)
-          (cut_part _ t.page e size t.blocks base a.ops.now _ _ c.in-Err.fault part
+          subst (λ (maker : g.row.M.Denot). cut maker (program.Session c.in-Err.fault None c.cause_on.result)) (sym w.maker-is)
+          (cut_part _ t.page e size t.blocks base a.ops.now _ _ c.in-Err.fault c.cause_on.result part
           (handed_back was (g.M.Maker.held c.make.new.self) (g.M.Maker.held w.take_back-in-Some.new.self) _ _ c.in-Ok.ensures.empty c.in-Ok.ensures.held w.take_back-in-Some.ensures.held))
       | in_default w ↦
           let gone = subst (λ (back : Option g.row.M-Made.Denot). IsHandedBack (g.M.Made.Sink.failures c.in-Ok.output) c.in-Err.fault (option_map (λ back. g.M.Made.Sink.failures back) back))
           w.in_default.is put.back in
-          cut_gone (was, g.M.Maker.held c.match-output.maker) t.page e size t.blocks base a.ops.now _ c.in-Err.fault gone
-    ])
+          cut_gone (was, g.M.Maker.held c.match-output.maker) t.page e size t.blocks base a.ops.now _ c.in-Err.fault c.cause_on.result gone
+    ]

@@ -21,7 +21,7 @@ use Rattle.jbuild.specs.Operations.{op_in}
 use Rattle.jcuts.specs.declared.cuts.Flash.{Flash}
 use Rattle.jffs2_image.specs.WeakRuns.{AreNotes}
 use Rattle.jffs2_image.proofs.WeakLemmas.{all_taken, noted_at}
-use Rattle.jffs2_image.specs.Writes.{Held, HoldsCut, IsMade, IsSessionFault}
+use Rattle.jffs2_image.specs.Writes.{Held, HoldsCut, IsCause, IsMade, IsSessionFault}
 use Rattle.jffs2_image.proofs.WritingLemmas.{not_resumed, not_made, run_on, stopped_at, told, told_in_part, writes_fault, goes_on_from}
 use Rattle.jffs2_image.specs.Host.{IsMadeUntil}
 use Rattle.jffs2_image.proofs.HostLemmas.{files_in_part, files_not_made, files_not_mounted, files_not_resumed, files_of_all, files_until, make_fault, maker_fault, resume_fault, run_fault}
@@ -33,9 +33,10 @@ returns-in_err-from-clause-writes g c = λ text read.
     let a = c.args in
     let m = c.in_ok-mounted.mounted in
     let mounts : Answers e a.target.options.geometry.block a.base.now (Ok m) = search rules in
-    let refused : resumes_by a.target.page e a.target.options.geometry.block a.target.blocks m ≡ Err c.in_err-from.field-0.0 = search rules in
-    writes_fault _ a.target.page e a.target.options.geometry.block a.target.blocks a.target.output.now a.base.now text _ _ _ _ (program.Session c.in_err-from.field-0.0 None) _ c.from_residual-in_err-from.ensures.1
-    (not_resumed _ a.target.page e a.target.options.geometry.block a.target.blocks a.target.output.now a.base.now text m c.in_err-from.field-0.0 _ _ mounts refused)
+    let image : m.image ≡ a.base.now = search rules in
+    let refused : resumes_by a.target.page e a.target.options.geometry.block a.target.blocks m ≡ Err c.in_err-from.field-0.0.fault = search rules in
+    writes_fault _ a.target.page e a.target.options.geometry.block a.target.blocks a.target.output.now a.base.now text _ _ _ _ (program.Session c.in_err-from.field-0.0.fault None c.in_err-from.field-0.0.cause) _ c.from_residual-in_err-from.ensures.1
+    (not_resumed _ a.target.page e a.target.options.geometry.block a.target.blocks a.target.output.now a.base.now text m c.in_err-from.field-0.0.fault c.in_err-from.field-0.0.cause _ _ image mounts refused c.in_err-from.ensures.cause)
 
 pub returns-in_err-report-clause-writes : goal.returns-in_err-report-clause-writes
 returns-in_err-report-clause-writes g c = λ text read.
@@ -43,8 +44,9 @@ returns-in_err-report-clause-writes g c = λ text read.
     let a = c.args in
     let m = c.in_ok-mounted.mounted in
     let mounts : Answers e a.target.options.geometry.block a.base.now (Ok m) = search rules in
+    let image : m.image ≡ a.base.now = search rules in
     writes_fault _ a.target.page e a.target.options.geometry.block a.target.blocks a.target.output.now a.base.now text _ _ _ _ c.in_err-report.field-0.0 _ c.from_residual-in_err-report.ensures.1
-    (not_made _ a.target.page e a.target.options.geometry.block a.target.blocks a.target.output.now a.base.now text m c.in_err-report.field-0.0 _ _ mounts c.in_err-report.ensures.fault)
+    (not_made _ a.target.page e a.target.options.geometry.block a.target.blocks a.target.output.now a.base.now text m c.in_err-report.field-0.0 _ _ image mounts c.in_err-report.ensures.fault)
 
 pub returns-in-Some-clause-writes : goal.returns-in-Some-clause-writes
 returns-in-Some-clause-writes g c = λ text read.
@@ -54,6 +56,7 @@ returns-in-Some-clause-writes g c = λ text read.
     let r = c.in_ok-report.report in
     let mounts : Answers e a.target.options.geometry.block a.base.now (Ok m) = search rules in
     let same : c.deref-4.result.now ≡ ops_in e (part_contents a.parts.now) a.lines.items = search rules in
+    let image : m.image ≡ a.base.now = search rules in
     let stopped : r.stopped ≡ Some c.in-Some.fault = search rules in
     let numbers : c.in_ok-numbers.numbers.items ≡ map (λ l. l.number) a.lines.items = search rules in
     let line : c.number_at-line.result ≡ slice_get c.in_ok-numbers.numbers.items r.accepted = search rules in
@@ -62,8 +65,11 @@ returns-in-Some-clause-writes g c = λ text read.
     (subst (λ s. IsMade (g.M.Maker.held a.maker.now, g.M.Maker.held c.make_image.new.maker) a.target.page e a.target.options.geometry.block a.target.blocks m c.deref-4.result.now r.accepted r.places.items s) stopped c.in_ok-report.ensures.made) in
     let run = run_on _ a.target.page e a.target.options.geometry.block a.target.blocks a.base.now text a.lines.items (part_contents a.parts.now) m r.accepted r.places.items (Some c.in-Some.fault) read mounts made in
     let shown = line ∙ (ap (λ (l : List ℕ). slice_get l r.accepted) numbers ∙ slice_get-map (λ l. l.number) a.lines.items r.accepted) in (
-      subst (λ n. IsSessionFault (g.M.Maker.held a.maker.now, g.M.Maker.held c.make_image.new.maker) a.target.page e a.target.options.geometry.block a.target.blocks a.base.now text c.in-Some.fault n) (sym shown)
-          (stopped_at _ a.target.page e a.target.options.geometry.block a.target.blocks a.base.now text a.lines.items r.accepted r.places.items c.in-Some.fault run),
+      (
+        subst (λ n. IsSessionFault (g.M.Maker.held a.maker.now, g.M.Maker.held c.make_image.new.maker) a.target.page e a.target.options.geometry.block a.target.blocks a.base.now text c.in-Some.fault n) (sym shown)
+            (stopped_at _ a.target.page e a.target.options.geometry.block a.target.blocks a.base.now text a.lines.items r.accepted r.places.items c.in-Some.fault run),
+        subst (λ (bytes : List ℕ). IsCause a.target.page a.target.options.geometry.block a.target.blocks bytes c.in-Some.fault c.cause_on-cause.result) image c.cause_on-cause.ensures,
+      ),
       refl,
       refl,
     )
@@ -120,9 +126,9 @@ returns-in_err-from-clause-maker g c =
     let e = g.E.Order.order in
     let a = c.args in
     let m = c.in_ok-mounted.mounted in
-    let refused : resumes_by a.target.page e a.target.options.geometry.block a.target.blocks m ≡ Err c.in_err-from.field-0.0 = search rules in
-    maker_fault _ _ _ _ (program.Session c.in_err-from.field-0.0 None) _ c.from_residual-in_err-from.ensures.1
-    (resume_fault a.target.page e a.target.options.geometry.block a.target.blocks m _ _ _ _ c.in_err-from.field-0.0 None refused refl)
+    let refused : resumes_by a.target.page e a.target.options.geometry.block a.target.blocks m ≡ Err c.in_err-from.field-0.0.fault = search rules in
+    maker_fault _ _ _ _ (program.Session c.in_err-from.field-0.0.fault None c.in_err-from.field-0.0.cause) _ c.from_residual-in_err-from.ensures.1
+    (resume_fault a.target.page e a.target.options.geometry.block a.target.blocks m _ _ _ _ c.in_err-from.field-0.0.fault None c.in_err-from.field-0.0.cause refused refl)
 
 pub returns-in_err-report-clause-maker : goal.returns-in_err-report-clause-maker
 returns-in_err-report-clause-maker g c =
@@ -140,7 +146,7 @@ returns-in-Some-clause-maker g c =
     let m = c.in_ok-mounted.mounted in
     let r = c.in_ok-report.report in
     let stopped : r.stopped ≡ Some c.in-Some.fault = search rules in
-    run_fault _ a.target.page e a.target.options.geometry.block a.target.blocks m c.deref-4.result.now r.accepted r.places.items _ _ _ _ c.in-Some.fault _
+    run_fault _ a.target.page e a.target.options.geometry.block a.target.blocks m c.deref-4.result.now r.accepted r.places.items _ _ _ _ c.in-Some.fault _ _
     (subst (λ s. IsMade (g.M.Maker.held a.maker.now, g.M.Maker.held c.make_image.new.maker) a.target.page e a.target.options.geometry.block a.target.blocks m c.deref-4.result.now r.accepted r.places.items s) stopped c.in_ok-report.ensures.made)
     (subst (λ s. IsMadeUntil (g.M.Maker.failures a.maker.now) (g.M.Maker.failures c.make_image.new.maker) s) stopped c.in_ok-report.ensures.stopped)
     c.in_ok-report.ensures.file
@@ -199,7 +205,7 @@ returns-in-Some-clause-files g c = λ known text read are.
     subst (λ (o : List Op). IsMade (g.M.Maker.held a.maker.now, g.M.Maker.held c.make_image.new.maker) a.target.page e a.target.options.geometry.block a.target.blocks m o r.accepted r.places.items (Some c.in-Some.fault)) same
     (subst (λ s. IsMade (g.M.Maker.held a.maker.now, g.M.Maker.held c.make_image.new.maker) a.target.page e a.target.options.geometry.block a.target.blocks m c.deref-4.result.now r.accepted r.places.items s) stopped c.in_ok-report.ensures.made) in
     let shown = line ∙ (ap (λ (l : List ℕ). slice_get l r.accepted) numbers ∙ slice_get-map (λ l. l.number) a.lines.items r.accepted) in
-    files_until known _ a.target.page e a.target.options.geometry.block a.target.blocks a.base.now text a.lines.items a.parts.now m r.accepted r.places.items (g.T.Sink.taken a.sink.now) (g.T.Sink.taken a.sink.now) c.in-Some.fault _ shown are read mounts made
+    files_until known _ a.target.page e a.target.options.geometry.block a.target.blocks a.base.now text a.lines.items a.parts.now m r.accepted r.places.items (g.T.Sink.taken a.sink.now) (g.T.Sink.taken a.sink.now) c.in-Some.fault _ _ shown are read mounts made
 
 pub returns-in_err-mounted-clause-files : goal.returns-in_err-mounted-clause-files
 returns-in_err-mounted-clause-files g c = λ known text read are.
@@ -212,8 +218,8 @@ returns-in_err-from-clause-files g c = λ known text read are.
     let e = g.E.Order.order in
     let a = c.args in
     let m = c.in_ok-mounted.mounted in
-    let refused : resumes_by a.target.page e a.target.options.geometry.block a.target.blocks m ≡ Err c.in_err-from.field-0.0 = search rules in
-    files_not_resumed known _ a.target.page e a.target.options.geometry.block a.target.blocks a.base.now text a.lines.items a.parts.now m _ _ c.in_err-from.field-0.0 _
+    let refused : resumes_by a.target.page e a.target.options.geometry.block a.target.blocks m ≡ Err c.in_err-from.field-0.0.fault = search rules in
+    files_not_resumed known _ a.target.page e a.target.options.geometry.block a.target.blocks a.base.now text a.lines.items a.parts.now m _ _ c.in_err-from.field-0.0.fault c.in_err-from.field-0.0.cause _
     refused c.from_residual-in_err-from.ensures.1 are read
 
 pub returns-in_err-report-clause-files : goal.returns-in_err-report-clause-files

@@ -1,5 +1,3 @@
-use Rattle.std.proofs.Common.{ℕ, List, ◌∙◌, subst}
-use Rattle.flashbase.specs.Device.{Puts}
 use Rattle.flashbase.proofs.DeviceLemmas.{first_failed, then_puts}
 use Rattle.jreport.specs.Advice.{advice_of, fault_lines_of}
 use Rattle.jreport.specs.Faults.{fault_line_of}
@@ -15,7 +13,4 @@ pub returns : goal.returns
 unfolding fault_lines_of
 returns g c =
     let put = c.in_ok-fault_line.ensures in
-    let line = c.as_slice.ensures ∙ c.push_advice.ensures in
-    then_puts _ (g.T.Sink.taken c.fault_line.new.sink) _ _ _ _ (fault_line_of c.args.fault.now) (advice_of c.args.fault.now) _ put.0 put.1
-    (subst (λ (text : List ℕ). Puts (g.T.Sink.taken c.fault_line.new.sink) (g.T.Sink.taken c.put_text.new.sink) (g.T.Sink.failures c.fault_line.new.sink)
-    (g.T.Sink.failures c.put_text.new.sink) text c.put_text.result) line c.put_text.ensures.puts)
+    then_puts _ (g.T.Sink.taken c.fault_line.new.sink) _ _ _ _ (fault_line_of c.args.fault.now) (advice_of c.args.fault.now) _ put.0 put.1 c.put_advice.ensures
