@@ -31,7 +31,8 @@ pub fn known_session_texts()
         ≡ codes "S1 Refused O5 Exists line 2" }
     ensures full { fault_text_of (fault.Session (session.Full 4164 3904) (Some 3) causes.Unknown)
         ≡ codes "S2 Full needed 4164 free 3904 line 3" }
-    ensures sink { fault_text_of (fault.Session session.Sink None causes.Unknown) ≡ codes "S4 Sink" }
+    ensures sink { fault_text_of (fault.Session session.Sink None causes.Unknown)
+        ≡ codes "S4 Sink" }
     ensures geometry { fault_text_of (fault.Session session.Geometry None causes.Unknown)
         ≡ codes "S7 Geometry" }
 {}
