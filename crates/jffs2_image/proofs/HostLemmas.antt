@@ -33,7 +33,7 @@ use Rattle.jbuild.specs.declared.parts.Parts.{Parts}
 use Rattle.jreport.specs.declared.cause.Cause.{Cause}
 use Rattle.jreport.specs.declared.faults.ProgramFault.{ProgramFault}
 use Rattle.jreport.specs.declared.faults.ProgramFault.TheVariants as program
-use Rattle.jffs2_image.specs.Host.{AreAllRead, AreLoaded, AreOf, AreRead, Blames, BlamesMaker, HasFailed, HaveBytes, IsCutShort, IsHandedBack, IsMadeUntil, IsMakeFault, IsReadFault, Leaves, RunsFiles}
+use Rattle.jffs2_image.specs.Host.{AreAllLoaded, AreAllRead, AreLoaded, AreOf, AreRead, Blames, BlamesMaker, HasFailed, HaveBytes, IsCutShort, IsHandedBack, IsMadeUntil, IsMakeFault, IsReadFault, Leaves, RunsFiles}
 use Rattle.jffs2_image.specs.Writes.{GivesCut, GivesPart, Held, HoldsCut, HoldsFront, HoldsPart, IsBehind, IsGivenOn, IsHanded, IsMade, IsNotMade, IsPartUnread, IsPut, IsUnreadFile}
 
 -- ---- the file that is made
@@ -196,6 +196,14 @@ got_of : (told : Option (List ℕ)) (o : Option (List ℕ)) → IsTrue (is_some 
     → ((bytes : List ℕ) → o ≡ Some bytes → length bytes ≤ greatest_image) → AreLoaded told (option_map_or (λ bytes. bytes) o [])
 got_of told (Some bytes) is own within = (own bytes refl, within bytes refl)
 got_of told None is own within = cc
+
+-- those of no line, where some were read before
+pub none_read : (told : List ℕ → Option (List ℕ)) (lines : List Line) (parts : Parts) → AreAllLoaded told parts → IsReading told lines 0 parts
+none_read told lines parts all = record {
+  own = λ name bytes is. (all name bytes is).0;
+  within = λ name bytes is. (all name bytes is).1;
+  each = λ k x name below at is. (let no : ⊥ = omega arith in absurd no);
+}
 
 -- all
 pub all_read : (told : List ℕ → Option (List ℕ)) (lines : List Line) (n : ℕ) (parts : Parts) → IsReading told lines n parts → length lines ≤ n → AreRead told lines parts

@@ -61,6 +61,11 @@ AreOf told bytes = IfSome told (λ known. bytes ≡ known)
 abbrev pub AreLoaded : Option (List ℕ) → List ℕ → Type 0
 AreLoaded told bytes = AreOf told bytes × (length bytes ≤ greatest_image)
 
+-- files that were read have the bytes that they have on the host
+abbrev pub AreAllLoaded : (List ℕ → Option (List ℕ)) → Parts → Type 0
+AreAllLoaded told parts =
+    (name bytes : List ℕ) → read_of parts name ≡ Some bytes → AreLoaded (told name) bytes
+
 -- Each file that a line names was read, and has the bytes that it has on the host.
 abbrev pub AreRead : (List ℕ → Option (List ℕ)) → List Line → Parts → Type 0
 AreRead told lines parts = (name : List ℕ) → IsNamedByLine lines name

@@ -63,6 +63,11 @@ pub trait Folders {
         ensures known { IfOk result (λ folder. Self.Read.known folder ≡ reads self.old name.now) }
         ensures unchanged { made self.new ≡ made self.old };
 
+    /// The same, where the files in the folder are to be read too.
+    fn read_whole(&mut self, name: &str, quiet: bool) -> Result<Self::Read, AllocError>
+        ensures known { IfOk result (λ folder. Self.Read.known folder ≡ reads self.old name.now) }
+        ensures unchanged { made self.new ≡ made self.old };
+
     /// Takes back a folder that was read.
     fn take_read(&mut self, folder: Self::Read)
         ensures { made self.new ≡ made self.old };

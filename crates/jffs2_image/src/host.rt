@@ -2,13 +2,16 @@
 ghost use Rattle.std.specs.Prelude.{◌≡◌, ◌<◌, ◌≤◌, ◌++◌, ℕ, List, [], ◌∷◌, Option, IfOk, IfErr, IfSome, OnOk, None, Some, Err, length, vec_len};
 ghost use Rattle.flashbase.specs.Device.{CountsErr, CountsLoad, next_count};
 ghost use Rattle.jffs2_image.specs.Filling.{HoldsFilled, HoldsFilledInPart};
-ghost use Rattle.jffs2_image.specs.Host.{AreOf, CountsFile, CountsNotMade, GivesFile, HoldsBy, MakesBy};
+ghost use Rattle.jffs2_image.specs.Host.{AreAllLoaded, AreOf, CountsFile, CountsNotMade, GivesFile, HoldsBy, MakesBy};
 
 use crate::filling::{Filling, fill_output};
+use crate::kept::KeptFiles;
 use crate::output::{BufferedOutput, Output};
 use flashbase::{DeviceFault, FromReader, LoadFault, Source};
+use jbuild::Parts;
 use jreport::Reason;
 use std::alloc::{AllocError, Global};
+use std::cell::Cell;
 use std::fs;
 use std::io::Write;
 use std::rt::Files;
@@ -31,6 +34,12 @@ pub trait Loader {
 
     /// How often a file was not opened, or failed while it was read, modulo 2^64.
     ghost failures: { Self → ℕ };
+
+    /// The files that it has read already, which it gives once.
+    fn read_before(&mut self) -> Parts
+        ensures bytes { AreAllLoaded (told self.old) result }
+        ensures count { failures self.new ≡ failures self.old }
+        ensures stays { (other : List ℕ) → told self.new other ≡ told self.old other };
 
     /// The bytes of the file of a name, if they are at most `limit`.
     fn load(&mut self, name: &str, limit: usize) -> Result<Vec<u8>, FileFault>
@@ -169,16 +178,19 @@ pub struct FileLoader<'r, R: Files + AllocGlobal> {
     rt: &'r R,
     failures: u64,
     piece: Vec<u8>,
+    /// The files that were read before.
+    kept: &'r Cell<Option<KeptFiles>>,
 }
 
 impl<'r, R: Files + AllocGlobal> FileLoader<'r, R> {
-    pub fn new(rt: &'r R) -> Self
+    pub fn new(rt: &'r R, kept: &'r Cell<Option<KeptFiles>>) -> Self
         ensures { ⟦<FileLoader<'r, R> as Loader>⟧.failures result ≡ 0 }
     {
         FileLoader {
             rt,
             failures: 0,
             piece: Vec::new(rt.alloc()),
+            kept,
         }
     }
 }
@@ -189,6 +201,13 @@ impl<'r, R: Files + AllocGlobal> Loader for FileLoader<'r, R> {
     ghost told = { λ _ _. None };
 
     ghost failures = { λ s. s.failures };
+
+    fn read_before(&mut self) -> Parts {
+        match self.kept.replace(None) {
+            Some(files) => files.into_parts(),
+            None => Parts::new(self.rt.alloc()),
+        }
+    }
 
     fn load(&mut self, name: &str, limit: usize) -> Result<Vec<u8>, FileFault> {
         let mut file = match self.open(name) {

@@ -18,6 +18,8 @@ pub mod filling;
 mod folders;
 pub mod host;
 pub mod info;
+mod keeping;
+mod kept;
 mod looking;
 pub mod output;
 mod packing;
@@ -35,6 +37,7 @@ use jreport::ProgramFault;
 use output::BufferedOutput;
 use program::{report_fault, report_usage};
 use std::alloc::{AllocError, Global};
+use std::cell::Cell;
 use std::env::Args;
 use std::io::{ErrorKind, IsTerminal};
 use std::process::ExitCode;
@@ -90,9 +93,10 @@ fn run(rt: &HostRuntime) -> Outcome {
     let Ok(mut output) = BufferedOutput::new(rt.alloc(), rt.stdout()) else {
         return report_fault(&ProgramFault::OutOfMemory, &mut errors);
     };
-    let mut loader = FileLoader::new(rt);
+    let kept = Cell::new(None);
+    let mut loader = FileLoader::new(rt, &kept);
     let mut maker = FileMaker::new(rt);
-    let mut folders = SystemFolders::new(rt, rt.stderr().is_terminal());
+    let mut folders = SystemFolders::new(rt, rt.stderr().is_terminal(), &kept);
     program::run(
         rt.alloc(),
         &mut loader,

@@ -112,7 +112,7 @@ fn read_given<'a, D: Folders, N: Sink>(
         }) result }
 {
     let options = settings_of(asked.owner, asked.time);
-    let Ok(mut folder) = folders.read(asked.folder, asked.quiet) else {
+    let Ok(mut folder) = folders.read_whole(asked.folder, asked.quiet) else {
         return Err(ProgramFault::OutOfMemory);
     };
     let answer = read_listing(alloc, options, asked.folder, &mut folder, notes);

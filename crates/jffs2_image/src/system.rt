@@ -3,8 +3,12 @@ ghost use Rattle.std.specs.Prelude.{◌↔◌, IsTrue, IsFalse, None};
 ghost use Rattle.jfolder.specs.Known.{nothing};
 
 use crate::folders::Folders;
+use crate::host::FileLoader;
+use crate::keeping::{Keeper, KeepingFolder};
+use crate::kept::KeptFiles;
 use jhost::{FilledFolder, ReadFolder};
 use std::alloc::AllocError;
+use std::cell::Cell;
 use std::io::Eprint;
 use std::rt::{Clock, Files};
 
@@ -13,6 +17,8 @@ use std::rt::{Clock, Files};
 pub struct SystemFolders<'r, R: Files + AllocGlobal + Clock + Eprint> {
     rt: &'r R,
     is_terminal: bool,
+    /// The files of a folder that was read whole.
+    kept: &'r Cell<Option<KeptFiles>>,
 }
 
 /// Whether it is told how far a command is: on a terminal, unless it is to be quiet.
@@ -23,15 +29,19 @@ fn tells(is_terminal: bool, quiet: bool) -> bool
 }
 
 impl<'r, R: Files + AllocGlobal + Clock + Eprint> SystemFolders<'r, R> {
-    pub fn new(rt: &'r R, is_terminal: bool) -> Self {
-        SystemFolders { rt, is_terminal }
+    pub fn new(rt: &'r R, is_terminal: bool, kept: &'r Cell<Option<KeptFiles>>) -> Self {
+        SystemFolders {
+            rt,
+            is_terminal,
+            kept,
+        }
     }
 }
 
 impl<'r, R: Files + AllocGlobal + Clock + Eprint> Folders for SystemFolders<'r, R> {
     type Filled = FilledFolder<'r, R>;
 
-    type Read = ReadFolder<'r, R>;
+    type Read = KeepingFolder<'r, R>;
 
     ghost made = { λ _ _. None };
 
@@ -46,11 +56,19 @@ impl<'r, R: Files + AllocGlobal + Clock + Eprint> Folders for SystemFolders<'r, 
         folder.finish();
     }
 
-    fn read(&mut self, name: &str, quiet: bool) -> Result<ReadFolder<'r, R>, AllocError> {
-        ReadFolder::new(self.rt, name, tells(self.is_terminal, quiet))
+    fn read(&mut self, name: &str, quiet: bool) -> Result<KeepingFolder<'r, R>, AllocError> {
+        let folder = ReadFolder::new(self.rt, name, tells(self.is_terminal, quiet))?;
+        Ok(KeepingFolder::new(folder, None))
     }
 
-    fn take_read(&mut self, mut folder: ReadFolder<'r, R>) {
-        folder.finish();
+    fn read_whole(&mut self, name: &str, quiet: bool) -> Result<KeepingFolder<'r, R>, AllocError> {
+        let folder = ReadFolder::new(self.rt, name, tells(self.is_terminal, quiet))?;
+        let loader = FileLoader::new(self.rt, self.kept);
+        let files = KeptFiles::new(self.rt.alloc());
+        Ok(KeepingFolder::new(folder, Some(Keeper::new(loader, files))))
+    }
+
+    fn take_read(&mut self, folder: KeepingFolder<'r, R>) {
+        self.kept.set(folder.finish());
     }
 }

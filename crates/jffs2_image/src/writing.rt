@@ -64,7 +64,8 @@ pub fn load_file<'a, L: Loader>(loader: &mut L, name: &'a str) -> Result<Vec<u8>
     }
 }
 
-/// The files that a listing names, each of which is read once. The name of one that can't be opened
+/// The files that a listing names, each of which is read once; one that was read before is not read
+/// again. The name of one that can't be opened
 /// is kept in `unread`.
 pub fn load_parts<'a, L: Loader>(
     alloc: Global,
@@ -78,7 +79,7 @@ pub fn load_parts<'a, L: Loader>(
     ensures fault { IfErr result
         (λ fault. IsReadFault (L.failures loader.old) (L.failures loader.new) fault) }
 {
-    let mut parts = Parts::new(alloc);
+    let mut parts = loader.read_before();
     for line in lines {
         if let Some(file) = line.action.file() {
             if !parts.has(file) {
