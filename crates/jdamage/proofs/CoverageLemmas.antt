@@ -1,11 +1,11 @@
 -- Which places of a range other versions give.
-use Rattle.std.proofs.Common.{◌≡◌, ℕ, zero, suc, ◌<◌, ◌≤◌, Bool, true, false, List, [], ◌∷◌, length, get_or, refl, sym, ap, ◌∙◌, arith}
+use Rattle.std.proofs.Common.{◌≡◌, ℕ, zero, suc, ◌<◌, ◌≤◌, Bool, true, false, List, [], ◌∷◌, refl, sym, ap, ◌∙◌, arith}
 use Rattle.std.specs.Prelude.{◌&&◌, ◌||◌, nat_lt, filter, min}
 use Rattle.std.specs.List.{list_any, list_all}
 use Rattle.std.proofs.Math.Path.{fun_ext}
 use Rattle.std.proofs.lemmas.Bool.{ltb-true, ltb-false}
 use Rattle.std.proofs.lemmas.Bool.Decides.{nat_tests}
-use Rattle.std.proofs.lemmas.List.Folds.{list_all-append, list_any_at}
+use Rattle.std.proofs.lemmas.List.Folds.{list_all-append}
 use Rattle.std.proofs.lemmas.Map.Views.{any-filter_same}
 use Rattle.flashbase.specs.Lists.{below}
 use Rattle.jdamage.specs.Coverage.{is_not_older, has_place, is_replaced, is_replaced_below, hides_nothing}
@@ -24,10 +24,6 @@ and_false : (b : Bool) → (b && false) ≡ false
 and_false true = refl
 and_false false = refl
 
-or_true : (b : Bool) → (b || true) ≡ true
-or_true true = refl
-or_true false = refl
-
 first_true : (a b : Bool) → (a && b) ≡ true → a ≡ true
 first_true true b both = refl
 first_true false _ both = both
@@ -43,17 +39,6 @@ not_below p (suc n) q less lacking = by (nat_lt q n) refl (λ l. not_below p n q
         let same : q ≡ n = omega (arith, ltb-false _ _ e) in
         let one : list_all p (n ∷ []) ≡ false = ap (λ (k : ℕ). p k && true) (sym same) ∙ ap (λ b. b && true) lacking in
         list_all-append p (below n) (n ∷ []) ∙ ap (λ b. list_all p (below n) && b) one ∙ and_false (list_all p (below n))
-
--- ---- a version that gives a place gives those from there to its end
-
-pub goes_on : (s : Stretch) (place q : ℕ) → has_place place s ≡ true → place ≤ q → q < s.to → has_place q s ≡ true
-goes_on s place q here from to = grind (arith, nat_tests)
-
-pub given_at : (others : List Stretch) (lost : Stretch) (i : ℕ) (d : Stretch) (q : ℕ) → i < length others → is_not_older lost (get_or others i d) ≡ true → has_place q (get_or others i d) ≡ true
-    → is_replaced others lost q ≡ true
-unfolding is_replaced
-given_at others lost i d q less newer has =
-    list_any_at (λ s. is_not_older lost s && has_place q s) others i d less (ap (λ b. b && has_place q (get_or others i d)) newer ∙ has)
 
 -- ---- the versions of other objects do not count
 
@@ -73,21 +58,6 @@ module _ (p : Stretch → Bool) (lost : Stretch) (same : (s : Stretch) → is_no
       ∙ ap (λ b. b && list_all (λ place. nat_lt place lost.from || is_replaced others lost place) (below end)) newer_kept
 
 -- ---- place by place
-
-pub in_front : (others : List Stretch) (lost : Stretch) (q : ℕ) → q < lost.from → (nat_lt q lost.from || is_replaced others lost q) ≡ true
-in_front others lost q less = ap (λ b. b || is_replaced others lost q) (lt-is-true q lost.from less)
-  where
-    lt-is-true : (a b : ℕ) → a < b → nat_lt a b ≡ true
-    lt-is-true a b less = grind (arith, nat_tests)
-
-pub further : (others : List Stretch) (lost : Stretch) (place to : ℕ) → ((q : ℕ) → q < place → (nat_lt q lost.from || is_replaced others lost q) ≡ true)
-    → ((q : ℕ) → place ≤ q → q < to → is_replaced others lost q ≡ true)
-    → (q : ℕ) → q < to → (nat_lt q lost.from || is_replaced others lost q) ≡ true
-further others lost place to before from q less = by (nat_lt q place) refl
-  where
-    by : (b : Bool) → nat_lt q place ≡ b → (nat_lt q lost.from || is_replaced others lost q) ≡ true
-    by true e = before q (ltb-true _ _ e)
-    by false e = ap (λ b. nat_lt q lost.from || b) (from q (ltb-false _ _ e) less) ∙ or_true (nat_lt q lost.from)
 
 pub lacks : (others : List Stretch) (lost : Stretch) (place : ℕ) → lost.from ≤ place → is_replaced others lost place ≡ false → (nat_lt place lost.from || is_replaced others lost place) ≡ false
 lacks others lost place from none = ap (λ b. b || is_replaced others lost place) (not_less place lost.from from) ∙ none

@@ -23,8 +23,8 @@ use Rattle.jdamage.specs.Coverage.{is_not_older}
 use Rattle.jdamage.specs.Damage.{damage_text, damage_totals, data_text, hurt_text, missing_text, node_paths, node_text, size_at, changes_nothing}
 use Rattle.jdamage.specs.Fields.{damaged_nodes, stretch_at, stretches}
 use Rattle.jdamage.specs.Lines.{hides_line, no_path_line, nothing_line, totals_shown}
-use Rattle.jdamage.specs.Groups.{group_of}
-use Rattle.jdamage.specs.Telling.{HaveNumbers, Kept, PushesHurt, is_kept, own_paths, own_text, path_text_if}
+use Rattle.jdamage.specs.Telling.{HasListedNumber, HaveNumbers, PushesHurt, is_kept, lost_paths, lost_text, own_paths, own_text, path_text_if}
+use Rattle.jdamage.specs.Hidden.{AreHidden, IsHidden}
 use Rattle.jdamage.specs.Ways.{NameOf, name_held, names_for, path_if, path_to_name, paths_to, root_paths}
 use Rattle.jdamage.specs.declared.fields.Stretch.{Stretch}
 use Rattle.jdamage.specs.declared.totals.Totals.{Totals}
@@ -171,76 +171,53 @@ module _ (s : State) (addr : ℕ) (lost : Stretch) where
 
 -- ---- the versions of other objects do not count
 
-module _ (e : Endian) (m : Mount) (p : Stretch → Bool) (others : List Stretch) where
-  abbrev pub HasNumber : ℕ × Damage → Type 0
-  HasNumber d = d.1 ≡ DataCrc → ((s : Stretch) → s.ino ≡ (stretch_at e m.image d.0).ino → p s ≡ true)
+of_lost : (lost s : Stretch) → is_not_older lost s ≡ true → s.ino ≡ lost.ino
+of_lost lost s newer = grind (arith, nat_tests)
 
-  of_lost : (lost s : Stretch) → is_not_older lost s ≡ true → s.ino ≡ lost.ino
-  of_lost lost s newer = grind (arith, nat_tests)
+module _ (e : Endian) (m : Mount) (numbers hidden : BTreeSet ℕ) (others : List Stretch) where
+  one_whole : (d : ℕ × Damage) → HasListedNumber e m.image numbers d → IsHidden e m (filter (is_kept numbers) others) hidden d → IsHidden e m others hidden d
+  one_whole d has right is =
+      let lost = stretch_at e m.image d.0 in
+      right is ∙ hidden_kept (is_kept numbers) lost (λ s newer. ap (contains nat_cmp numbers) (of_lost lost s newer) ∙ has is) others (size_at m.state lost.ino)
 
-  hidden_same : (lost : Stretch) → ((s : Stretch) → s.ino ≡ lost.ino → p s ≡ true) → changes_nothing m.state (filter p others) lost ≡ changes_nothing m.state others lost
-  hidden_same lost has = hidden_kept p lost (λ s newer. has s (of_lost lost s newer)) others (size_at m.state lost.ino)
+  pub all_whole : (ds : List (ℕ × Damage)) → HaveNumbers e m.image numbers ds → AreHidden e m (filter (is_kept numbers) others) hidden ds → AreHidden e m others hidden ds
+  all_whole ds have right k d less = one_whole (get_or ds k d) (have k d less) (right k d less)
 
-  pub text_same : (d : ℕ × Damage) → HasNumber d → node_text e m (filter p others) d ≡ node_text e m others d
+  -- ---- a node where it is known whether it hides nothing
+
+  own_text_same : (d : ℕ × Damage) → IsHidden e m others hidden d → own_text e m hidden d ≡ node_text e m others d
   unfolding data_text
-  text_same (addr, DataCrc) has =
+  own_text_same (addr, DataCrc) right =
       let lost = stretch_at e m.image addr in
-      ap (λ (b : Bool). if b then nothing_line addr lost else hurt_text addr lost (paths_to m.state lost.ino)) (hidden_same lost (has refl))
-  text_same (addr, NameCrc) has = refl
-  text_same (addr, NodeCrc) has = refl
-  text_same (addr, Length) has = refl
-  text_same (addr, Range) has = refl
+      ap (λ (b : Bool). lost_text m.state b addr lost) (right refl)
+  own_text_same (addr, NameCrc) right = refl
+  own_text_same (addr, NodeCrc) right = refl
+  own_text_same (addr, Length) right = refl
+  own_text_same (addr, Range) right = refl
 
-  pub paths_same : (d : ℕ × Damage) → HasNumber d → node_paths e m (filter p others) d ≡ node_paths e m others d
-  paths_same (addr, DataCrc) has =
+  own_paths_same : (d : ℕ × Damage) → IsHidden e m others hidden d → own_paths e m hidden d ≡ node_paths e m others d
+  own_paths_same (addr, DataCrc) right =
       let lost = stretch_at e m.image addr in
-      ap (λ (b : Bool). length (if b then [] else paths_to m.state lost.ino)) (hidden_same lost (has refl))
-  paths_same (addr, NameCrc) has = refl
-  paths_same (addr, NodeCrc) has = refl
-  paths_same (addr, Length) has = refl
-  paths_same (addr, Range) has = refl
+      ap (λ (b : Bool). length (lost_paths m.state b lost)) (right refl)
+  own_paths_same (addr, NameCrc) right = refl
+  own_paths_same (addr, NodeCrc) right = refl
+  own_paths_same (addr, Length) right = refl
+  own_paths_same (addr, Range) right = refl
 
--- ---- a node beside the versions of its object alone
-
-same_is : (a b : ℕ) → a ≡ b → (a == b) ≡ true
-same_is a b same = grind (arith, nat_tests)
-
-module _ (e : Endian) (m : Mount) (kept : Kept) (numbers : BTreeSet ℕ) (others : List Stretch) where
-  abbrev pub IsNoted : ℕ × Damage → Type 0
-  IsNoted d = d.1 ≡ DataCrc → contains nat_cmp numbers (stretch_at e m.image d.0).ino ≡ true
-
-  abbrev pub AreKept : Type 0
-  AreKept = (i : ℕ) → group_of kept i ≡ filter (is_kept numbers i) others
-
-  own_has : (d : ℕ × Damage) → IsNoted d → HasNumber e m (is_kept numbers (stretch_at e m.image d.0).ino) others d
-  own_has d noted is s same =
-      let i = (stretch_at e m.image d.0).ino in
-      ap (λ (b : Bool). b && contains nat_cmp numbers s.ino) (same_is s.ino i same) ∙ ap (contains nat_cmp numbers) same ∙ noted is
-
-  own_text_same : AreKept → (d : ℕ × Damage) → IsNoted d → own_text e m kept d ≡ node_text e m others d
-  own_text_same are d noted =
-      let i = (stretch_at e m.image d.0).ino in
-      ap (λ (l : List Stretch). node_text e m l d) (are i) ∙ text_same e m (is_kept numbers i) others d (own_has d noted)
-
-  own_paths_same : AreKept → (d : ℕ × Damage) → IsNoted d → own_paths e m kept d ≡ node_paths e m others d
-  own_paths_same are d noted =
-      let i = (stretch_at e m.image d.0).ino in
-      ap (λ (l : List Stretch). node_paths e m l d) (are i) ∙ paths_same e m (is_kept numbers i) others d (own_has d noted)
-
-  pub texts_same : AreKept → (ds : List (ℕ × Damage)) → All IsNoted ds → flat_map (own_text e m kept) ds ≡ flat_map (node_text e m others) ds
-  texts_same are [] noted = refl
-  texts_same are (d ∷ ds) noted =
-      flat_map-cons (own_text e m kept) d ds
-      ∙ ap (λ (l : List ℕ). l ++ flat_map (own_text e m kept) ds) (own_text_same are d (All-head IsNoted d ds noted))
-      ∙ ap (λ (l : List ℕ). node_text e m others d ++ l) (texts_same are ds (All-tail IsNoted d ds noted))
+  pub texts_same : (ds : List (ℕ × Damage)) → AreHidden e m others hidden ds → flat_map (own_text e m hidden) ds ≡ flat_map (node_text e m others) ds
+  texts_same [] right = refl
+  texts_same (d ∷ ds) right =
+      flat_map-cons (own_text e m hidden) d ds
+      ∙ ap (λ (l : List ℕ). l ++ flat_map (own_text e m hidden) ds) (own_text_same d (All-head (IsHidden e m others hidden) d ds right))
+      ∙ ap (λ (l : List ℕ). node_text e m others d ++ l) (texts_same ds (All-tail (IsHidden e m others hidden) d ds right))
       ∙ sym (flat_map-cons (node_text e m others) d ds)
 
-  pub sums_same : AreKept → (ds : List (ℕ × Damage)) → All IsNoted ds → sum_by (own_paths e m kept) ds ≡ sum_by (node_paths e m others) ds
-  sums_same are [] noted = refl
-  sums_same are (d ∷ ds) noted =
-      sum_cons (own_paths e m kept) d ds
-      ∙ ap (λ (n : ℕ). n + sum_by (own_paths e m kept) ds) (own_paths_same are d (All-head IsNoted d ds noted))
-      ∙ ap (λ (n : ℕ). node_paths e m others d + n) (sums_same are ds (All-tail IsNoted d ds noted))
+  pub sums_same : (ds : List (ℕ × Damage)) → AreHidden e m others hidden ds → sum_by (own_paths e m hidden) ds ≡ sum_by (node_paths e m others) ds
+  sums_same [] right = refl
+  sums_same (d ∷ ds) right =
+      sum_cons (own_paths e m hidden) d ds
+      ∙ ap (λ (n : ℕ). n + sum_by (own_paths e m hidden) ds) (own_paths_same d (All-head (IsHidden e m others hidden) d ds right))
+      ∙ ap (λ (n : ℕ). node_paths e m others d + n) (sums_same ds (All-tail (IsHidden e m others hidden) d ds right))
       ∙ sym (sum_cons (node_paths e m others) d ds)
 
 -- ---- the whole
@@ -249,68 +226,64 @@ bare_long : (names : List (ℕ × Bor (List ℕ) × ℕ)) → length (map name_h
 bare_long [] = refl
 bare_long (n ∷ names) = ap suc (bare_long names)
 
-pub has_numbers : (e : Endian) (m : Mount) (kept : Kept) (numbers : BTreeSet ℕ) (others : List Stretch) (image : List ℕ) (ds damaged : List (ℕ × Damage)) → image ≡ m.image → ds ≡ damaged
-    → All (λ d. d.1 ≡ DataCrc → contains nat_cmp numbers (stretch_at e image d.0).ino ≡ true) ds → All (IsNoted e m kept numbers others) damaged
-has_numbers e m kept numbers others image ds damaged same are each =
-    subst (All (IsNoted e m kept numbers others)) are
-    (subst (λ (im : List ℕ). All (λ d. d.1 ≡ DataCrc → contains nat_cmp numbers (stretch_at e im d.0).ino ≡ true) ds) same each)
+module _ (e : Endian) (size : ℕ) (m : Mount) (numbers hidden : BTreeSet ℕ) where
+  abbrev pub Right : List (ℕ × Damage) → Type 0
+  Right damaged = AreHidden e m (stretches e size m.image) hidden damaged
 
-module _ (e : Endian) (size : ℕ) (m : Mount) (kept : Kept) (numbers : BTreeSet ℕ) where
-  abbrev pub Noted : List (ℕ × Damage) → Type 0
-  Noted damaged = All (IsNoted e m kept numbers (stretches e size m.image)) damaged
+  all_same : (damaged : List (ℕ × Damage)) → damaged ≡ damaged_nodes e size m.image → Right damaged
+      → flat_map (own_text e m hidden) damaged ≡ flat_map (node_text e m (stretches e size m.image)) (damaged_nodes e size m.image)
+  all_same damaged are right =
+      texts_same e m numbers hidden (stretches e size m.image) damaged right ∙ ap (flat_map (node_text e m (stretches e size m.image))) are
 
-  abbrev pub Kepts : Type 0
-  Kepts = AreKept e m kept numbers (stretches e size m.image)
-
-  all_same : (damaged : List (ℕ × Damage)) → damaged ≡ damaged_nodes e size m.image → Kepts → Noted damaged
-      → flat_map (own_text e m kept) damaged ≡ flat_map (node_text e m (stretches e size m.image)) (damaged_nodes e size m.image)
-  all_same damaged are kepts noted =
-      texts_same e m kept numbers (stretches e size m.image) kepts damaged noted ∙ ap (flat_map (node_text e m (stretches e size m.image))) are
-
-  pub counted : (damaged : List (ℕ × Damage)) (missing : List (ℕ × Bor (List ℕ) × ℕ)) (totals : Totals) → damaged ≡ damaged_nodes e size m.image → Kepts
-      → Noted damaged → map name_held missing ≡ dangling m.state
-      → totals.damaged ≡ length damaged → totals.paths ≡ min (sum_by (own_paths e m kept) damaged) (2 ^ 64 - 1) → totals.missing ≡ length missing
+  pub counted : (damaged : List (ℕ × Damage)) (missing : List (ℕ × Bor (List ℕ) × ℕ)) (totals : Totals) → damaged ≡ damaged_nodes e size m.image
+      → Right damaged → map name_held missing ≡ dangling m.state
+      → totals.damaged ≡ length damaged → totals.paths ≡ min (sum_by (own_paths e m hidden) damaged) (2 ^ 64 - 1) → totals.missing ≡ length missing
       → totals ≡ damage_totals e size m
   unfolding damage_totals
-  counted damaged missing totals are kepts noted gone of_nodes of_paths of_missing =
+  counted damaged missing totals are right gone of_nodes of_paths of_missing =
       let ks = stretches e size m.image in
       let nodes : totals.damaged ≡ length (damaged_nodes e size m.image) = of_nodes ∙ ap (λ (l : List (ℕ × Damage)). length l) are in
       let paths : totals.paths ≡ min (sum_by (node_paths e m ks) (damaged_nodes e size m.image)) (2 ^ 64 - 1) =
-      of_paths ∙ ap (λ (n : ℕ). min n (2 ^ 64 - 1)) (sums_same e m kept numbers ks kepts damaged noted ∙ ap (sum_by (node_paths e m ks)) are) in
+      of_paths ∙ ap (λ (n : ℕ). min n (2 ^ 64 - 1)) (sums_same e m numbers hidden ks damaged right ∙ ap (sum_by (node_paths e m ks)) are) in
       let names : totals.missing ≡ length (dangling m.state) = of_missing ∙ sym (bare_long missing) ∙ ap (λ (l : List NameOf). length l) gone in
       let made : ℕ → ℕ → ℕ → Totals = λ d h n. record { damaged = d; paths = h; missing = n } in
       ap (λ (d : ℕ). made d totals.paths totals.missing) nodes ∙ ap (λ (h : ℕ). made (length (damaged_nodes e size m.image)) h totals.missing) paths
       ∙ ap (made (length (damaged_nodes e size m.image)) (min (sum_by (node_paths e m ks) (damaged_nodes e size m.image)) (2 ^ 64 - 1))) names
 
   pub all_told : (damaged : List (ℕ × Damage)) (missing : List (ℕ × Bor (List ℕ) × ℕ)) (totals : Totals) (old nodes names all : List ℕ) → damaged ≡ damaged_nodes e size m.image
-      → Kepts → Noted damaged → map name_held missing ≡ dangling m.state → totals ≡ damage_totals e size m
-      → nodes ≡ old ++ flat_map (own_text e m kept) damaged → names ≡ nodes ++ flat_map (λ n. missing_text m.state (name_held n)) missing → all ≡ names ++ totals_shown totals
+      → Right damaged → map name_held missing ≡ dangling m.state → totals ≡ damage_totals e size m
+      → nodes ≡ old ++ flat_map (own_text e m hidden) damaged → names ≡ nodes ++ flat_map (λ n. missing_text m.state (name_held n)) missing → all ≡ names ++ totals_shown totals
       → all ≡ old ++ damage_text e size m
   unfolding damage_text damage_totals
-  all_told damaged missing totals old nodes names all are kepts noted gone so first second third =
+  all_told damaged missing totals old nodes names all are right gone so first second third =
       let a = flat_map (node_text e m (stretches e size m.image)) (damaged_nodes e size m.image) in
       let b = flat_map (missing_text m.state) (dangling m.state) in
       let z = totals_shown totals in
       let second_is : flat_map (λ n. missing_text m.state (name_held n)) missing ≡ b = sym (flat_map-map (missing_text m.state) name_held missing) ∙ ap (flat_map (missing_text m.state)) gone in
-      third ∙ ap (λ (l : List ℕ). l ++ z) (second ∙ ap (λ (l : List ℕ). nodes ++ l) second_is ∙ ap (λ (l : List ℕ). l ++ b) (first ∙ ap (λ (l : List ℕ). old ++ l) (all_same damaged are kepts noted)))
+      third ∙ ap (λ (l : List ℕ). l ++ z) (second ∙ ap (λ (l : List ℕ). nodes ++ l) second_is ∙ ap (λ (l : List ℕ). l ++ b) (first ∙ ap (λ (l : List ℕ). old ++ l) (all_same damaged are right)))
       ∙ append_assoc (old ++ a) b z ∙ append_assoc old a (b ++ z) ∙ ap (λ (t : Totals). old ++ (a ++ (b ++ totals_shown t))) so
 
 -- ---- the same of what calls saw
+
+pub right_of : (e : Endian) (m : Mount) (hidden : BTreeSet ℕ) (sound others : List Stretch) (ds damaged : List (ℕ × Damage)) → sound ≡ others → ds ≡ damaged
+    → AreHidden e m sound hidden ds → AreHidden e m others hidden damaged
+right_of e m hidden sound others ds damaged same those right =
+    subst (AreHidden e m others hidden) those (subst (λ (ss : List Stretch). AreHidden e m ss hidden ds) same right)
 
 pub have_numbers : (e : Endian) (image other : List ℕ) (numbers others : BTreeSet ℕ) (ds damaged : List (ℕ × Damage)) → image ≡ other → numbers ≡ others → ds ≡ damaged
     → HaveNumbers e image numbers ds → HaveNumbers e other others damaged
 have_numbers e image other numbers others ds damaged same those are have =
     subst (HaveNumbers e other others) are (subst (λ (n : BTreeSet ℕ). HaveNumbers e other n ds) those (subst (λ (im : List ℕ). HaveNumbers e im numbers ds) same have))
 
-pub nodes_told : (e : Endian) (w m : Mount) (kept : Kept) (ds damaged : List (ℕ × Damage)) (old new : List ℕ) → w ≡ m → ds ≡ damaged
-    → new ≡ old ++ flat_map (own_text e w kept) ds → new ≡ old ++ flat_map (own_text e m kept) damaged
-nodes_told e w m kept ds damaged old new same those told =
-    told ∙ ap (λ (x : Mount). old ++ flat_map (own_text e x kept) ds) same ∙ ap (λ (l : List (ℕ × Damage)). old ++ flat_map (own_text e m kept) l) those
+pub nodes_told : (e : Endian) (w m : Mount) (hidden : BTreeSet ℕ) (ds damaged : List (ℕ × Damage)) (old new : List ℕ) → w ≡ m → ds ≡ damaged
+    → new ≡ old ++ flat_map (own_text e w hidden) ds → new ≡ old ++ flat_map (own_text e m hidden) damaged
+nodes_told e w m hidden ds damaged old new same those told =
+    told ∙ ap (λ (x : Mount). old ++ flat_map (own_text e x hidden) ds) same ∙ ap (λ (l : List (ℕ × Damage)). old ++ flat_map (own_text e m hidden) l) those
 
-pub counted_paths : (e : Endian) (w m : Mount) (kept : Kept) (ds damaged : List (ℕ × Damage)) (count : ℕ) → w ≡ m → ds ≡ damaged
-    → count ≡ min (sum_by (own_paths e w kept) ds) (2 ^ 64 - 1) → count ≡ min (sum_by (own_paths e m kept) damaged) (2 ^ 64 - 1)
-counted_paths e w m kept ds damaged count same those told =
-    told ∙ ap (λ (x : Mount). min (sum_by (own_paths e x kept) ds) (2 ^ 64 - 1)) same ∙ ap (λ (l : List (ℕ × Damage)). min (sum_by (own_paths e m kept) l) (2 ^ 64 - 1)) those
+pub counted_paths : (e : Endian) (w m : Mount) (hidden : BTreeSet ℕ) (ds damaged : List (ℕ × Damage)) (count : ℕ) → w ≡ m → ds ≡ damaged
+    → count ≡ min (sum_by (own_paths e w hidden) ds) (2 ^ 64 - 1) → count ≡ min (sum_by (own_paths e m hidden) damaged) (2 ^ 64 - 1)
+counted_paths e w m hidden ds damaged count same those told =
+    told ∙ ap (λ (x : Mount). min (sum_by (own_paths e x hidden) ds) (2 ^ 64 - 1)) same ∙ ap (λ (l : List (ℕ × Damage)). min (sum_by (own_paths e m hidden) l) (2 ^ 64 - 1)) those
 
 pub missing_told : (w m : Mount) (ns names : List (ℕ × Bor (List ℕ) × ℕ)) (old new : List ℕ) → w ≡ m → ns ≡ names
     → new ≡ old ++ flat_map (λ n. missing_text w.state (name_held n)) ns → new ≡ old ++ flat_map (λ n. missing_text m.state (name_held n)) names

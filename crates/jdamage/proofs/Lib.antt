@@ -5,3 +5,5 @@ pub mod LawLemmas
 pub mod NodeLemmas
 pub mod NowhereLemmas
 pub mod WayLemmas
+pub mod SweepLemmas
+pub mod HiddenLemmas

@@ -6,3 +6,5 @@ pub mod Laws
 pub mod Lines
 pub mod Telling
 pub mod Ways
+pub mod Hidden
+pub mod Sweep

@@ -1,71 +1,115 @@
-//! Whether a damaged inode node is missed.
+//! Which damaged inode nodes are missed.
+//!
+//! The sound versions are taken from the highest down. Of the places where a range begins or ends
+//! those are kept that no version has that was taken: a range is covered where none is left in it.
 
-ghost use Rattle.std.specs.Prelude.{◌≡◌, ◌<◌, ◌≤◌, ℕ, IfNone, IfSome, true, false, min};
-ghost use Rattle.std.specs.List.{list_any};
-ghost use Rattle.jdamage.specs.Coverage.{has_place, hides_nothing, is_not_older, is_replaced, is_replaced_below};
+ghost use Rattle.std.specs.Prelude.{◌≡◌, ◌<◌, ◌≤◌, ◌&&◌, ◌++◌, ◌∷◌, ℕ, List, [], IfNone, IfSome, OnOk, IfOk, true, false, not, nat_lt, nat_le};
+ghost use Rattle.std.specs.BTreeSet.{contains};
+ghost use Rattle.std.specs.List.{All};
+ghost use Rattle.std.specs.Ordering.{nat_cmp};
+ghost use Rattle.jdamage.specs.Coverage.{hides_nothing};
+ghost use Rattle.jdamage.specs.Sweep.{AreBelow, Ascends, HaveEnds, Numbers, Taken, spot};
+ghost use Rattle.jdamage.specs.declared.fields.Stretch.{Stretch};
 
 use crate::fields::Stretch;
+use std::alloc::AllocError;
+use std::collections::BTreeSet;
 
-/// Whether another version of the object is as high.
-fn is_not_older(lost: &Stretch, other: &Stretch) -> bool
-    ensures { result ≡ is_not_older lost.now other.now }
+/// One number for a place of an object.
+pub(crate) fn spot(ino: u32, place: u64) -> u64
+    ensures { result ≡ spot ino place }
 {
-    other.ino == lost.ino && lost.version <= other.version
+    u64::from(ino) * (1 << 32) + place.min(u64::from(u32::MAX))
 }
 
-fn has_place(place: u64, stretch: &Stretch) -> bool
-    ensures { result ≡ has_place place stretch.now }
+/// The first spot that is bare, from one on and before another.
+fn first_bare(bare: &BTreeSet<u64>, from: u64, to: u64) -> Option<u64>
+    ensures there { IfSome result (λ c. contains nat_cmp bare.now c ≡ true) }
+    ensures from { IfSome result (λ c. from ≤ c) }
+    ensures to { IfSome result (λ c. c < to) }
+    ensures none { IfNone result ((c : ℕ) → from ≤ c → c < to
+        → contains nat_cmp bare.now c ≡ false) }
 {
-    u64::from(stretch.from) <= place && place < stretch.to
-}
-
-/// Where the range of a version ends that gives a place in front of or instead of the lost one.
-#[tactic(auto, unfolding(crate::specs::Coverage::is_replaced))]
-fn end_of_other(others: &[Stretch], lost: &Stretch, place: u64) -> Option<u64>
-    ensures further { IfSome result (λ to. place < to) }
-    ensures gives { IfSome result (λ to. (q : ℕ) → place ≤ q → q < to
-        → is_replaced others.now lost.now q ≡ true) }
-    ensures none { IfNone result (is_replaced others.now lost.now place ≡ false) }
-{
-    for other in others {
-        if is_not_older(lost, other) && has_place(place, other) {
-            return Some(other.to);
-        }
+    match bare.range(from..).next() {
+        Some(c) if *c < to => Some(*c),
+        _ => None,
     }
-    None
 }
 
-/// Whether other versions give each place of the lost range below an end.
-#[tactic(auto, unfolding(crate::specs::Coverage::is_replaced_below))]
-fn is_replaced_below(others: &[Stretch], lost: &Stretch, end: u64) -> bool
-    ensures { result ≡ is_replaced_below others.now lost.now end }
+/// Spots from one on and before another are bare no more.
+fn cover(bare: &mut BTreeSet<u64>, from: u64, to: u64)
+    ensures { (c : ℕ) → contains nat_cmp bare.new c
+        ≡ (contains nat_cmp bare.old c && not (nat_le from c && nat_lt c to)) }
 {
-    let mut place = u64::from(lost.from);
-    while place < end {
-        match end_of_other(others, lost, place) {
-            Some(to) => place = to,
-            None => return false,
-        }
+    while let Some(c) = first_bare(bare, from, to) {
+        bare.remove(&c);
     }
-    true
 }
 
-/// Whether one of these versions of the object is as high.
-fn has_other(others: &[Stretch], lost: &Stretch) -> bool
-    ensures { result ≡ list_any (is_not_older lost.now) others.now }
+/// Takes the highest version that is left, where it is not below one.
+fn next_version(left: &mut Vec<Stretch>, version: u32) -> Option<Stretch>
+    requires { Ascends left.old.items }
+    ensures some { IfSome result (λ s. left.old.items ≡ left.new.items ++ s ∷ []) }
+    ensures high { IfSome result (λ s. version ≤ s.version) }
+    ensures none { IfNone result (left.new.items ≡ left.old.items) }
+    ensures below { IfNone result (AreBelow version left.old.items) }
+    ensures ascends { Ascends left.new.items }
 {
-    for other in others {
-        if is_not_older(lost, other) {
-            return true;
-        }
+    let last = *left.last()?;
+    if last.version < version {
+        return None;
     }
-    false
+    left.pop();
+    Some(last)
 }
 
-/// Whether the object is the same without the lost version, beside these.
-#[tactic(auto, unfolding(crate::specs::Coverage::hides_nothing))]
-pub(crate) fn hides_nothing(others: &[Stretch], size: u32, lost: &Stretch) -> bool
-    ensures { result ≡ hides_nothing others.now size lost.now }
+/// Takes all versions that are not below one.
+pub(crate) fn take_from(
+    version: u32,
+    left: &mut Vec<Stretch>,
+    bare: &mut BTreeSet<u64>,
+    numbers: &mut BTreeSet<u32>,
+) -> Result<(), AllocError>
+    requires { Ascends left.old.items }
+    ensures taken { OnOk result ((all : List Stretch) (spots : Numbers)
+        → Taken version all spots left.old.items bare.old numbers.old
+        → Taken version all spots left.new.items bare.new numbers.new) }
+    ensures below { OnOk result (AreBelow version left.new.items) }
+    ensures ascends { OnOk result (Ascends left.new.items) }
 {
-    has_other(others, lost) && is_replaced_below(others, lost, lost.to.min(u64::from(size)))
+    while let Some(stretch) = next_version(left, version) {
+        let from = spot(stretch.ino, u64::from(stretch.from));
+        cover(bare, from, spot(stretch.ino, stretch.to));
+        numbers.insert(stretch.ino)?;
+    }
+    Ok(())
+}
+
+/// Whether no spot is bare from one on and before another.
+fn is_covered(bare: &BTreeSet<u64>, from: u64, to: u64) -> bool
+    ensures yes { result ≡ true → (c : ℕ) → from ≤ c → c < to
+        → contains nat_cmp bare.now c ≡ false }
+    ensures no { result ≡ false → (c : ℕ) × (from ≤ c) × (c < to)
+        × (contains nat_cmp bare.now c ≡ true) }
+{
+    first_bare(bare, from, to).is_none()
+}
+
+/// Whether the object is the same without the lost version, where all others were taken that are
+/// not below it.
+pub(crate) fn hides_nothing(
+    bare: &BTreeSet<u64>,
+    numbers: &BTreeSet<u32>,
+    size: u32,
+    lost: &Stretch,
+) -> bool
+    ensures { (all : List Stretch) (spots : Numbers) (left : List Stretch)
+        → Taken lost.now.version all spots left bare.now numbers.now
+        → AreBelow lost.now.version left → HaveEnds spots all
+        → contains nat_cmp spots (spot lost.now.ino lost.now.from) ≡ true
+        → result ≡ hides_nothing all size lost.now }
+{
+    let from = spot(lost.ino, u64::from(lost.from));
+    let to = spot(lost.ino, lost.to.min(u64::from(size)));
+    numbers.contains(&lost.ino) && is_covered(bare, from, to)
 }

@@ -13,9 +13,9 @@ ghost use Rattle.jdamage.specs.Lines.{no_damage, totals_shown};
 ghost use Rattle.jdamage.specs.Telling.{HaveNumbers, own_paths, own_text};
 
 use crate::fault::DamageFault;
-use crate::fields::{Stretch, stretch_at};
+use crate::fields::stretch_at;
 use crate::firsts::Name;
-use crate::groups::Groups;
+use crate::hidden::hidden_of;
 use crate::lines::push_totals;
 use crate::nodes::{damaged_nodes, stretches_of};
 use crate::telling::{push_missing_name, push_node};
@@ -68,11 +68,12 @@ fn numbers_of<E: Order>(
     Ok(numbers)
 }
 
-/// Tells of damaged nodes, beside these versions by object. Answers how many paths they hide.
+/// Tells of damaged nodes, where these addresses are of those that hide nothing. Answers how many
+/// paths they hide.
 fn push_nodes<E: Order>(
     alloc: Global,
     ways: &Ways<'_, '_>,
-    kept: &Groups<Stretch>,
+    hidden: &BTreeSet<u32>,
     damaged: &[(u32, Damage)],
     text: &mut Text,
 ) -> Result<u64, AllocError>
@@ -80,14 +81,14 @@ fn push_nodes<E: Order>(
     requires numbers { HaveNumbers E.order ways.now.mounted.now.image ways.now.numbers.now
         damaged.now }
     ensures text { OnOk result (text.new ≡ text.old
-        ++ flat_map (own_text E.order ways.now.mounted.now kept.now) damaged.now) }
+        ++ flat_map (own_text E.order ways.now.mounted.now hidden.now) damaged.now) }
     ensures count { IfOk result (λ count. count
-        ≡ min (sum_by (own_paths E.order ways.now.mounted.now kept.now) damaged.now)
+        ≡ min (sum_by (own_paths E.order ways.now.mounted.now hidden.now) damaged.now)
         (2 ^ 64 - 1)) }
 {
     let mut count = 0u64;
     for (addr, which) in damaged {
-        let more = push_node::<E>(alloc, ways, kept, *addr, *which, text)?;
+        let more = push_node::<E>(alloc, ways, hidden, *addr, *which, text)?;
         count = count.saturating_add(more);
     }
     Ok(count)
@@ -144,9 +145,10 @@ fn push_all<E: Order>(
         return push_none(text);
     }
     let numbers = numbers_of::<E>(alloc, image, &damaged)?;
-    let kept = stretches_of::<E>(alloc, image, geometry, &numbers)?;
+    let sound = stretches_of::<E>(alloc, image, geometry, &numbers)?;
+    let hidden = hidden_of::<E>(alloc, mounted, sound, &damaged)?;
     let ways = Ways::new(alloc, mounted, &numbers)?;
-    let paths = push_nodes::<E>(alloc, &ways, &kept, &damaged, text)?;
+    let paths = push_nodes::<E>(alloc, &ways, &hidden, &damaged, text)?;
     push_all_missing(alloc, &ways, &missing, text)?;
     let totals = Totals {
         damaged: damaged.len(),

@@ -18,6 +18,7 @@ mod fields;
 mod firsts;
 mod groups;
 mod held;
+mod hidden;
 pub mod laws;
 mod lines;
 mod nodes;

@@ -1,17 +1,15 @@
 //! The nodes of an image that matter where some are damaged.
 
-ghost use Rattle.std.specs.Prelude.{◌≡◌, ◌++◌, ℕ, IfOk, OnOk, filter, option_to_list};
+ghost use Rattle.std.specs.Prelude.{◌≡◌, ◌++◌, IfOk, OnOk, filter, option_to_list};
 ghost use Rattle.jscan.specs.Scans.{IsScannable};
 ghost use Rattle.jdamage.specs.Fields.{damaged_if, damaged_nodes, stretch_in, stretches};
-ghost use Rattle.jdamage.specs.Groups.{group_of};
 ghost use Rattle.jdamage.specs.Telling.{is_kept};
 
 use crate::fields::{Stretch, stretch_of};
-use crate::groups::{Groups, add};
 use jnode::{Damage, Order, Seen};
 use jscan::{Geometry, Sightings};
 use std::alloc::{AllocError, Global};
-use std::collections::{BTreeMap, BTreeSet};
+use std::collections::BTreeSet;
 
 /// Adds a node that is damaged.
 fn push_damaged(
@@ -53,19 +51,18 @@ pub(crate) fn damaged_nodes<E: Order>(
 
 /// Adds what a sound inode node has, where it is of one of these objects.
 fn push_stretch(
-    alloc: Global,
-    found: &mut Groups<Stretch>,
+    found: &mut Vec<Stretch>,
     numbers: &BTreeSet<u32>,
     seen: &Seen<'_>,
 ) -> Result<(), AllocError>
-    ensures { OnOk result ((i : ℕ) → group_of found.new i ≡ group_of found.old i
-        ++ filter (is_kept numbers.now i) (option_to_list (stretch_in seen.now))) }
+    ensures { OnOk result (found.new.items ≡ found.old.items
+        ++ filter (is_kept numbers.now) (option_to_list (stretch_in seen.now))) }
 {
     match seen {
         Seen::Inode(node) => {
             let stretch = stretch_of(node);
             if numbers.contains(&stretch.ino) {
-                add(alloc, found, stretch.ino, stretch)?;
+                found.push(stretch)?;
             }
             Ok(())
         }
@@ -73,23 +70,23 @@ fn push_stretch(
     }
 }
 
-/// What the sound inode nodes of these objects have, by object.
+/// What the sound inode nodes of these objects have.
 pub(crate) fn stretches_of<E: Order>(
     alloc: Global,
     image: &[u8],
     geometry: Geometry,
     numbers: &BTreeSet<u32>,
-) -> Result<Groups<Stretch>, AllocError>
+) -> Result<Vec<Stretch>, AllocError>
     requires { IsScannable geometry.block image.now }
-    ensures { IfOk result (λ found. (i : ℕ) → group_of found i
-        ≡ filter (is_kept numbers.now i) (stretches E.order geometry.block image.now)) }
+    ensures { IfOk result (λ found. found.items
+        ≡ filter (is_kept numbers.now) (stretches E.order geometry.block image.now)) }
 {
-    let mut found = BTreeMap::new(alloc);
+    let mut found = Vec::new(alloc);
     let Ok(sightings) = Sightings::<E>::new(image, geometry) else {
         return Ok(found);
     };
     for (_, seen) in sightings {
-        push_stretch(alloc, &mut found, numbers, &seen)?;
+        push_stretch(&mut found, numbers, &seen)?;
     }
     Ok(found)
 }

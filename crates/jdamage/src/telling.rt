@@ -2,35 +2,23 @@
 
 ghost use Rattle.std.specs.Prelude.{◌≡◌, ◌++◌, ◌-◌, ◌^◌, ◌≤◌, [], true, if◌then◌else◌, IfOk, OnOk, length, min};
 ghost use Rattle.jscan.specs.Image.{greatest_image};
-ghost use Rattle.jdamage.specs.Damage.{data_text, hurt_paths, missing_text, size_at};
+ghost use Rattle.jdamage.specs.Damage.{missing_text};
 ghost use Rattle.std.specs.BTreeSet.{contains};
 ghost use Rattle.std.specs.List.{flat_map};
 ghost use Rattle.std.specs.Ordering.{nat_cmp};
 ghost use Rattle.jdamage.specs.Lines.{hides_line, loss_line};
-ghost use Rattle.jdamage.specs.Telling.{HasListedNumber, PushesHurt, PushesPath, own_paths, own_text};
+ghost use Rattle.jdamage.specs.Telling.{HasListedNumber, PushesHurt, PushesPath, lost_paths, lost_text, own_paths, own_text};
 ghost use Rattle.jdamage.specs.Ways.{path_below, path_to_name, paths_to, root_paths};
 
-use crate::coverage::hides_nothing;
 use crate::fields::{Loss, Stretch, loss_at, stretch_at};
-use crate::groups::{Groups, group};
 use crate::lines::{push_hides, push_loss, push_missing, push_no_path, push_nothing, push_unknown};
 use crate::text::Text;
 use crate::ways::Ways;
-use jmount::Mounted;
 use jnode::{Damage, Order};
 use std::alloc::{AllocError, Global};
+use std::collections::BTreeSet;
 
 const ROOT: u32 = 1;
-
-/// The size of the object of a number.
-fn size_at(mounted: &Mounted<'_>, ino: u32) -> u32
-    ensures { result ≡ size_at mounted.now.state ino }
-{
-    match mounted.object(ino) {
-        Some(object) => object.size,
-        None => 0,
-    }
-}
 
 /// Tells that a node hides what a name leads to, where a path leads to the name. Answers whether it
 /// does.
@@ -100,24 +88,22 @@ fn push_hurt(
     Ok(count)
 }
 
-/// Tells what a node of damaged data hides, beside these versions of its object. Answers how many
-/// paths.
-#[tactic(auto, unfolding(crate::specs::Damage::data_text))]
+/// Tells what a node of damaged data hides. Answers how many paths.
 fn push_data(
     alloc: Global,
     ways: &Ways<'_, '_>,
-    others: &[Stretch],
+    hides_nothing: bool,
     addr: u32,
     lost: &Stretch,
     text: &mut Text,
 ) -> Result<u64, AllocError>
     requires { contains nat_cmp ways.now.numbers.now lost.now.ino ≡ true }
     ensures text { OnOk result (text.new
-        ≡ text.old ++ data_text ways.now.mounted.now.state others.now addr lost.now) }
-    ensures count { IfOk result (λ count. count
-        ≡ min (length (hurt_paths ways.now.mounted.now.state others.now lost.now)) (2 ^ 64 - 1)) }
+        ≡ text.old ++ lost_text ways.now.mounted.now.state hides_nothing addr lost.now) }
+    ensures count { IfOk result (λ count. count ≡ min
+        (length (lost_paths ways.now.mounted.now.state hides_nothing lost.now)) (2 ^ 64 - 1)) }
 {
-    if hides_nothing(others, size_at(ways.mounted, lost.ino), lost) {
+    if hides_nothing {
         push_nothing(text, addr, lost)?;
         return Ok(0);
     }
@@ -139,11 +125,12 @@ fn push_lost(
     push_loss(text, addr, loss, path.as_deref())
 }
 
-/// Tells of a damaged node, beside these versions by object. Answers how many paths it hides.
+/// Tells of a damaged node, where these addresses are of those that hide nothing. Answers how many
+/// paths it hides.
 pub(crate) fn push_node<E: Order>(
     alloc: Global,
     ways: &Ways<'_, '_>,
-    kept: &Groups<Stretch>,
+    hidden: &BTreeSet<u32>,
     addr: u32,
     which: Damage,
     text: &mut Text,
@@ -152,15 +139,15 @@ pub(crate) fn push_node<E: Order>(
     requires number { HasListedNumber E.order ways.now.mounted.now.image ways.now.numbers.now
         (addr, which) }
     ensures text { OnOk result (text.new
-        ≡ text.old ++ own_text E.order ways.now.mounted.now kept.now (addr, which)) }
+        ≡ text.old ++ own_text E.order ways.now.mounted.now hidden.now (addr, which)) }
     ensures count { IfOk result (λ count. count
-        ≡ min (own_paths E.order ways.now.mounted.now kept.now (addr, which)) (2 ^ 64 - 1)) }
+        ≡ min (own_paths E.order ways.now.mounted.now hidden.now (addr, which)) (2 ^ 64 - 1)) }
 {
     let image = ways.mounted.image();
     match which {
         Damage::DataCrc => {
             let lost = stretch_at::<E>(image, addr);
-            push_data(alloc, ways, group(kept, lost.ino), addr, &lost, text)
+            push_data(alloc, ways, hidden.contains(&addr), addr, &lost, text)
         }
         Damage::NameCrc => {
             let loss = loss_at::<E>(image, addr);

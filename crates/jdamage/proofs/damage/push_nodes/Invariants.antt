@@ -6,6 +6,6 @@ use Rattle.jdamage.proofs.damage.push_nodes.Given as goal
 
 abbrev pub invariant-loop-addr : goal.invariant-loop-addr
 invariant-loop-addr g l = record {
-  text : l.text ≡ l.fn.text ++ flat_map (own_text g.E.Order.order l.ways.mounted.now l.kept) (take l.addr-index l.damaged);
-  count : l.count ≡ min (sum_by (own_paths g.E.Order.order l.ways.mounted.now l.kept) (take l.addr-index l.damaged)) (2 ^ 64 - 1);
+  text : l.text ≡ l.fn.text ++ flat_map (own_text g.E.Order.order l.ways.mounted.now l.hidden) (take l.addr-index l.damaged);
+  count : l.count ≡ min (sum_by (own_paths g.E.Order.order l.ways.mounted.now l.hidden) (take l.addr-index l.damaged)) (2 ^ 64 - 1);
 }
