@@ -266,9 +266,13 @@ const READING: [(&str, &str); 22] = [
     ),
 ];
 
+fn reading() -> &'static [(&'static str, &'static str)] {
+    &READING
+}
+
 #[test]
 fn args_that_ask_for_something(rt: HostRuntime) -> Result<(), Fail> {
-    for (line, wanted) in READING {
+    for &(line, wanted) in reading() {
         let answer = answer_to(rt.alloc(), line)?;
         equal_at(&rt, answer.as_str(), wanted, line);
     }
@@ -340,9 +344,13 @@ const WRITING: [(&str, &str); 16] = [
     ),
 ];
 
+fn writing() -> &'static [(&'static str, &'static str)] {
+    &WRITING
+}
+
 #[test]
 fn args_that_ask_to_write(rt: HostRuntime) -> Result<(), Fail> {
-    for (line, wanted) in WRITING {
+    for &(line, wanted) in writing() {
         let answer = answer_to(rt.alloc(), line)?;
         equal_at(&rt, answer.as_str(), wanted, line);
     }
@@ -414,9 +422,13 @@ const WRONG: [(&str, &str); 40] = [
     ),
 ];
 
+fn wrong() -> &'static [(&'static str, &'static str)] {
+    &WRONG
+}
+
 #[test]
 fn args_that_are_wrong(rt: HostRuntime) -> Result<(), Fail> {
-    for (line, part) in WRONG {
+    for &(line, part) in wrong() {
         let answer = answer_to(rt.alloc(), line)?;
         expect_at(&rt, is_wrong(answer.as_str(), part), line);
     }
@@ -493,9 +505,13 @@ const WRONG_TO_WRITE: [(&str, &str); 43] = [
     ("t cat --blocks=8 a /b", "--blocks"),
 ];
 
+fn wrong_to_write() -> &'static [(&'static str, &'static str)] {
+    &WRONG_TO_WRITE
+}
+
 #[test]
 fn args_that_are_wrong_to_write(rt: HostRuntime) -> Result<(), Fail> {
-    for (line, part) in WRONG_TO_WRITE {
+    for &(line, part) in wrong_to_write() {
         let answer = answer_to(rt.alloc(), line)?;
         expect_at(&rt, is_wrong(answer.as_str(), part), line);
     }
@@ -546,9 +562,13 @@ const HELP: [(&str, &str); 24] = [
     ("t --help", "session that writes, P the program"),
 ];
 
+fn help() -> &'static [(&'static str, &'static str)] {
+    &HELP
+}
+
 #[test]
 fn args_that_ask_for_help(rt: HostRuntime) -> Result<(), Fail> {
-    for (line, part) in HELP {
+    for &(line, part) in help() {
         let answer = answer_to(rt.alloc(), line)?;
         expect_at(
             &rt,

@@ -56,9 +56,13 @@ const ASKED: [(&str, &str); 12] = [
     ),
 ];
 
+fn asked() -> &'static [(&'static str, &'static str)] {
+    &ASKED
+}
+
 #[test]
 fn args_that_decompress(rt: HostRuntime) -> Result<(), Fail> {
-    for (line, wanted) in ASKED {
+    for &(line, wanted) in asked() {
         let answer = answer_to(rt.alloc(), line)?;
         equal_at(&rt, answer.as_str(), wanted, line);
     }
@@ -95,9 +99,13 @@ const WRONG: [(&str, &str); 17] = [
     ("t ls --decompress --decompress a.img", "--decompress"),
 ];
 
+fn wrong() -> &'static [(&'static str, &'static str)] {
+    &WRONG
+}
+
 #[test]
 fn args_that_decompress_wrongly(rt: HostRuntime) -> Result<(), Fail> {
-    for (line, part) in WRONG {
+    for &(line, part) in wrong() {
         let answer = answer_to(rt.alloc(), line)?;
         expect_at(&rt, is_wrong(answer.as_str(), part), line);
     }
@@ -117,9 +125,13 @@ const HELP: [(&str, &str); 6] = [
     ("t extract --help", "--decompress"),
 ];
 
+fn help() -> &'static [(&'static str, &'static str)] {
+    &HELP
+}
+
 #[test]
 fn help_on_decompressing(rt: HostRuntime) -> Result<(), Fail> {
-    for (line, part) in HELP {
+    for &(line, part) in help() {
         let answer = answer_to(rt.alloc(), line)?;
         expect_at(
             &rt,

@@ -41,6 +41,10 @@ const LINES: [(&[&str], &str); 18] = [
     (&["t", "check", "--block", "x", "a.img"], "wrong"),
 ];
 
+fn lines() -> &'static [(&'static [&'static str], &'static str)] {
+    &LINES
+}
+
 fn request_name(request: &Request<'_>) -> &'static str {
     match request {
         Request::Scan { .. } => "scan",
@@ -83,7 +87,7 @@ fn asked_name(alloc: Global, words: &[&str]) -> &'static str {
 /// for what they ask for.
 #[test]
 fn refused_growth_is_want_of_memory(rt: HostRuntime) {
-    for (words, want) in LINES {
+    for &(words, want) in lines() {
         let mut first = asked_name(rt.alloc(), words);
         if first == "no memory" {
             first = asked_name(rt.alloc(), words);

@@ -68,9 +68,13 @@ const PACKED: [(&str, &str); 8] = [
     ),
 ];
 
+fn packed() -> &'static [(&'static str, &'static str)] {
+    &PACKED
+}
+
 #[test]
 fn args_that_pack(rt: HostRuntime) -> Result<(), Fail> {
-    for (line, wanted) in PACKED {
+    for &(line, wanted) in packed() {
         let answer = answer_to(rt.alloc(), line)?;
         equal_at(&rt, answer.as_str(), wanted, line);
     }
@@ -113,9 +117,13 @@ const PLACED: [(&str, &str); 8] = [
     ),
 ];
 
+fn placed() -> &'static [(&'static str, &'static str)] {
+    &PLACED
+}
+
 #[test]
 fn args_that_place(rt: HostRuntime) -> Result<(), Fail> {
-    for (line, wanted) in PLACED {
+    for &(line, wanted) in placed() {
         let answer = answer_to(rt.alloc(), line)?;
         equal_at(&rt, answer.as_str(), wanted, line);
     }
@@ -162,9 +170,13 @@ const WRONG: [(&str, &str); 21] = [
     ("t cuts --atomic --blocks 8 a", "--atomic"),
 ];
 
+fn wrong() -> &'static [(&'static str, &'static str)] {
+    &WRONG
+}
+
 #[test]
 fn args_that_pack_wrongly(rt: HostRuntime) -> Result<(), Fail> {
-    for (line, part) in WRONG {
+    for &(line, part) in wrong() {
         let answer = answer_to(rt.alloc(), line)?;
         expect_at(&rt, is_wrong(answer.as_str(), part), line);
     }
@@ -196,9 +208,13 @@ const HELP: [(&str, &str); 9] = [
     ),
 ];
 
+fn help() -> &'static [(&'static str, &'static str)] {
+    &HELP
+}
+
 #[test]
 fn help_on_packing(rt: HostRuntime) -> Result<(), Fail> {
-    for (line, part) in HELP {
+    for &(line, part) in help() {
         let answer = answer_to(rt.alloc(), line)?;
         expect_at(
             &rt,
