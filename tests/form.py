@@ -23,7 +23,6 @@ FUNCTION = re.compile(r"^ *pub fn (\w+)(?:<.*?>)?\((.*?)\)(?: ->|\n| \{|$)", re.
 
 # How many there are in a crate at most, of what is to have none.
 LIMITS = {
-    "jffs2_image": {"arguments": 17, "parameters": 1},
     "jlog": {"arguments": 4, "parameters": 2},
 }
 
