@@ -26,7 +26,6 @@ FUNCTION = re.compile(r"^ *pub fn (\w+)(?:<.*?>)?\((.*?)\)(?: ->|\n| \{|$)", re.
 # How many there are in a crate at most, of what is to have none.
 LIMITS = {
     "jbuild": {"arguments": 1},
-    "jffs2_image": {"arguments": 26, "parameters": 1},
 }
 
 

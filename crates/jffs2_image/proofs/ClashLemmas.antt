@@ -26,12 +26,11 @@ use Rattle.jreport.specs.Notes.{note_line_of}
 use Rattle.jreport.specs.declared.faults.ProgramFault.{ProgramFault}
 use Rattle.jreport.specs.declared.faults.ProgramFault.TheVariants as program
 use Rattle.jffs2_image.specs.ClashRuns.{DecompressesApartFile, DecompressesApartNamed, FinishesApart, HoldsApart, note_if_any}
-use Rattle.jffs2_image.specs.Compressing.{CompressionAsked, FileWrites}
+use Rattle.jffs2_image.specs.Compressing.{CompressionAsked}
 use Rattle.jffs2_image.specs.Decompressing.{HoldsMade, IsNotWritten, fault_of_conversion}
 use Rattle.jffs2_image.specs.Host.{BlamesDecompress, MakesFile}
-use Rattle.jffs2_image.specs.InfoRuns.{FileReads}
 use Rattle.jffs2_image.specs.Runs.{IsSaid, Says, note_after}
-use Rattle.jffs2_image.specs.Writes.{GivesText, Held, IsBehind}
+use Rattle.jffs2_image.specs.Writes.{GivesText, Held, IsBehind, FileReads, FileWrites}
 use Rattle.jffs2_image.specs.declared.clashes.ApartDone.{ApartDone}
 use Rattle.jffs2_image.proofs.HostLemmas.{part_all, same_behind}
 

@@ -17,12 +17,11 @@ use Rattle.jexpand.specs.declared.fault.ConvertFault.{ConvertFault}
 use Rattle.jexpand.specs.declared.fault.ConvertFault.TheVariants as convert
 use Rattle.jreport.specs.declared.faults.ProgramFault.{ProgramFault}
 use Rattle.jreport.specs.declared.faults.ProgramFault.TheVariants as program
-use Rattle.jffs2_image.specs.Compressing.{CompressesFile, CompressesNamed, CompressionAsked, FileWrites, FinishesCompression, GivesPacked, HoldsPacked}
+use Rattle.jffs2_image.specs.Compressing.{CompressesFile, CompressesNamed, CompressionAsked, FinishesCompression, GivesPacked, HoldsPacked}
 use Rattle.jffs2_image.specs.Decompressing.{HoldsMade, IsNotWritten, fault_of_conversion}
 use Rattle.jffs2_image.specs.Host.{BlamesDecompress, MakesFile}
-use Rattle.jffs2_image.specs.InfoRuns.{FileReads}
 use Rattle.jffs2_image.specs.Runs.{Says}
-use Rattle.jffs2_image.specs.Writes.{Held, IsBehind}
+use Rattle.jffs2_image.specs.Writes.{Held, IsBehind, FileReads, FileWrites}
 use Rattle.jffs2_image.proofs.HostLemmas.{part_all, same_behind}
 
 -- ---- what the file that is made was given

@@ -19,8 +19,9 @@ use Rattle.jreport.specs.declared.faults.ProgramFault.TheVariants as program
 use Rattle.jffs2_image.specs.Decompressing.{DecompressesFile, IsNotConverted, IsNotWritten, fault_of_conversion, with_findings}
 use Rattle.jffs2_image.specs.Host.{AreLoaded, AreOf, Blames, BlamesDecompress, GivesFile, IsReadFault, IsRefusedBefore, ReadsFile}
 use Rattle.jffs2_image.specs.Runs.{Meets, RunsListed}
-use Rattle.jffs2_image.specs.Writes.{Held, IsNotedIn, IsUnreadFile}
+use Rattle.jffs2_image.specs.Writes.{Held, IsNotedIn, IsUnreadFile, image_form}
 use Rattle.jffs2_image.proofs.WritingLemmas.{not_scanned}
+use Rattle.jreport.proofs.SinkLemmas.{sink_change}
 
 -- ---- faults of a conversion
 
@@ -76,7 +77,7 @@ conversion_blames T u v e size image read before now convert.OutOfMemory is stil
 
 -- nothing is made of the image
 pub not_decompressed : (held : Held) (e : Endian) (size : ℕ) (output image : List ℕ) (old : Option (List ℕ)) (n : ℕ) (f : ConvertFault)
-    → Converts e size image (Err f) → held.1 ≡ held.0 → DecompressesFile held e size output image old old n n (Err (fault_of_conversion f))
+    → Converts e size image (Err f) → held.1 ≡ held.0 → DecompressesFile held e size output image (sink_change old old n n) (Err (fault_of_conversion f))
 not_decompressed held e size output image old n convert.BlockSize is same = (inl ((convert.BlockSize, refl, is), same), refl, refl)
 not_decompressed held e size output image old n convert.TooLarge is same = (inl ((convert.TooLarge, refl, is), same), refl, refl)
 not_decompressed held e size output image old n (convert.Incompatible addr nodetype) is same = (inl ((convert.Incompatible addr nodetype, refl, is), same), refl, refl)
@@ -91,7 +92,7 @@ not_decompressed held e size output image old n convert.OutOfMemory is same = (i
 
 -- no file is made of it, or not to its end
 pub not_written : (held : Held) (e : Endian) (size : ℕ) (output image made : List ℕ) (old : Option (List ℕ)) (n : ℕ) (f : ProgramFault)
-    → Converts e size image (Ok made) → IsNotWritten held output made f → DecompressesFile held e size output image old old n n (Err f)
+    → Converts e size image (Ok made) → IsNotWritten held output made f → DecompressesFile held e size output image (sink_change old old n n) (Err f)
 not_written held e size output image made old n (program.Load f) is not = absurd not
 not_written held e size output image made old n (program.Scan f) is not = absurd not
 not_written held e size output image made old n (program.Mount f) is not = absurd not
@@ -123,7 +124,7 @@ one_fault {f} is = ap (fault_or f) is
 
 -- `ls`: its file is not read, or nothing is made of it, or the tree of what is made goes out
 pub list_unread : (told : List ℕ → Option (List ℕ)) (held : Held) (e : Endian) (options : Options) (name : List ℕ) (old : Option (List ℕ)) (n : ℕ) (f : ProgramFault)
-    → IsUnreadFile name (told name) f → Meets told held e (ListParsed options true name None) old old n n (Err f)
+    → IsUnreadFile name (told name) f → Meets told held e (ListParsed options true name None) (sink_change old old n n) (Err f)
 list_unread told held e options name old n f not = record {
   block_size = λ is. absurd (subst (IsUnreadFile name (told name)) (one_fault is) not);
   told_of = λ wrong. tt;
@@ -131,7 +132,7 @@ list_unread told held e options name old n f not = record {
 }
 
 pub list_refused : (told : List ℕ → Option (List ℕ)) (held : Held) (e : Endian) (options : Options) (name image : List ℕ) (old : Option (List ℕ)) (n : ℕ) (f : ProgramFault)
-    → AreLoaded (told name) image → IsNotConverted e options.geometry.block image f → Meets told held e (ListParsed options true name None) old old n n (Err f)
+    → AreLoaded (told name) image → IsNotConverted e options.geometry.block image f → Meets told held e (ListParsed options true name None) (sink_change old old n n) (Err f)
 list_refused told held e options name image old n f of not = record {
   block_size = λ is. absurd (no_scan not.0 (sym not.1 ∙ one_fault is));
   told_of = λ wrong. tt;
@@ -139,20 +140,20 @@ list_refused told held e options name image old n f of not = record {
 }
 
 pub list_done : (told : List ℕ → Option (List ℕ)) (held : Held) (e : Endian) (options : Options) (name image made : List ℕ) (old new : Option (List ℕ)) (before now : ℕ) (done : Result ℕ ProgramFault)
-    → AreLoaded (told name) image → Converts e options.geometry.block image (Ok made) → PutsListing (list_request e options.geometry.block None) made old new before now done
-    → Meets told held e (ListParsed options true name None) old new before now (with_findings (found_in e options.geometry.block image).noted done)
+    → AreLoaded (told name) image → Converts e options.geometry.block image (Ok made) → PutsListing (list_request e options.geometry.block None) made (sink_change old new before now) done
+    → Meets told held e (ListParsed options true name None) (sink_change old new before now) (with_findings (found_in e options.geometry.block image).noted done)
 list_done told held e options name image made old new before now done of is puts = record {
-  block_size = λ wrong. absurd ((subst (PutsListing (list_request e options.geometry.block None) made old new before now) (same_fault _ done _ wrong) puts).2.0);
+  block_size = λ wrong. absurd ((subst (PutsListing (list_request e options.geometry.block None) made (sink_change old new before now)) (same_fault _ done _ wrong) puts).2.0);
   told_of = λ wrong. tt;
   put = inl (image, of.0, inl (made, done, is, puts, refl));
 }
 
 -- `ls` of a path
 pub part_unread : (told : List ℕ → Option (List ℕ)) (held : Held) (e : Endian) (options : Options) (name word path : List ℕ) (old : Option (List ℕ)) (n : ℕ) (f : ProgramFault)
-    → path_of word ≡ Some path → IsUnreadFile name (told name) f → Meets told held e (ListParsed options true name (Some word)) old old n n (Err f)
+    → path_of word ≡ Some path → IsUnreadFile name (told name) f → Meets told held e (ListParsed options true name (Some word)) (sink_change old old n n) (Err f)
 part_unread told held e options name word path old n f is not = by f not
   where
-    by : (f : ProgramFault) → IsUnreadFile name (told name) f → Meets told held e (ListParsed options true name (Some word)) old old n n (Err f)
+    by : (f : ProgramFault) → IsUnreadFile name (told name) f → Meets told held e (ListParsed options true name (Some word)) (sink_change old old n n) (Err f)
     by (program.Load f) not = record { block_size = λ wrong. cc; told_of = λ wrong. tt; put = inr (program.Load f, refl, (not, rw is refl), refl, refl) }
     by (program.File file) not = record { block_size = λ wrong. cc; told_of = λ wrong. tt; put = inr (program.File file, refl, (not, rw is refl), refl, refl) }
     by (program.Scan f) not = absurd not
@@ -169,7 +170,7 @@ part_unread told held e options name word path old n f is not = by f not
 
 pub part_refused : (told : List ℕ → Option (List ℕ)) (held : Held) (e : Endian) (options : Options) (name word path image : List ℕ) (old : Option (List ℕ)) (n : ℕ) (f : ProgramFault)
     → path_of word ≡ Some path → AreLoaded (told name) image → IsNotConverted e options.geometry.block image f
-    → Meets told held e (ListParsed options true name (Some word)) old old n n (Err f)
+    → Meets told held e (ListParsed options true name (Some word)) (sink_change old old n n) (Err f)
 part_refused told held e options name word path image old n f path_is of not = record {
   block_size = λ is. absurd (no_scan not.0 (sym not.1 ∙ one_fault is));
   told_of = λ wrong. tt;
@@ -177,10 +178,10 @@ part_refused told held e options name word path image old n f path_is of not = r
 }
 
 pub part_done : (told : List ℕ → Option (List ℕ)) (held : Held) (e : Endian) (options : Options) (name word path image made : List ℕ) (old new : Option (List ℕ)) (before now : ℕ) (done : Result ℕ ProgramFault)
-    → path_of word ≡ Some path → AreLoaded (told name) image → Converts e options.geometry.block image (Ok made) → PutsListing (list_request e options.geometry.block (Some path)) made old new before now done
-    → Meets told held e (ListParsed options true name (Some word)) old new before now (with_findings (found_in e options.geometry.block image).noted done)
+    → path_of word ≡ Some path → AreLoaded (told name) image → Converts e options.geometry.block image (Ok made) → PutsListing (list_request e options.geometry.block (Some path)) made (sink_change old new before now) done
+    → Meets told held e (ListParsed options true name (Some word)) (sink_change old new before now) (with_findings (found_in e options.geometry.block image).noted done)
 part_done told held e options name word path image made old new before now done path_is of is puts = record {
-  block_size = λ wrong. absurd ((subst (PutsListing (list_request e options.geometry.block (Some path)) made old new before now) (same_fault _ done _ wrong) puts).2.0.2);
+  block_size = λ wrong. absurd ((subst (PutsListing (list_request e options.geometry.block (Some path)) made (sink_change old new before now)) (same_fault _ done _ wrong) puts).2.0.2);
   told_of = λ wrong. tt;
   put = inl (image, of.0, (path, path_is, inl (made, done, is, puts, refl)));
 }
@@ -193,22 +194,22 @@ given (Some known) (Some bytes) image gives is = let same : bytes ≡ known = cc
 
 pub part_listed : (told : List ℕ → Option (List ℕ)) (held : Held) (e : Endian) (options : Options) (name word path : List ℕ) (rest : Option (List ℕ)) (d : Bool) (old new : Option (List ℕ)) (before now : ℕ) (answer : Result ℕ ProgramFault)
     → d ≡ false → path_of word ≡ Some path → GivesFile (told name) rest
-    → OfSomeImage rest (λ image. PutsListing (list_request e options.geometry.block (Some path)) image old new before now answer)
-    → Meets told held e (ListParsed options d name (Some word)) old new before now answer
+    → OfSomeImage rest (λ image. PutsListing (list_request e options.geometry.block (Some path)) image (sink_change old new before now) answer)
+    → Meets told held e (ListParsed options d name (Some word)) (sink_change old new before now) answer
 part_listed told held e options name word path rest d old new before now answer plain is gives puts =
-    let meets : Meets told held e (ListParsed options false name (Some word)) old new before now answer = record {
-      block_size = λ wrong. absurd ((subst (PutsListing (list_request e options.geometry.block (Some path)) puts.0 old new before now) wrong puts.2).2.0.2);
+    let meets : Meets told held e (ListParsed options false name (Some word)) (sink_change old new before now) answer = record {
+      block_size = λ wrong. absurd ((subst (PutsListing (list_request e options.geometry.block (Some path)) puts.0 (sink_change old new before now)) wrong puts.2).2.0.2);
       told_of = λ wrong. tt;
       put = inl (puts.0, given (told name) rest puts.0 gives puts.1, (path, is, puts.2));
     } in
-    subst (λ (b : Bool). Meets told held e (ListParsed options b name (Some word)) old new before now answer) (sym plain) meets
+    subst (λ (b : Bool). Meets told held e (ListParsed options b name (Some word)) (sink_change old new before now) answer) (sym plain) meets
 
 -- `cat`, of a path
 pub cat_unread : (told : List ℕ → Option (List ℕ)) (held : Held) (e : Endian) (options : Options) (name word path : List ℕ) (old : Option (List ℕ)) (n : ℕ) (f : ProgramFault)
-    → path_of word ≡ Some path → IsUnreadFile name (told name) f → Meets told held e (CatParsed options true name word) old old n n (Err f)
+    → path_of word ≡ Some path → IsUnreadFile name (told name) f → Meets told held e (CatParsed options true name word) (sink_change old old n n) (Err f)
 cat_unread told held e options name word path old n f is not = by f not
   where
-    by : (f : ProgramFault) → IsUnreadFile name (told name) f → Meets told held e (CatParsed options true name word) old old n n (Err f)
+    by : (f : ProgramFault) → IsUnreadFile name (told name) f → Meets told held e (CatParsed options true name word) (sink_change old old n n) (Err f)
     by (program.Load f) not = record { block_size = λ wrong. cc; told_of = λ wrong. tt; put = inr (program.Load f, refl, (not, rw is refl), refl, refl) }
     by (program.File file) not = record { block_size = λ wrong. cc; told_of = λ wrong. tt; put = inr (program.File file, refl, (not, rw is refl), refl, refl) }
     by (program.Scan f) not = absurd not
@@ -225,7 +226,7 @@ cat_unread told held e options name word path old n f is not = by f not
 
 pub cat_refused : (told : List ℕ → Option (List ℕ)) (held : Held) (e : Endian) (options : Options) (name word path image : List ℕ) (old : Option (List ℕ)) (n : ℕ) (f : ProgramFault)
     → path_of word ≡ Some path → AreLoaded (told name) image → IsNotConverted e options.geometry.block image f
-    → Meets told held e (CatParsed options true name word) old old n n (Err f)
+    → Meets told held e (CatParsed options true name word) (sink_change old old n n) (Err f)
 cat_refused told held e options name word path image old n f path_is of not = record {
   block_size = λ is. absurd (no_scan not.0 (sym not.1 ∙ one_fault is));
   told_of = λ wrong. tt;
@@ -233,17 +234,17 @@ cat_refused told held e options name word path image old n f path_is of not = re
 }
 
 pub cat_done : (told : List ℕ → Option (List ℕ)) (held : Held) (e : Endian) (options : Options) (name word path image made : List ℕ) (old new : Option (List ℕ)) (before now : ℕ) (done : Result ℕ ProgramFault)
-    → path_of word ≡ Some path → AreLoaded (told name) image → Converts e options.geometry.block image (Ok made) → PutsFile e options.geometry.block made path old new before now done
-    → Meets told held e (CatParsed options true name word) old new before now (with_findings (found_in e options.geometry.block image).noted done)
+    → path_of word ≡ Some path → AreLoaded (told name) image → Converts e options.geometry.block image (Ok made) → PutsFile e options.geometry.block made path (sink_change old new before now) done
+    → Meets told held e (CatParsed options true name word) (sink_change old new before now) (with_findings (found_in e options.geometry.block image).noted done)
 cat_done told held e options name word path image made old new before now done path_is of is puts = record {
-  block_size = λ wrong. absurd ((subst (PutsFile e options.geometry.block made path old new before now) (same_fault _ done _ wrong) puts).2.0.0);
+  block_size = λ wrong. absurd ((subst (PutsFile e options.geometry.block made path (sink_change old new before now)) (same_fault _ done _ wrong) puts).2.0.0);
   told_of = λ wrong. tt;
   put = inl (image, of.0, (path, path_is, inl (made, done, is, puts, refl)));
 }
 
 -- `append`: its image is not read, or nothing is made of it, or its listing is not read, or the operations are run on what is made
 pub append_unread : (told : List ℕ → Option (List ℕ)) (held : Held) (page : Page) (e : Endian) (options : Options) (blocks : ℕ) (name listing output : List ℕ) (old : Option (List ℕ)) (n : ℕ) (f : ProgramFault)
-    → IsUnreadFile name (told name) f → Meets told held e (AppendParsed options blocks page true name listing output) old old n n (Err f)
+    → IsUnreadFile name (told name) f → Meets told held e (AppendParsed options blocks page true name listing output) (sink_change old old n n) (Err f)
 append_unread told held page e options blocks name listing output old n f not = record {
   block_size = λ is. absurd (subst (IsUnreadFile name (told name)) (one_fault is) not);
   told_of = λ wrong. tt;
@@ -252,7 +253,7 @@ append_unread told held page e options blocks name listing output old n f not = 
 
 pub append_refused : (told : List ℕ → Option (List ℕ)) (held : Held) (page : Page) (e : Endian) (options : Options) (blocks : ℕ) (name listing output image : List ℕ) (old : Option (List ℕ)) (n : ℕ) (f : ProgramFault)
     → AreLoaded (told name) image → IsNotConverted e options.geometry.block image f
-    → Meets told held e (AppendParsed options blocks page true name listing output) old old n n (Err f)
+    → Meets told held e (AppendParsed options blocks page true name listing output) (sink_change old old n n) (Err f)
 append_refused told held page e options blocks name listing output image old n f of not = record {
   block_size = λ is. absurd (no_scan not.0 (sym not.1 ∙ one_fault is));
   told_of = λ wrong. tt;
@@ -261,7 +262,7 @@ append_refused told held page e options blocks name listing output image old n f
 
 pub append_unlisted : (told : List ℕ → Option (List ℕ)) (held : Held) (page : Page) (e : Endian) (options : Options) (blocks : ℕ) (name listing output image made : List ℕ) (old : Option (List ℕ)) (n : ℕ) (f : ProgramFault)
     → AreLoaded (told name) image → Converts e options.geometry.block image (Ok made) → IsUnreadFile listing (told listing) f
-    → Meets told held e (AppendParsed options blocks page true name listing output) old old n n (Err f)
+    → Meets told held e (AppendParsed options blocks page true name listing output) (sink_change old old n n) (Err f)
 append_unlisted told held page e options blocks name listing output image made old n f of is not = record {
   block_size = λ wrong. absurd (subst (IsUnreadFile listing (told listing)) (one_fault wrong) not);
   told_of = λ wrong. tt;
@@ -269,9 +270,9 @@ append_unlisted told held page e options blocks name listing output image made o
 }
 
 pub append_done : (told : List ℕ → Option (List ℕ)) (held : Held) (page : Page) (e : Endian) (options : Options) (blocks : ℕ) (name listing output image made : List ℕ) (old new : Option (List ℕ)) (before now : ℕ) (done : Result ℕ ProgramFault)
-    → AreLoaded (told name) image → Converts e options.geometry.block image (Ok made) → RunsListed told held page e options.geometry.block blocks listing output made old new before now done
+    → AreLoaded (told name) image → Converts e options.geometry.block image (Ok made) → RunsListed told held (image_form page e options.geometry.block blocks) listing output made (sink_change old new before now) done
     → IfOk done (IsNotedIn e options.geometry.block made)
-    → Meets told held e (AppendParsed options blocks page true name listing output) old new before now (with_findings (found_in e options.geometry.block image).noted done)
+    → Meets told held e (AppendParsed options blocks page true name listing output) (sink_change old new before now) (with_findings (found_in e options.geometry.block image).noted done)
 append_done told held page e options blocks name listing output image made old new before now done of is runs noted = record {
   block_size = λ wrong. not_scanned told held page e options.geometry.block blocks listing output made old new before now done runs (same_fault _ done _ wrong);
   told_of = λ wrong. tt;
@@ -280,7 +281,7 @@ append_done told held page e options blocks name listing output image made old n
 
 -- `decompress`
 pub decompress_unread : (told : List ℕ → Option (List ℕ)) (held : Held) (e : Endian) (options : Options) (name output : List ℕ) (old : Option (List ℕ)) (n : ℕ) (f : ProgramFault)
-    → IsUnreadFile name (told name) f → Meets told held e (DecompressParsed options name output) old old n n (Err f)
+    → IsUnreadFile name (told name) f → Meets told held e (DecompressParsed options name output) (sink_change old old n n) (Err f)
 decompress_unread told held e options name output old n f not = record {
   block_size = λ is. absurd (subst (IsUnreadFile name (told name)) (one_fault is) not);
   told_of = λ wrong. tt;
@@ -288,16 +289,16 @@ decompress_unread told held e options name output old n f not = record {
 }
 
 no_scan_made : (held : Held) (e : Endian) (size : ℕ) (output image : List ℕ) (old new : Option (List ℕ)) (before now : ℕ)
-    → DecompressesFile held e size output image old new before now (Err (program.Scan scan.BlockSize)) → ⊥
+    → DecompressesFile held e size output image (sink_change old new before now) (Err (program.Scan scan.BlockSize)) → ⊥
 no_scan_made held e size output image old new before now (inl not, same, still) = no_scan not.0.0 (sym not.0.1)
 no_scan_made held e size output image old new before now (inr not, same, still) = not.2
 
 pub decompress_done : (told : List ℕ → Option (List ℕ)) (held : Held) (e : Endian) (options : Options) (name output image : List ℕ) (old new : Option (List ℕ)) (before now : ℕ) (done : Result ℕ ProgramFault)
-    → AreLoaded (told name) image → DecompressesFile held e options.geometry.block output image old new before now done
-    → Meets told held e (DecompressParsed options name output) old new before now done
+    → AreLoaded (told name) image → DecompressesFile held e options.geometry.block output image (sink_change old new before now) done
+    → Meets told held e (DecompressParsed options name output) (sink_change old new before now) done
 decompress_done told held e options name output image old new before now done of made = record {
   block_size = λ wrong. absurd (no_scan_made held e options.geometry.block output image old new before now
-      (subst (DecompressesFile held e options.geometry.block output image old new before now) wrong made));
+      (subst (DecompressesFile held e options.geometry.block output image (sink_change old new before now)) wrong made));
   told_of = λ wrong. tt;
   put = inl (image, of, made);
 }
@@ -362,14 +363,14 @@ decompress_any T u v rb rn mb mn (program.NoSpace folder) blames = blames
 decompress_any T u v rb rn mb mn (program.Data addr) blames = blames
 decompress_any T u v rb rn mb mn (program.TooLong addr) blames = blames
 
-pub refused_any : (T : Type 0) (d : Bool) (e : Endian) (size : ℕ) (told : Option (List ℕ)) (u : Type 0) (rb rn : ℕ) (f : ProgramFault)
-    → IsRefusedBefore {T = ℕ} d e size told u rb rn (Err f) → IsRefusedBefore {T = T} d e size told u rb rn (Err f)
-refused_any T false e size told u rb rn f refused = refused
-refused_any T true e size told u rb rn f (image, fault, of, not, is, still, same) = (image, fault, of, not, ap (λ (x : ProgramFault). Err x) (one_fault is), still, same)
+pub refused_any : (T : Type 0) (d : Bool) (e : Endian) (size : ℕ) (told : Option (List ℕ)) (u : Type 0) (f : ProgramFault)
+    → IsRefusedBefore {T = ℕ} d e size told u (Err f) → IsRefusedBefore {T = T} d e size told u (Err f)
+refused_any T false e size told u f refused = refused
+refused_any T true e size told u f (image, fault, of, not, is, still) = (image, fault, of, not, ap (λ (x : ProgramFault). Err x) (one_fault is), still)
 
-pub refused_none : (T : Type 0) (d : Bool) (e : Endian) (size : ℕ) (told : Option (List ℕ)) (u : Type 0) (rb rn : ℕ) (x : T) → IsRefusedBefore {T = T} d e size told u rb rn (Ok x) → ⊥
-refused_none T false e size told u rb rn x refused = refused
-refused_none T true e size told u rb rn x (image, fault, of, not, is, still, same) = cc
+pub refused_none : (T : Type 0) (d : Bool) (e : Endian) (size : ℕ) (told : Option (List ℕ)) (u : Type 0) (x : T) → IsRefusedBefore {T = T} d e size told u (Ok x) → ⊥
+refused_none T false e size told u x refused = refused
+refused_none T true e size told u x (image, fault, of, not, is, still) = cc
 
 -- nor is the number of findings
 pub blames_findings : (u v : Type 0) (rb rn mb mn n : ℕ) (done : Result ℕ ProgramFault) → Blames u v rb rn mb mn done → Blames u v rb rn mb mn (with_findings n done)

@@ -12,9 +12,9 @@ use Rattle.jreport.specs.declared.findings.Found.{Found}
 use Rattle.jffs2_image.specs.Decompressing.{IsTaken}
 use Rattle.jffs2_image.specs.Folders.{Extracting, ExtractsBytes, ExtractsTaken, ExtractsTree, FillsAsked, FillsFolder, Filling, IsPathRead}
 use Rattle.jextract.specs.Folders.{Failures, Made}
-use Rattle.jffs2_image.specs.InfoRuns.{FileReads}
 use Rattle.jffs2_image.specs.declared.decompressing.Taken.{Taken}
 use Rattle.jffs2_image.specs.declared.folders.Extracted.{Extracted}
+use Rattle.jffs2_image.specs.Writes.{FileReads}
 
 -- what was extracted, with what was found elsewhere
 abbrev pub with_counts : Extracted → Found → Extracted

@@ -34,13 +34,14 @@ use Rattle.jreport.specs.declared.cause.Cause.{Cause}
 use Rattle.jreport.specs.declared.faults.ProgramFault.{ProgramFault}
 use Rattle.jreport.specs.declared.faults.ProgramFault.TheVariants as program
 use Rattle.jffs2_image.specs.Host.{AreAllLoaded, AreAllRead, AreLoaded, AreOf, AreRead, Blames, BlamesMaker, HasFailed, HaveBytes, IsCutShort, IsHandedBack, IsMadeUntil, IsMakeFault, IsReadFault, Leaves, RunsFiles}
-use Rattle.jffs2_image.specs.Writes.{GivesCut, GivesPart, Held, HoldsCut, HoldsFront, HoldsPart, IsBehind, IsGivenOn, IsHanded, IsMade, IsNotMade, IsPartUnread, IsPut, IsUnreadFile}
+use Rattle.jffs2_image.specs.Writes.{GivesCut, GivesPart, Held, HoldsCut, HoldsFront, HoldsPart, IsBehind, IsGivenOn, IsHanded, IsMade, IsNotMade, IsPartUnread, IsPut, IsUnreadFile, image_form}
+use Rattle.jreport.proofs.SinkLemmas.{sink_change}
 
 -- ---- the file that is made
 
 -- no file was made, or not to its end
 pub make_fault : (page : Page) (e : Endian) (size blocks : ℕ) (m : Mount) (output : List ℕ) (from : ℕ) (u v same : Type 0) (before now : ℕ) (f : ProgramFault)
-    → resumes_by page e size blocks m ≡ Ok from → IsNotMade page e size blocks m output f → IsMakeFault before now f → Leaves v same f → BlamesMaker {T = ℕ} u v before now (Err f)
+    → resumes_by page e size blocks m ≡ Ok from → IsNotMade (image_form page e size blocks) m output f → IsMakeFault before now f → Leaves v same f → BlamesMaker {T = ℕ} u v before now (Err f)
 make_fault page e size blocks m output from u v same before now (program.Load f) on not made left = absurd not
 make_fault page e size blocks m output from u v same before now (program.Scan f) on not made left = absurd not
 make_fault page e size blocks m output from u v same before now (program.Mount f) on not made left = absurd not
@@ -77,7 +78,7 @@ resume_fault page e size blocks m u v before now f line cause is still = by m.re
 
 -- a run on it stopped
 pub run_fault : (held : Held) (page : Page) (e : Endian) (size blocks : ℕ) (m : Mount) (ops : List Op) (accepted : ℕ) (places : List Place) (u v : Type 0) (before now : ℕ) (f : SessionFault) (line : Option ℕ) (cause : Cause)
-    → IsMade held page e size blocks m ops accepted places (Some f) → IsMadeUntil before now (Some f) → v → BlamesMaker {T = ℕ} u v before now (Err (program.Session f line cause))
+    → IsMade held (image_form page e size blocks) m ops accepted places (Some f) → IsMadeUntil before now (Some f) → v → BlamesMaker {T = ℕ} u v before now (Err (program.Session f line cause))
 run_fault held page e size blocks m ops accepted places u v before now session.ReadOnly line cause made until left = absurd (made.put.emitted.runs.stop)
 run_fault held page e size blocks m ops accepted places u v before now session.Geometry line cause made until left = absurd (made.put.emitted.runs.stop)
 run_fault held page e size blocks m ops accepted places u v before now session.Sink line cause made until left = (until, left)
@@ -213,7 +214,7 @@ all_read told lines n parts was all = λ name named.
 
 -- the line tells the length of what went out for them
 tells_on_base : (held : Held) (page : Page) (e : Endian) (size blocks : ℕ) (base : List ℕ) (ops : List Op) (m : Mount) (accepted : ℕ) (places : List Place) → m.image ≡ base
-    → IsMade held page e size blocks m ops accepted places None → TellsLength page e size blocks base ops accepted places
+    → IsMade held (image_form page e size blocks) m ops accepted places None → TellsLength page e size blocks base ops accepted places
 tells_on_base held page e size blocks base ops m accepted places same made = subst (λ (image : List ℕ). TellsLength page e size blocks image ops accepted places) same
     (line_tells_length page e size blocks m.image ops accepted places _ (goes_on_flash page e size blocks m made.put.resumes) made.put.emitted)
 
@@ -223,8 +224,8 @@ have_bytes told lines parts are = λ name named. (are name named).1
 
 pub files_of_all : (told : List ℕ → Option (List ℕ)) (held : Held) (page : Page) (e : Endian) (size blocks : ℕ) (base text : List ℕ) (lines : List Line) (parts : Parts) (m : Mount) (accepted : ℕ) (places : List Place) (from : ℕ)
     (old new : Option (List ℕ)) (x : ℕ) → m.image ≡ base → from ≡ resume_address e size blocks base → AreRead told lines parts → lines_of text ≡ Ok lines → Answers e size base (Ok m)
-    → IsMade held page e size blocks m (ops_in e (part_contents parts) lines) accepted places None → Appends old new (accepted_line from accepted places)
-    → RunsFiles {T = ℕ} told held page e size blocks base text old new (Ok x)
+    → IsMade held (image_form page e size blocks) m (ops_in e (part_contents parts) lines) accepted places None → Appends old new (accepted_line from accepted places)
+    → RunsFiles told held (image_form page e size blocks) base text old new (Ok x)
 files_of_all told held page e size blocks base text lines parts m accepted places from old new x same is are read mounts made put = (
   lines,
   accepted,
@@ -237,11 +238,11 @@ files_of_all told held page e size blocks base text lines parts m accepted place
 
 pub files_in_part : (told : List ℕ → Option (List ℕ)) (held : Held) (page : Page) (e : Endian) (size blocks : ℕ) (base text : List ℕ) (lines : List Line) (parts : Parts) (m : Mount) (accepted : ℕ) (places : List Place) (from : ℕ)
     (old new : Option (List ℕ)) (r : Result ℕ ProgramFault) → IsErrAnd r (λ is. is ≡ program.Output) → from ≡ resume_address e size blocks base → AreRead told lines parts → lines_of text ≡ Ok lines
-    → Answers e size base (Ok m) → IsMade held page e size blocks m (ops_in e (part_contents parts) lines) accepted places None → PutsPart old new (accepted_line from accepted places)
-    → RunsFiles {T = ℕ} told held page e size blocks base text old new r
+    → Answers e size base (Ok m) → IsMade held (image_form page e size blocks) m (ops_in e (part_contents parts) lines) accepted places None → PutsPart old new (accepted_line from accepted places)
+    → RunsFiles told held (image_form page e size blocks) base text old new r
 files_in_part told held page e size blocks base text lines parts m accepted places from old new (Ok x) fault is are read mounts made put = absurd fault
 files_in_part told held page e size blocks base text lines parts m accepted places from old new (Err f) fault is are read mounts made put =
-    subst (λ (z : ProgramFault). RunsFiles {T = ℕ} told held page e size blocks base text old new (Err z)) (sym fault) (
+    subst (λ (z : ProgramFault). RunsFiles told held (image_form page e size blocks) base text old new (Err z)) (sym fault) (
       lines,
       accepted,
       places,
@@ -251,10 +252,10 @@ files_in_part told held page e size blocks base text lines parts m accepted plac
     )
 
 cut_short : (told : List ℕ → Option (List ℕ)) (held : Held) (page : Page) (e : Endian) (size blocks : ℕ) (base text : List ℕ) (lines : List Line) (parts : Parts) (m : Mount)
-    → m.image ≡ base → AreRead told lines parts → lines_of text ≡ Ok lines → HoldsPart held page e size blocks m.image (ops_in e (part_contents parts) lines)
-    → IsCutShort told held page e size blocks base text
+    → m.image ≡ base → AreRead told lines parts → lines_of text ≡ Ok lines → HoldsPart held (image_form page e size blocks) m.image (ops_in e (part_contents parts) lines)
+    → IsCutShort told held (image_form page e size blocks) base text
 cut_short told held page e size blocks base text lines parts m same are read holds =
-    (lines, part_contents parts, read, have_bytes told lines parts are, subst (λ (image : List ℕ). HoldsPart held page e size blocks image (ops_in e (part_contents parts) lines)) same holds)
+    (lines, part_contents parts, read, have_bytes told lines parts are, subst (λ (image : List ℕ). HoldsPart held (image_form page e size blocks) image (ops_in e (part_contents parts) lines)) same holds)
 
 -- an operation that stopped a run is that of a line
 no_line : (e : Endian) (files : List ℕ → List ℕ) (lines : List Line) (n : ℕ) (o : Op) → slice_get (ops_in e files lines) n ≡ Some o → None ≡ option_map (λ l. l.number) (slice_get lines n) → ⊥
@@ -266,8 +267,8 @@ no_line e files lines n o at none = by (slice_get lines n) (sym (slice_get-map (
 
 pub files_until : (told : List ℕ → Option (List ℕ)) (held : Held) (page : Page) (e : Endian) (size blocks : ℕ) (base text : List ℕ) (lines : List Line) (parts : Parts) (m : Mount) (accepted : ℕ) (places : List Place)
     (old new : Option (List ℕ)) (f : SessionFault) (line : Option ℕ) (cause : Cause) → line ≡ option_map (λ l. l.number) (slice_get lines accepted) → AreRead told lines parts → lines_of text ≡ Ok lines
-    → Answers e size base (Ok m) → IsMade held page e size blocks m (ops_in e (part_contents parts) lines) accepted places (Some f)
-    → RunsFiles {T = ℕ} told held page e size blocks base text old new (Err (program.Session f line cause))
+    → Answers e size base (Ok m) → IsMade held (image_form page e size blocks) m (ops_in e (part_contents parts) lines) accepted places (Some f)
+    → RunsFiles told held (image_form page e size blocks) base text old new (Err (program.Session f line cause))
 files_until told held page e size blocks base text lines parts m accepted places old new f None cause is are read mounts made =
     absurd (no_line e (part_contents parts) lines accepted made.put.emitted.runs.op made.put.emitted.runs.next is)
 files_until told held page e size blocks base text lines parts m accepted places old new f (Some n) cause is are read mounts made =
@@ -278,43 +279,43 @@ all_of_text told lines parts text are read = (lines, part_contents parts, read, 
 
 -- a fault of the base
 pub files_not_mounted : (told : List ℕ → Option (List ℕ)) (held : Held) (page : Page) (e : Endian) (size blocks : ℕ) (base text : List ℕ) (lines : List Line) (parts : Parts) (old new : Option (List ℕ)) (f : MountFault) (r : Result ℕ ProgramFault)
-    → IsErrAnd r (λ is. is ≡ program.Mount f) → AreRead told lines parts → lines_of text ≡ Ok lines → RunsFiles {T = ℕ} told held page e size blocks base text old new r
+    → IsErrAnd r (λ is. is ≡ program.Mount f) → AreRead told lines parts → lines_of text ≡ Ok lines → RunsFiles told held (image_form page e size blocks) base text old new r
 files_not_mounted told held page e size blocks base text lines parts old new f (Ok x) fault are read = absurd fault
 files_not_mounted told held page e size blocks base text lines parts old new f (Err g) fault are read =
-    subst (λ (z : ProgramFault). RunsFiles {T = ℕ} told held page e size blocks base text old new (Err z)) (sym fault) (all_of_text told lines parts text are read)
+    subst (λ (z : ProgramFault). RunsFiles told held (image_form page e size blocks) base text old new (Err z)) (sym fault) (all_of_text told lines parts text are read)
 
 pub files_not_resumed : (told : List ℕ → Option (List ℕ)) (held : Held) (page : Page) (e : Endian) (size blocks : ℕ) (base text : List ℕ) (lines : List Line) (parts : Parts) (m : Mount) (old new : Option (List ℕ)) (f : SessionFault) (cause : Cause) (r : Result ℕ ProgramFault)
-    → resumes_by page e size blocks m ≡ Err f → IsErrAnd r (λ is. is ≡ program.Session f None cause) → AreRead told lines parts → lines_of text ≡ Ok lines → RunsFiles {T = ℕ} told held page e size blocks base text old new r
+    → resumes_by page e size blocks m ≡ Err f → IsErrAnd r (λ is. is ≡ program.Session f None cause) → AreRead told lines parts → lines_of text ≡ Ok lines → RunsFiles told held (image_form page e size blocks) base text old new r
 files_not_resumed told held page e size blocks base text lines parts m old new f cause (Ok x) is fault are read = absurd fault
 files_not_resumed told held page e size blocks base text lines parts m old new f cause (Err g) is fault are read =
-    subst (λ (z : ProgramFault). RunsFiles {T = ℕ} told held page e size blocks base text old new (Err z)) (sym fault)
+    subst (λ (z : ProgramFault). RunsFiles told held (image_form page e size blocks) base text old new (Err z)) (sym fault)
     (by m.read_only (is_flash_of size blocks m.image && page_fits size page) is)
   where
     by : (b c : Bool) → (if b then Err session.ReadOnly else (if c then Ok (resume_address e size blocks m.image) else Err session.Geometry)) ≡ Err f
-        → RunsFiles {T = ℕ} told held page e size blocks base text old new (Err (program.Session f None cause))
+        → RunsFiles told held (image_form page e size blocks) base text old new (Err (program.Session f None cause))
     by true c same = let is : session.ReadOnly ≡ f = cc in
-        subst (λ (z : SessionFault). RunsFiles {T = ℕ} told held page e size blocks base text old new (Err (program.Session z None cause))) is (all_of_text told lines parts text are read)
+        subst (λ (z : SessionFault). RunsFiles told held (image_form page e size blocks) base text old new (Err (program.Session z None cause))) is (all_of_text told lines parts text are read)
     by false true same = cc
     by false false same = let is : session.Geometry ≡ f = cc in
-        subst (λ (z : SessionFault). RunsFiles {T = ℕ} told held page e size blocks base text old new (Err (program.Session z None cause))) is (all_of_text told lines parts text are read)
+        subst (λ (z : SessionFault). RunsFiles told held (image_form page e size blocks) base text old new (Err (program.Session z None cause))) is (all_of_text told lines parts text are read)
 
 -- no fault of making is one of a line
 pub files_not_made : (told : List ℕ → Option (List ℕ)) (held : Held) (page : Page) (e : Endian) (size blocks : ℕ) (output base text : List ℕ) (lines : List Line) (parts : Parts) (m : Mount) (old new : Option (List ℕ)) (f : ProgramFault) (r : Result ℕ ProgramFault)
-    → IsErrAnd r (λ is. is ≡ f) → m.image ≡ base → AreRead told lines parts → lines_of text ≡ Ok lines → IsNotMade page e size blocks m output f
-    → HoldsCut held page e size blocks m.image (ops_in e (part_contents parts) lines) f → RunsFiles {T = ℕ} told held page e size blocks base text old new r
+    → IsErrAnd r (λ is. is ≡ f) → m.image ≡ base → AreRead told lines parts → lines_of text ≡ Ok lines → IsNotMade (image_form page e size blocks) m output f
+    → HoldsCut held (image_form page e size blocks) m.image (ops_in e (part_contents parts) lines) f → RunsFiles told held (image_form page e size blocks) base text old new r
 files_not_made told held page e size blocks output base text lines parts m old new f (Ok x) fault same are read not cut = absurd fault
 files_not_made told held page e size blocks output base text lines parts m old new f (Err g) fault same are read not cut =
-    subst (λ (z : ProgramFault). RunsFiles {T = ℕ} told held page e size blocks base text old new (Err z)) (sym fault) (by f not cut)
+    subst (λ (z : ProgramFault). RunsFiles told held (image_form page e size blocks) base text old new (Err z)) (sym fault) (by f not cut)
   where
-    by : (f : ProgramFault) → IsNotMade page e size blocks m output f → HoldsCut held page e size blocks m.image (ops_in e (part_contents parts) lines) f
-        → RunsFiles {T = ℕ} told held page e size blocks base text old new (Err f)
+    by : (f : ProgramFault) → IsNotMade (image_form page e size blocks) m output f → HoldsCut held (image_form page e size blocks) m.image (ops_in e (part_contents parts) lines) f
+        → RunsFiles told held (image_form page e size blocks) base text old new (Err f)
     by (program.Load f) not cut = absurd not
     by (program.Scan f) not cut = tt
     by (program.Mount f) not cut = absurd not
     by (program.File name) not cut = cut
     by (program.Listing k) not cut = tt
     by (program.Session session.Sink None cause) not cut = cut_short told held page e size blocks base text lines parts m same are read cut
-    by (program.Session session.OutOfMemory None cause) not cut = (all_of_text told lines parts text are read, subst (λ (image : List ℕ). HoldsFront held e size blocks image) same cut)
+    by (program.Session session.OutOfMemory None cause) not cut = (all_of_text told lines parts text are read, subst (λ (image : List ℕ). HoldsFront held (image_form page e size blocks) image) same cut)
     by (program.Session session.ReadOnly None cause) not cut = all_of_text told lines parts text are read
     by (program.Session session.Geometry None cause) not cut = all_of_text told lines parts text are read
     by (program.Session (session.Refused f) None cause) not cut = tt
@@ -366,7 +367,7 @@ given_on_part stopped mid taken given before now is kept part same =
 
 -- how often it failed
 pub put_until : (page : Page) (e : Endian) (size blocks : ℕ) (m : Mount) (ops : List Op) (accepted : ℕ) (places : List Place) (stopped : Option SessionFault) (old given : Option (List ℕ)) (before now : ℕ)
-    → IsPut page e size blocks m ops accepted places stopped old given before now → IsMadeUntil before now stopped
+    → IsPut (image_form page e size blocks) m ops accepted places stopped (sink_change old given before now) → IsMadeUntil before now stopped
 put_until page e size blocks m ops accepted places None old given before now put = put.given_on.1 ∙ put.emitted.runs.3
 put_until page e size blocks m ops accepted places (Some session.Sink) old given before now put = by put.given_on
   where
@@ -385,13 +386,13 @@ put_until page e size blocks m ops accepted places (Some session.Broken) old giv
 
 -- where operations were run
 pub part_of_run : (page : Page) (e : Endian) (size blocks : ℕ) (base : List ℕ) (ops : List Op) (accepted : ℕ) (places : List Place) (stopped : Option SessionFault) (old mid taken given : Option (List ℕ)) (before now : ℕ)
-    → stopped ≢ Some session.Sink → IsEmitted page e size blocks base ops accepted places stopped (record { old = old; new = mid; before = before; now = now }) → Keeps mid taken → IsBehind given taken → GivesPart page e size blocks base ops old given
+    → stopped ≢ Some session.Sink → IsEmitted page e size blocks base ops accepted places stopped (record { old = old; new = mid; before = before; now = now }) → Keeps mid taken → IsBehind given taken → GivesPart (image_form page e size blocks) base ops old given
 part_of_run page e size blocks base ops accepted places stopped old mid taken given before now other emitted kept part =
     (mid, inr (accepted, places, stopped, before, now, other, emitted), same_behind given mid taken kept part)
 
 -- and where none was
 pub part_of_front : (page : Page) (e : Endian) (size blocks : ℕ) (m : Mount) (ops : List Op) (old mid taken given : Option (List ℕ)) (before now : ℕ) (f : SessionFault)
-    → IsNotEmitted page e size blocks m (record { old = old; new = mid; before = before; now = now }) f → Keeps mid taken → IsBehind given taken → GivesCut f page e size blocks m.image ops old given
+    → IsNotEmitted page e size blocks m (record { old = old; new = mid; before = before; now = now }) f → Keeps mid taken → IsBehind given taken → GivesCut f (image_form page e size blocks) m.image ops old given
 part_of_front page e size blocks m ops old mid taken given before now session.Sink not kept part = (mid, inl not.1, same_behind given mid taken kept part)
 part_of_front page e size blocks m ops old mid taken given before now session.OutOfMemory not kept part =
     (mid, not.1, same_behind given mid taken kept part)
@@ -405,7 +406,7 @@ part_of_front page e size blocks m ops old mid taken given before now session.Br
 
 -- it is what the file holds
 pub cut_part : (held : Held) (page : Page) (e : Endian) (size blocks : ℕ) (base : List ℕ) (ops : List Op) (old given : Option (List ℕ)) (f : SessionFault) (cause : Cause)
-    → GivesCut f page e size blocks base ops old given → IsHanded held old given → HoldsCut held page e size blocks base ops (program.Session f None cause)
+    → GivesCut f (image_form page e size blocks) base ops old given → IsHanded held old given → HoldsCut held (image_form page e size blocks) base ops (program.Session f None cause)
 cut_part held page e size blocks base ops old given session.Sink cause part handed = (old, given, part, handed)
 cut_part held page e size blocks base ops old given session.OutOfMemory cause part handed = (old, given, part, handed)
 cut_part held page e size blocks base ops old given session.ReadOnly cause part handed = tt
@@ -416,7 +417,7 @@ cut_part held page e size blocks base ops old given session.Broken cause part ha
 
 -- it is handed back
 pub cut_gone : (held : Held) (page : Page) (e : Endian) (size blocks : ℕ) (base : List ℕ) (ops : List Op) (before : ℕ) (f : SessionFault) (cause : Cause)
-    → IsHandedBack before f None → HoldsCut held page e size blocks base ops (program.Session f None cause)
+    → IsHandedBack before f None → HoldsCut held (image_form page e size blocks) base ops (program.Session f None cause)
 cut_gone held page e size blocks base ops before session.Sink cause back = absurd back
 cut_gone held page e size blocks base ops before session.OutOfMemory cause back = absurd back
 cut_gone held page e size blocks base ops before session.ReadOnly cause back = tt

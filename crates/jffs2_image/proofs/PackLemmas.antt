@@ -10,11 +10,9 @@ use Rattle.jfolder.specs.Known.{Known}
 use Rattle.jfolder.specs.Text.{listing_text}
 use Rattle.jfolder.specs.declared.found.Options.{Options}
 use Rattle.jreport.specs.declared.faults.ProgramFault.{ProgramFault}
-use Rattle.jffs2_image.specs.Compressing.{FileWrites}
 use Rattle.jffs2_image.specs.Folders.{settings}
-use Rattle.jffs2_image.specs.InfoRuns.{FileReads}
 use Rattle.jffs2_image.specs.PackRuns.{PackAround, PacksFolder, PutsText, ReadsGiven, ReadsListing, WritesText}
-use Rattle.jffs2_image.specs.Writes.{IsBehind}
+use Rattle.jffs2_image.specs.Writes.{IsBehind, FileReads, FileWrites}
 use Rattle.jffs2_image.proofs.PackedTreeLemmas.{gives_folder}
 use Rattle.jffs2_image.specs.declared.packing.Listed.{Listed}
 use Rattle.jffs2_image.specs.declared.weak.Notes.{Notes}

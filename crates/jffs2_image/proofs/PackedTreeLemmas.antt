@@ -17,14 +17,12 @@ use Rattle.jtree.specs.Making.{Files}
 use Rattle.jtree.proofs.WrittenLemmas.{put_out_holds_tree}
 use Rattle.jreport.specs.declared.faults.ProgramFault.{ProgramFault}
 use Rattle.jcommand.specs.Parsed.{PackingParsed}
-use Rattle.jffs2_image.specs.Compressing.{FileWrites}
 use Rattle.jffs2_image.specs.Folders.{IsListable}
 use Rattle.jffs2_image.specs.Host.{HaveBytes}
-use Rattle.jffs2_image.specs.InfoRuns.{FileReads}
 use Rattle.jffs2_image.specs.PackRuns.{PutsText, WritesText, blocks_of}
 use Rattle.jffs2_image.specs.PackedTrees.{GivesFolder, HoldsFolder}
 use Rattle.jffs2_image.specs.Runs.{answer_finished}
-use Rattle.jffs2_image.specs.Writes.{Held, IsHanded, IsRunOn}
+use Rattle.jffs2_image.specs.Writes.{FileReads, FileWrites, Held, IsHanded, IsRunOn, image_form}
 use Rattle.jffs2_image.specs.declared.weak.Notes.{Notes}
 
 -- what an empty file took and gave on is known
@@ -43,7 +41,7 @@ known (Some bytes) (Some more) (Some all) (Some last) front out empty a b k = re
 
 run_holds : (asked : PackingParsed) (folder : Folder) (told : List ℕ → Option (List ℕ)) (held : Held) (before : List (List ℕ)) (lines : List Line) (accepted : ℕ) (places : List Place)
     (known_folder : Known) (options : Options) → IsListable known_folder options folder → held.0 ≡ Some before
-    → (run : IsRunOn held asked.page asked.options.endian asked.options.geometry.block (blocks_of asked) [] (listing_text folder.root folder.items.items) lines accepted places None)
+    → (run : IsRunOn held (image_form asked.page asked.options.endian asked.options.geometry.block (blocks_of asked)) [] (listing_text folder.root folder.items.items) lines accepted places None)
     → HaveBytes told lines run.files
     → (image : List ℕ) × (held.1 ≡ Some (before ++ image ∷ [])) × HoldsFolder asked folder told image
 run_holds asked folder told held before lines accepted places known_folder options listable is run have =

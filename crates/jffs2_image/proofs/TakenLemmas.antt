@@ -16,10 +16,11 @@ use Rattle.jreport.specs.declared.findings.Found.{Found}
 use Rattle.jffs2_image.specs.Decompressing.{IsNotConverted, IsTaken}
 use Rattle.jffs2_image.specs.Host.{AreLoaded, Blames, IsRefusedBefore, ReadsFile}
 use Rattle.jffs2_image.specs.Runs.{Meets, RunsListed}
-use Rattle.jffs2_image.specs.Writes.{GivesText, Held, IsBehind, IsNotedIn, IsUnreadFile}
+use Rattle.jffs2_image.specs.Writes.{GivesText, Held, IsBehind, IsNotedIn, IsUnreadFile, image_form}
 use Rattle.jffs2_image.specs.declared.decompressing.Taken.{Taken}
 use Rattle.jffs2_image.proofs.DecompressingLemmas.{append_done, append_refused, append_unlisted, append_unread, cat_done, cat_refused, cat_unread, part_done, part_refused, part_unread, list_done, list_refused, list_unread, reads_fault}
 use Rattle.jffs2_image.proofs.HostLemmas.{file_blame, part_all, same_behind}
+use Rattle.jreport.proofs.SinkLemmas.{sink_change}
 
 -- ---- what the file that is made was given
 
@@ -53,88 +54,88 @@ made_of : (e : Endian) (size : ℕ) (image present : List ℕ) (taken : Taken) �
 made_of e size image present taken is same = subst (λ (bytes : List ℕ). Converts e size image (Ok bytes)) (sym same) is.made
 
 pub list_stopped : (X : Type 0) (told : List ℕ → Option (List ℕ)) (held : Held) (e : Endian) (options : Options) (name : List ℕ) (old : Option (List ℕ)) (n : ℕ) (f : ProgramFault)
-    → IsNotTaken e options.geometry.block name (told name) X f → Meets told held e (ListParsed options true name None) old old n n (Err f)
+    → IsNotTaken e options.geometry.block name (told name) X f → Meets told held e (ListParsed options true name None) (sink_change old old n n) (Err f)
 list_stopped X told held e options name old n f (inl not) = list_unread told held e options name old n f not
 list_stopped X told held e options name old n f (inr not) = list_refused told held e options name not.0 old n f not.1 not.2
 
 pub list_taken : (told : List ℕ → Option (List ℕ)) (held : Held) (e : Endian) (options : Options) (name present : List ℕ) (taken : Taken) (old new : Option (List ℕ)) (before now n : ℕ)
-    → IsTakenOf e options.geometry.block (told name) taken → present ≡ taken.image.items → PutsListing (list_request e options.geometry.block None) present old new before now (Ok n)
-    → Meets told held e (ListParsed options true name None) old new before now (Ok taken.found.noted)
+    → IsTakenOf e options.geometry.block (told name) taken → present ≡ taken.image.items → PutsListing (list_request e options.geometry.block None) present (sink_change old new before now) (Ok n)
+    → Meets told held e (ListParsed options true name None) (sink_change old new before now) (Ok taken.found.noted)
 list_taken told held e options name present taken old new before now n is same puts =
-    subst (λ (m : ℕ). Meets told held e (ListParsed options true name None) old new before now (Ok m)) (sym (ap (λ (r : Found). r.noted) is.2.found))
+    subst (λ (m : ℕ). Meets told held e (ListParsed options true name None) (sink_change old new before now) (Ok m)) (sym (ap (λ (r : Found). r.noted) is.2.found))
     (list_done told held e options name is.0 present old new before now (Ok n) is.1 (made_of e options.geometry.block is.0 present taken is.2 same) puts)
 
 pub list_failed : (told : List ℕ → Option (List ℕ)) (held : Held) (e : Endian) (options : Options) (name present : List ℕ) (taken : Taken) (old new : Option (List ℕ)) (before now : ℕ) (f : ProgramFault)
-    → IsTakenOf e options.geometry.block (told name) taken → present ≡ taken.image.items → PutsListing (list_request e options.geometry.block None) present old new before now (Err f)
-    → Meets told held e (ListParsed options true name None) old new before now (Err f)
+    → IsTakenOf e options.geometry.block (told name) taken → present ≡ taken.image.items → PutsListing (list_request e options.geometry.block None) present (sink_change old new before now) (Err f)
+    → Meets told held e (ListParsed options true name None) (sink_change old new before now) (Err f)
 list_failed told held e options name present taken old new before now f is same puts =
     list_done told held e options name is.0 present old new before now (Err f) is.1 (made_of e options.geometry.block is.0 present taken is.2 same) puts
 
 pub part_stopped : (X : Type 0) (told : List ℕ → Option (List ℕ)) (held : Held) (e : Endian) (options : Options) (name word path : List ℕ) (old : Option (List ℕ)) (n : ℕ) (f : ProgramFault)
-    → path_of word ≡ Some path → IsNotTaken e options.geometry.block name (told name) X f → Meets told held e (ListParsed options true name (Some word)) old old n n (Err f)
+    → path_of word ≡ Some path → IsNotTaken e options.geometry.block name (told name) X f → Meets told held e (ListParsed options true name (Some word)) (sink_change old old n n) (Err f)
 part_stopped X told held e options name word path old n f path_is (inl not) = part_unread told held e options name word path old n f path_is not
 part_stopped X told held e options name word path old n f path_is (inr not) = part_refused told held e options name word path not.0 old n f path_is not.1 not.2
 
 pub part_taken : (told : List ℕ → Option (List ℕ)) (held : Held) (e : Endian) (options : Options) (name word path present : List ℕ) (taken : Taken) (old new : Option (List ℕ)) (before now n : ℕ)
-    → path_of word ≡ Some path → IsTakenOf e options.geometry.block (told name) taken → present ≡ taken.image.items → PutsListing (list_request e options.geometry.block (Some path)) present old new before now (Ok n)
-    → Meets told held e (ListParsed options true name (Some word)) old new before now (Ok taken.found.noted)
+    → path_of word ≡ Some path → IsTakenOf e options.geometry.block (told name) taken → present ≡ taken.image.items → PutsListing (list_request e options.geometry.block (Some path)) present (sink_change old new before now) (Ok n)
+    → Meets told held e (ListParsed options true name (Some word)) (sink_change old new before now) (Ok taken.found.noted)
 part_taken told held e options name word path present taken old new before now n path_is is same puts =
-    subst (λ (m : ℕ). Meets told held e (ListParsed options true name (Some word)) old new before now (Ok m)) (sym (ap (λ (r : Found). r.noted) is.2.found))
+    subst (λ (m : ℕ). Meets told held e (ListParsed options true name (Some word)) (sink_change old new before now) (Ok m)) (sym (ap (λ (r : Found). r.noted) is.2.found))
     (part_done told held e options name word path is.0 present old new before now (Ok n) path_is is.1 (made_of e options.geometry.block is.0 present taken is.2 same) puts)
 
 pub part_failed : (told : List ℕ → Option (List ℕ)) (held : Held) (e : Endian) (options : Options) (name word path present : List ℕ) (taken : Taken) (old new : Option (List ℕ)) (before now : ℕ) (f : ProgramFault)
-    → path_of word ≡ Some path → IsTakenOf e options.geometry.block (told name) taken → present ≡ taken.image.items → PutsListing (list_request e options.geometry.block (Some path)) present old new before now (Err f)
-    → Meets told held e (ListParsed options true name (Some word)) old new before now (Err f)
+    → path_of word ≡ Some path → IsTakenOf e options.geometry.block (told name) taken → present ≡ taken.image.items → PutsListing (list_request e options.geometry.block (Some path)) present (sink_change old new before now) (Err f)
+    → Meets told held e (ListParsed options true name (Some word)) (sink_change old new before now) (Err f)
 part_failed told held e options name word path present taken old new before now f path_is is same puts =
     part_done told held e options name word path is.0 present old new before now (Err f) path_is is.1 (made_of e options.geometry.block is.0 present taken is.2 same) puts
 
 pub cat_stopped : (X : Type 0) (told : List ℕ → Option (List ℕ)) (held : Held) (e : Endian) (options : Options) (name word path : List ℕ) (old : Option (List ℕ)) (n : ℕ) (f : ProgramFault)
-    → path_of word ≡ Some path → IsNotTaken e options.geometry.block name (told name) X f → Meets told held e (CatParsed options true name word) old old n n (Err f)
+    → path_of word ≡ Some path → IsNotTaken e options.geometry.block name (told name) X f → Meets told held e (CatParsed options true name word) (sink_change old old n n) (Err f)
 cat_stopped X told held e options name word path old n f path_is (inl not) = cat_unread told held e options name word path old n f path_is not
 cat_stopped X told held e options name word path old n f path_is (inr not) = cat_refused told held e options name word path not.0 old n f path_is not.1 not.2
 
 pub cat_taken : (told : List ℕ → Option (List ℕ)) (held : Held) (e : Endian) (options : Options) (name word path present : List ℕ) (taken : Taken) (old new : Option (List ℕ)) (before now n : ℕ)
-    → path_of word ≡ Some path → IsTakenOf e options.geometry.block (told name) taken → present ≡ taken.image.items → PutsFile e options.geometry.block present path old new before now (Ok n)
-    → Meets told held e (CatParsed options true name word) old new before now (Ok taken.found.noted)
+    → path_of word ≡ Some path → IsTakenOf e options.geometry.block (told name) taken → present ≡ taken.image.items → PutsFile e options.geometry.block present path (sink_change old new before now) (Ok n)
+    → Meets told held e (CatParsed options true name word) (sink_change old new before now) (Ok taken.found.noted)
 cat_taken told held e options name word path present taken old new before now n path_is is same puts =
-    subst (λ (m : ℕ). Meets told held e (CatParsed options true name word) old new before now (Ok m)) (sym (ap (λ (r : Found). r.noted) is.2.found))
+    subst (λ (m : ℕ). Meets told held e (CatParsed options true name word) (sink_change old new before now) (Ok m)) (sym (ap (λ (r : Found). r.noted) is.2.found))
     (cat_done told held e options name word path is.0 present old new before now (Ok n) path_is is.1 (made_of e options.geometry.block is.0 present taken is.2 same) puts)
 
 pub cat_failed : (told : List ℕ → Option (List ℕ)) (held : Held) (e : Endian) (options : Options) (name word path present : List ℕ) (taken : Taken) (old new : Option (List ℕ)) (before now : ℕ) (f : ProgramFault)
-    → path_of word ≡ Some path → IsTakenOf e options.geometry.block (told name) taken → present ≡ taken.image.items → PutsFile e options.geometry.block present path old new before now (Err f)
-    → Meets told held e (CatParsed options true name word) old new before now (Err f)
+    → path_of word ≡ Some path → IsTakenOf e options.geometry.block (told name) taken → present ≡ taken.image.items → PutsFile e options.geometry.block present path (sink_change old new before now) (Err f)
+    → Meets told held e (CatParsed options true name word) (sink_change old new before now) (Err f)
 cat_failed told held e options name word path present taken old new before now f path_is is same puts =
     cat_done told held e options name word path is.0 present old new before now (Err f) path_is is.1 (made_of e options.geometry.block is.0 present taken is.2 same) puts
 
 pub append_stopped : (X : Type 0) (told : List ℕ → Option (List ℕ)) (held : Held) (page : Page) (e : Endian) (options : Options) (blocks : ℕ) (name listing output : List ℕ) (old : Option (List ℕ)) (n : ℕ) (f : ProgramFault)
-    → IsNotTaken e options.geometry.block name (told name) X f → Meets told held e (AppendParsed options blocks page true name listing output) old old n n (Err f)
+    → IsNotTaken e options.geometry.block name (told name) X f → Meets told held e (AppendParsed options blocks page true name listing output) (sink_change old old n n) (Err f)
 append_stopped X told held page e options blocks name listing output old n f (inl not) = append_unread told held page e options blocks name listing output old n f not
 append_stopped X told held page e options blocks name listing output old n f (inr not) = append_refused told held page e options blocks name listing output not.0 old n f not.1 not.2
 
 pub append_unread_listing : (told : List ℕ → Option (List ℕ)) (held : Held) (page : Page) (e : Endian) (options : Options) (blocks : ℕ) (name listing output : List ℕ) (taken : Taken) (old : Option (List ℕ)) (n : ℕ) (f : ProgramFault)
     → IsTakenOf e options.geometry.block (told name) taken → IsUnreadFile listing (told listing) f
-    → Meets told held e (AppendParsed options blocks page true name listing output) old old n n (Err f)
+    → Meets told held e (AppendParsed options blocks page true name listing output) (sink_change old old n n) (Err f)
 append_unread_listing told held page e options blocks name listing output taken old n f is not =
     append_unlisted told held page e options blocks name listing output is.0 taken.image.items old n f is.1 is.2.made not
 
 pub append_taken : (told : List ℕ → Option (List ℕ)) (held : Held) (page : Page) (e : Endian) (options : Options) (blocks : ℕ) (name listing output present : List ℕ) (taken : Taken) (old new : Option (List ℕ)) (before now n : ℕ)
     → IsTakenOf e options.geometry.block (told name) taken → present ≡ taken.image.items
-    → RunsListed told held page e options.geometry.block blocks listing output present old new before now (Ok n) → IsNotedIn e options.geometry.block present n
-    → Meets told held e (AppendParsed options blocks page true name listing output) old new before now (Ok taken.found.noted)
+    → RunsListed told held (image_form page e options.geometry.block blocks) listing output present (sink_change old new before now) (Ok n) → IsNotedIn e options.geometry.block present n
+    → Meets told held e (AppendParsed options blocks page true name listing output) (sink_change old new before now) (Ok taken.found.noted)
 append_taken told held page e options blocks name listing output present taken old new before now n is same runs noted =
-    subst (λ (m : ℕ). Meets told held e (AppendParsed options blocks page true name listing output) old new before now (Ok m)) (sym (ap (λ (r : Found). r.noted) is.2.found))
+    subst (λ (m : ℕ). Meets told held e (AppendParsed options blocks page true name listing output) (sink_change old new before now) (Ok m)) (sym (ap (λ (r : Found). r.noted) is.2.found))
     (append_done told held page e options blocks name listing output is.0 present old new before now (Ok n) is.1 (made_of e options.geometry.block is.0 present taken is.2 same) runs noted)
 
 pub append_failed : (told : List ℕ → Option (List ℕ)) (held : Held) (page : Page) (e : Endian) (options : Options) (blocks : ℕ) (name listing output present : List ℕ) (taken : Taken) (old new : Option (List ℕ)) (before now : ℕ) (f : ProgramFault)
     → IsTakenOf e options.geometry.block (told name) taken → present ≡ taken.image.items
-    → RunsListed told held page e options.geometry.block blocks listing output present old new before now (Err f)
-    → Meets told held e (AppendParsed options blocks page true name listing output) old new before now (Err f)
+    → RunsListed told held (image_form page e options.geometry.block blocks) listing output present (sink_change old new before now) (Err f)
+    → Meets told held e (AppendParsed options blocks page true name listing output) (sink_change old new before now) (Err f)
 append_failed told held page e options blocks name listing output present taken old new before now f is same runs =
     append_done told held page e options blocks name listing output is.0 present old new before now (Err f) is.1 (made_of e options.geometry.block is.0 present taken is.2 same) runs tt
 
 -- who is to blame where no image was taken
 pub append_blames : (u v : Type 0) (e : Endian) (size : ℕ) (name : List ℕ) (told : Option (List ℕ)) (rb rn mb mn : ℕ) (f : ProgramFault) → u
     → IsNotTaken e size name told (rn ≡ rb) f → ReadsFile {T = Taken} told rb rn (Err f)
-    → Blames {T = ℕ} u v rb rn mb mn (Err f) ⊎ IsRefusedBefore {T = ℕ} true e size told u rb rn (Err f)
+    → Blames {T = ℕ} u v rb rn mb mn (Err f) ⊎ IsRefusedBefore {T = ℕ} true e size told (u × (rn ≡ rb)) (Err f)
 append_blames u v e size name told rb rn mb mn f still (inl not) reads = inl (file_blame ℕ u v rb rn mb mn name told f still not (reads_fault Taken told rb rn f reads))
 append_blames u v e size name told rb rn mb mn f still (inr not) reads = inr (not.0, f, not.1, not.2, refl, still, not.3)

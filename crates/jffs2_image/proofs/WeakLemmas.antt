@@ -45,7 +45,7 @@ use Rattle.jbuild.specs.declared.parts.Parts.{Parts}
 use Rattle.jffs2_image.specs.Host.{AreLoaded, AreRead}
 use Rattle.jffs2_image.proofs.CutRunLemmas.{have_bytes}
 use Rattle.jffs2_image.specs.WeakRuns.{AreAllTaken, AreNotes, AreNotesOn, HasNotes, IsGoneOnFrom, flash_given, weak_note}
-use Rattle.jffs2_image.specs.Writes.{Held, IsMade}
+use Rattle.jffs2_image.specs.Writes.{Held, IsMade, image_form}
 use Rattle.jffs2_image.specs.declared.weak.Notes.{Notes}
 
 -- ---- the text
@@ -183,7 +183,7 @@ only_memory e flash m asked sink f None taken puts = by puts.0
 
 -- those that nothing stopped are all accepted
 pub all_taken : (held : Held) (e : Endian) (flash : Flash) (m : Mount) (ops : List Op) (accepted : ℕ) (places : List Place)
-    → IsMade held flash.page e flash.geometry.block flash.blocks m ops accepted places None → AreAllTaken e flash m ops
+    → IsMade held (image_form flash.page e flash.geometry.block flash.blocks) m ops accepted places None → AreAllTaken e flash m ops
 all_taken held e flash m ops accepted places made =
     let runs = made.put.emitted.runs in
     let run : RunBy (page_size flash.page) e flash.geometry.block flash.blocks (resume_address e flash.geometry.block flash.blocks m.image) (index_of_image e flash.geometry.block m.image) ops accepted made.put.emitted.end made.put.emitted.index made.put.emitted.between made.put.taken places = runs.2 in

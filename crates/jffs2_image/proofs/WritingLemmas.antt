@@ -30,17 +30,18 @@ use Rattle.jcommand.specs.Parsed.{Parsed, ScanParsed, CheckParsed, ListParsed, C
 use Rattle.jcommand.specs.declared.parsed.Options.{Options}
 use Rattle.jffs2_image.specs.Host.{AreLoaded, RunsFiles}
 use Rattle.jffs2_image.specs.Runs.{Meets, RunsListed}
-use Rattle.jffs2_image.specs.Writes.{Held, IsCause, IsHanded, IsMade, IsNotMade, IsNotedIn, IsRunOn, IsSessionFault, WritesImage}
+use Rattle.jffs2_image.specs.Writes.{Held, IsCause, IsHanded, IsMade, IsNotMade, IsNotedIn, IsRunOn, IsSessionFault, WritesImage, image_form}
+use Rattle.jreport.proofs.SinkLemmas.{sink_change}
 
 -- the image is not gone on from
 pub not_resumed : (held : Held) (page : Page) (e : Endian) (size blocks : ℕ) (output base text : List ℕ) (m : Mount) (f : SessionFault) (cause : Cause) (old : Option (List ℕ)) (n : ℕ)
-    → m.image ≡ base → Answers e size base (Ok m) → resumes_by page e size blocks m ≡ Err f → IsCause page size blocks m.image f cause → WritesImage {T = ℕ} held page e size blocks output base text old old n n (Err (program.Session f None cause))
+    → m.image ≡ base → Answers e size base (Ok m) → resumes_by page e size blocks m ≡ Err f → IsCause page size blocks m.image f cause → WritesImage {T = ℕ} held (image_form page e size blocks) output base text (sink_change old old n n) (Err (program.Session f None cause))
 not_resumed held page e size blocks output base text m f cause old n same mounts refused why =
     ((inl (refl, (m, mounts, inl refused)), subst (λ (image : List ℕ). IsCause page size blocks image f cause) same why), refl, refl)
 
 -- no file was made, or not to its end
 pub not_made : (held : Held) (page : Page) (e : Endian) (size blocks : ℕ) (output base text : List ℕ) (m : Mount) (f : ProgramFault) (old : Option (List ℕ)) (n : ℕ)
-    → m.image ≡ base → Answers e size base (Ok m) → IsNotMade page e size blocks m output f → WritesImage {T = ℕ} held page e size blocks output base text old old n n (Err f)
+    → m.image ≡ base → Answers e size base (Ok m) → IsNotMade (image_form page e size blocks) m output f → WritesImage {T = ℕ} held (image_form page e size blocks) output base text (sink_change old old n n) (Err f)
 not_made held page e size blocks output base text m (program.Load f) old n same mounts not = absurd not
 not_made held page e size blocks output base text m (program.Scan f) old n same mounts not = absurd not
 not_made held page e size blocks output base text m (program.Mount f) old n same mounts not = absurd not
@@ -59,33 +60,33 @@ not_made held page e size blocks output base text m program.OutOfMemory old n sa
 
 -- what was made of the lines of a listing
 pub run_on : (held : Held) (page : Page) (e : Endian) (size blocks : ℕ) (base text : List ℕ) (lines : List Line) (files : List ℕ → List ℕ) (m : Mount) (accepted : ℕ) (places : List Place) (stopped : Option SessionFault)
-    → lines_of text ≡ Ok lines → Answers e size base (Ok m) → IsMade held page e size blocks m (ops_in e files lines) accepted places stopped
-    → IsRunOn held page e size blocks base text lines accepted places stopped
+    → lines_of text ≡ Ok lines → Answers e size base (Ok m) → IsMade held (image_form page e size blocks) m (ops_in e files lines) accepted places stopped
+    → IsRunOn held (image_form page e size blocks) base text lines accepted places stopped
 run_on held page e size blocks base text lines files m accepted places stopped read mounts made = record { mount = m; files = files; read = read; mounts = mounts; made = made }
 
 -- it stopped at a line
 pub stopped_at : (held : Held) (page : Page) (e : Endian) (size blocks : ℕ) (base text : List ℕ) (lines : List Line) (accepted : ℕ) (places : List Place) (f : SessionFault)
-    → IsRunOn held page e size blocks base text lines accepted places (Some f)
-    → IsSessionFault held page e size blocks base text f (option_map (λ l. l.number) (slice_get lines accepted))
+    → IsRunOn held (image_form page e size blocks) base text lines accepted places (Some f)
+    → IsSessionFault held (image_form page e size blocks) base text f (option_map (λ l. l.number) (slice_get lines accepted))
 stopped_at held page e size blocks base text lines accepted places f run = inr (lines, accepted, places, run, refl)
 
 -- the answer is that fault
 pub writes_fault : (held : Held) (page : Page) (e : Endian) (size blocks : ℕ) (output base text : List ℕ) (old new : Option (List ℕ)) (before now : ℕ) (f : ProgramFault) (r : Result ℕ ProgramFault)
-    → IsErrAnd r (λ is. is ≡ f) → WritesImage {T = ℕ} held page e size blocks output base text old new before now (Err f) → WritesImage {T = ℕ} held page e size blocks output base text old new before now r
+    → IsErrAnd r (λ is. is ≡ f) → WritesImage {T = ℕ} held (image_form page e size blocks) output base text (sink_change old new before now) (Err f) → WritesImage {T = ℕ} held (image_form page e size blocks) output base text (sink_change old new before now) r
 writes_fault held page e size blocks output base text old new before now f (Ok x) is w = absurd is
 writes_fault held page e size blocks output base text old new before now f (Err other) is w =
-    subst (λ (z : ProgramFault). WritesImage {T = ℕ} held page e size blocks output base text old new before now (Err z)) (sym is) w
+    subst (λ (z : ProgramFault). WritesImage {T = ℕ} held (image_form page e size blocks) output base text (sink_change old new before now) (Err z)) (sym is) w
 
 -- the line that tells of it went out, or a beginning
 pub told : (held : Held) (page : Page) (e : Endian) (size blocks : ℕ) (output base text : List ℕ) (lines : List Line) (accepted : ℕ) (places : List Place) (from : ℕ) (old new : Option (List ℕ)) (before now : ℕ) (x : ℕ)
-    → from ≡ resume_address e size blocks base → IsRunOn held page e size blocks base text lines accepted places None
-    → Appends old new (accepted_line from accepted places) → now ≡ before → WritesImage {T = ℕ} held page e size blocks output base text old new before now (Ok x)
+    → from ≡ resume_address e size blocks base → IsRunOn held (image_form page e size blocks) base text lines accepted places None
+    → Appends old new (accepted_line from accepted places) → now ≡ before → WritesImage {T = ℕ} held (image_form page e size blocks) output base text (sink_change old new before now) (Ok x)
 told held page e size blocks output base text lines accepted places from old new before now x is run put same =
     (lines, accepted, places, run, subst (λ (at : ℕ). Appends old new (accepted_line at accepted places)) is put, same)
 
 pub told_in_part : (held : Held) (page : Page) (e : Endian) (size blocks : ℕ) (output base text : List ℕ) (lines : List Line) (accepted : ℕ) (places : List Place) (from : ℕ) (old new : Option (List ℕ)) (before now : ℕ)
-    → from ≡ resume_address e size blocks base → IsRunOn held page e size blocks base text lines accepted places None
-    → PutsPart old new (accepted_line from accepted places) → now ≡ next_count before → WritesImage {T = ℕ} held page e size blocks output base text old new before now (Err program.Output)
+    → from ≡ resume_address e size blocks base → IsRunOn held (image_form page e size blocks) base text lines accepted places None
+    → PutsPart old new (accepted_line from accepted places) → now ≡ next_count before → WritesImage {T = ℕ} held (image_form page e size blocks) output base text (sink_change old new before now) (Err program.Output)
 told_in_part held page e size blocks output base text lines accepted places from old new before now is run put same =
     (lines, accepted, places, run, subst (λ (at : ℕ). PutsPart old new (accepted_line at accepted places)) is put, same)
 
@@ -100,36 +101,36 @@ goes_on_from page e size blocks m from is = by m.read_only (is_flash_of size blo
 
 -- it is not that a block has the wrong size for a report
 no_scan : (held : Held) (page : Page) (e : Endian) (size blocks : ℕ) (output base text : List ℕ) (old new : Option (List ℕ)) (before now : ℕ) (answer : Result ℕ ProgramFault)
-    → WritesImage {T = ℕ} held page e size blocks output base text old new before now answer → answer ≡ Err (program.Scan scan.BlockSize) → IsFalse (is_block_size size)
+    → WritesImage {T = ℕ} held (image_form page e size blocks) output base text (sink_change old new before now) answer → answer ≡ Err (program.Scan scan.BlockSize) → IsFalse (is_block_size size)
 no_scan held page e size blocks output base text old new before now answer w is =
-    absurd ((subst (λ (r : Result ℕ ProgramFault). WritesImage {T = ℕ} held page e size blocks output base text old new before now r) is w).0)
+    absurd ((subst (λ (r : Result ℕ ProgramFault). WritesImage {T = ℕ} held (image_form page e size blocks) output base text (sink_change old new before now) r) is w).0)
 
 -- What a listing of these bytes comes to is what that of a name does, whose bytes these are; the host tells the same of its files
 -- as when they were not read yet.
 pub listed : (told later : List ℕ → Option (List ℕ)) (held : Held) (page : Page) (e : Endian) (size blocks : ℕ) (listing output base text : List ℕ) (old new : Option (List ℕ)) (before now : ℕ) (answer : Result ℕ ProgramFault)
     → ((name : List ℕ) → later name ≡ told name) → AreLoaded (told listing) text
-    → WritesImage {T = ℕ} held page e size blocks output base text old new before now answer → RunsFiles {T = ℕ} later held page e size blocks base text old new answer
-    → RunsListed told held page e size blocks listing output base old new before now answer
+    → WritesImage {T = ℕ} held (image_form page e size blocks) output base text (sink_change old new before now) answer → RunsFiles later held (image_form page e size blocks) base text old new answer
+    → RunsListed told held (image_form page e size blocks) listing output base (sink_change old new before now) answer
 listed told later held page e size blocks listing output base text old new before now answer same is w files =
-    (text, is, w, subst (λ (t : List ℕ → Option (List ℕ)). RunsFiles {T = ℕ} t held page e size blocks base text old new answer) (fun_ext same) files)
+    (text, is, w, subst (λ (t : List ℕ → Option (List ℕ)). RunsFiles t held (image_form page e size blocks) base text old new answer) (fun_ext same) files)
 
 pub listed_fault : (told later : List ℕ → Option (List ℕ)) (held : Held) (page : Page) (e : Endian) (size blocks : ℕ) (listing output base text : List ℕ) (old new : Option (List ℕ)) (before now : ℕ) (f : ProgramFault) (answer : Result ℕ ProgramFault)
     → IsErrAnd answer (λ is. is ≡ f) → ((name : List ℕ) → later name ≡ told name) → AreLoaded (told listing) text
-    → WritesImage {T = ℕ} held page e size blocks output base text old new before now (Err f) → RunsFiles {T = ℕ} later held page e size blocks base text old new (Err f)
-    → RunsListed told held page e size blocks listing output base old new before now answer
+    → WritesImage {T = ℕ} held (image_form page e size blocks) output base text (sink_change old new before now) (Err f) → RunsFiles later held (image_form page e size blocks) base text old new (Err f)
+    → RunsListed told held (image_form page e size blocks) listing output base (sink_change old new before now) answer
 listed_fault told later held page e size blocks listing output base text old new before now f (Ok x) fault same is w files = absurd fault
 listed_fault told later held page e size blocks listing output base text old new before now f (Err other) fault same is w files =
-    subst (λ (z : ProgramFault). RunsListed told held page e size blocks listing output base old new before now (Err z)) (sym fault)
+    subst (λ (z : ProgramFault). RunsListed told held (image_form page e size blocks) listing output base (sink_change old new before now) (Err z)) (sym fault)
     (listed told later held page e size blocks listing output base text old new before now (Err f) same is w files)
 
 -- it is not that a block has the wrong size for a report
 pub not_scanned : (told : List ℕ → Option (List ℕ)) (held : Held) (page : Page) (e : Endian) (size blocks : ℕ) (listing output base : List ℕ) (old new : Option (List ℕ)) (before now : ℕ) (answer : Result ℕ ProgramFault)
-    → RunsListed told held page e size blocks listing output base old new before now answer → answer ≡ Err (program.Scan scan.BlockSize) → IsFalse (is_block_size size)
+    → RunsListed told held (image_form page e size blocks) listing output base (sink_change old new before now) answer → answer ≡ Err (program.Scan scan.BlockSize) → IsFalse (is_block_size size)
 not_scanned told held page e size blocks listing output base old new before now answer runs is = no_scan held page e size blocks output base runs.0 old new before now answer runs.2 is
 
 pub builds : (told : List ℕ → Option (List ℕ)) (held : Held) (page : Page) (e : Endian) (options : Options) (blocks : ℕ) (listing output : List ℕ) (old new : Option (List ℕ)) (before now : ℕ) (answer : Result ℕ ProgramFault)
-    → RunsListed told held page e options.geometry.block blocks listing output [] old new before now answer → IfOk answer (λ n. n ≡ 0)
-    → Meets told held e (BuildParsed options blocks page listing output) old new before now answer
+    → RunsListed told held (image_form page e options.geometry.block blocks) listing output [] (sink_change old new before now) answer → IfOk answer (λ n. n ≡ 0)
+    → Meets told held e (BuildParsed options blocks page listing output) (sink_change old new before now) answer
 builds told held page e options blocks listing output old new before now answer runs none = record {
   block_size = not_scanned told held page e options.geometry.block blocks listing output [] old new before now answer runs;
   told_of = λ wrong. tt;
@@ -137,8 +138,8 @@ builds told held page e options blocks listing output old new before now answer 
 }
 
 pub appends : (told : List ℕ → Option (List ℕ)) (held : Held) (page : Page) (e : Endian) (options : Options) (blocks : ℕ) (name listing output base : List ℕ) (old new : Option (List ℕ)) (before now : ℕ) (answer : Result ℕ ProgramFault)
-    → AreLoaded (told name) base → RunsListed told held page e options.geometry.block blocks listing output base old new before now answer
-    → IfOk answer (IsNotedIn e options.geometry.block base) → Meets told held e (AppendParsed options blocks page false name listing output) old new before now answer
+    → AreLoaded (told name) base → RunsListed told held (image_form page e options.geometry.block blocks) listing output base (sink_change old new before now) answer
+    → IfOk answer (IsNotedIn e options.geometry.block base) → Meets told held e (AppendParsed options blocks page false name listing output) (sink_change old new before now) answer
 appends told held page e options blocks name listing output base old new before now answer is runs noted = record {
   block_size = not_scanned told held page e options.geometry.block blocks listing output base old new before now answer runs;
   told_of = λ wrong. tt;
@@ -153,7 +154,7 @@ MakesNoFile (DecompressParsed options image output) = ⊥
 MakesNoFile _ = Unit {0}
 
 pub met_by_any : (told : List ℕ → Option (List ℕ)) (held later : Held) (e : Endian) (parsed : Parsed) (old new : Option (List ℕ)) (before now : ℕ) (answer : Result ℕ ProgramFault) → MakesNoFile parsed
-    → Meets told held e parsed old new before now answer → Meets told later e parsed old new before now answer
+    → Meets told held e parsed (sink_change old new before now) answer → Meets told later e parsed (sink_change old new before now) answer
 met_by_any told held later e (ScanParsed options image) old new before now answer none m = record { block_size = m.block_size; told_of = m.told_of; put = m.put }
 met_by_any told held later e (CheckParsed options shape image) old new before now answer none m = record { block_size = m.block_size; told_of = m.told_of; put = m.put }
 met_by_any told held later e (ListParsed options decompress image None) old new before now answer none m = record { block_size = m.block_size; told_of = m.told_of; put = m.put }

@@ -21,12 +21,11 @@ use Rattle.jreport.specs.FoundIn.{found_in}
 use Rattle.jreport.specs.Notes.{note_line_of}
 use Rattle.jreport.specs.declared.faults.ProgramFault.{ProgramFault}
 use Rattle.jreport.specs.declared.faults.ProgramFault.TheVariants as program
-use Rattle.jffs2_image.specs.Compressing.{CompressionAsked, FileWrites}
+use Rattle.jffs2_image.specs.Compressing.{CompressionAsked}
 use Rattle.jffs2_image.specs.Decompressing.{HoldsMade, IsNotConverted, IsNotWritten, line_of_counts}
 use Rattle.jffs2_image.specs.Host.{AreLoaded, BlamesDecompress, MakesFile}
-use Rattle.jffs2_image.specs.InfoRuns.{FileReads}
 use Rattle.jffs2_image.specs.Runs.{Finishes, IsSaid}
-use Rattle.jffs2_image.specs.Writes.{Held, IsUnreadFile}
+use Rattle.jffs2_image.specs.Writes.{Held, IsUnreadFile, FileReads, FileWrites}
 use Rattle.jffs2_image.specs.declared.clashes.ApartDone.{ApartDone}
 
 -- ---- what is told

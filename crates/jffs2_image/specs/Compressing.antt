@@ -20,9 +20,8 @@ use Rattle.jreport.specs.declared.faults.ProgramFault.{ProgramFault}
 use Rattle.jreport.specs.declared.faults.ProgramFault.TheVariants as program
 use Rattle.jffs2_image.specs.Decompressing.{HoldsMade, IsNotWritten, fault_of_conversion}
 use Rattle.jffs2_image.specs.Host.{AreLoaded, BlamesDecompress, MakesFile}
-use Rattle.jffs2_image.specs.InfoRuns.{FileReads}
 use Rattle.jffs2_image.specs.Runs.{Finishes, Says, answer_finished, note_after}
-use Rattle.jffs2_image.specs.Writes.{GivesText, Held, IsUnreadFile}
+use Rattle.jffs2_image.specs.Writes.{GivesText, Held, IsUnreadFile, FileReads, FileWrites}
 
 -- a beginning of an image of these nodes was given on
 abbrev pub GivesPacked : Endian → ℕ → List ℕ → Option (List ℕ) → Option (List ℕ) → Type 0
@@ -87,14 +86,6 @@ CompressesNamed held e asked bytes told answer =
     × CompressesFile held e asked.options.geometry.block asked.output image told answer)
     ⊎ ((fault : ProgramFault) × (answer ≡ Err fault) × IsUnreadFile asked.image bytes fault
     × (told.new ≡ told.old) × (told.now ≡ told.before))
-
--- the files that are made: their names, what was given to them, and how often they failed
-pub record FileWrites : Type 0 where
-  pub names_old : Option (List (List ℕ))
-  pub names_new : Option (List (List ℕ))
-  pub held : Held
-  pub before : ℕ
-  pub now : ℕ
 
 -- what is said on standard error: how much was found in the image that was read, or the fault
 abbrev pub said_after_compression : Result ℕ ProgramFault → Option (List ℕ)

@@ -26,9 +26,8 @@ use Rattle.jcommand.specs.declared.parsed.Options.{Options}
 use Rattle.jcommand.specs.declared.outcome.Outcome.{Outcome}
 use Rattle.jcommand.specs.declared.outcome.Outcome.TheVariants as outcome
 use Rattle.jffs2_image.specs.Host.{AreAllRead, AreLoaded, HaveBytes}
-use Rattle.jffs2_image.specs.InfoRuns.{FileReads}
 use Rattle.jffs2_image.specs.Runs.{Finishes, Says, answer_finished}
-use Rattle.jffs2_image.specs.Writes.{IsNamedByLine, IsPartUnread, IsUnreadFile}
+use Rattle.jffs2_image.specs.Writes.{IsNamedByLine, IsPartUnread, IsUnreadFile, FileReads}
 
 -- ---- the lines of a listing
 

@@ -15,8 +15,8 @@ use Rattle.jcommand.specs.declared.parsed.Options.{Options}
 use Rattle.jcommand.specs.declared.outcome.Outcome.{Outcome}
 use Rattle.jffs2_image.specs.DiffRuns.{IsBlamedFile, said_after_diff, outcome_of_diff}
 use Rattle.jffs2_image.specs.Host.{AreLoaded}
-use Rattle.jffs2_image.specs.InfoRuns.{FileReads}
 use Rattle.jffs2_image.specs.Runs.{Finishes, Says, answer_finished}
+use Rattle.jffs2_image.specs.Writes.{FileReads}
 
 -- how many damaged nodes and missing objects are told, to the greatest u64, or why not all
 abbrev pub as_told : Result Totals DamageFault → Result ℕ ProgramFault

@@ -3,6 +3,7 @@
 use Rattle.std.specs.Prelude.{◌≡◌, ◌⊎◌, ℕ, Bool, true, false, List, Option, Some, None, Result, Ok, Err}
 use Rattle.std.specs.Io.KnownBytes.{Appends}
 use Rattle.flashbase.specs.Device.{PutsPart, next_count}
+use Rattle.flashbase.specs.Sinks.{SinkChange}
 use Rattle.jnode.specs.declared.order.Endian.{Endian}
 use Rattle.jmount.specs.declared.fault.MountFault.TheVariants as mount
 use Rattle.jlog.specs.declared.fault.SessionFault.{SessionFault}
@@ -61,15 +62,14 @@ with_findings n (Err fault) = Err fault
 -- `decompress` makes of it, and answers how many findings the image itself has; or it says why
 -- nothing is made of it.
 abbrev pub PutsTaken : Bool → Endian → ℕ
-    → (List ℕ → Option (List ℕ) → Option (List ℕ) → ℕ → ℕ → Result ℕ ProgramFault → Type 0)
-    → List ℕ → Option (List ℕ) → Option (List ℕ) → ℕ → ℕ → Result ℕ ProgramFault → Type 0
-PutsTaken false e size Puts image old new before now answer = Puts image old new before now answer
-PutsTaken true e size Puts image old new before now answer =
+    → (List ℕ → SinkChange → Result ℕ ProgramFault → Type 0) → List ℕ → SinkChange
+    → Result ℕ ProgramFault → Type 0
+PutsTaken false e size Puts image sink answer = Puts image sink answer
+PutsTaken true e size Puts image sink answer =
     ((made : List ℕ) × (done : Result ℕ ProgramFault) × Converts e size image (Ok made)
-    × Puts made old new before now done
-    × (answer ≡ with_findings (found_in e size image).noted done))
+    × Puts made sink done × (answer ≡ with_findings (found_in e size image).noted done))
     ⊎ ((fault : ProgramFault) × (answer ≡ Err fault) × IsNotConverted e size image fault
-    × (new ≡ old) × (now ≡ before))
+    × (sink.new ≡ sink.old) × (sink.now ≡ sink.before))
 
 -- a command goes on with something: with the image, or with what `decompress` makes of it
 abbrev pub IsGoneOnWith : Bool → Endian → ℕ → List ℕ → Type 0
@@ -109,16 +109,17 @@ IsNotWritten held output made _ = ⊥
 -- What `decompress` makes of an image is given to a file that it makes, and told in a line; it
 -- answers how many findings the image has. Or no file is made, since nothing is made of the image;
 -- or one is made, and not written to its end.
-abbrev pub DecompressesFile : Held → Endian → ℕ → List ℕ → List ℕ → Option (List ℕ)
-    → Option (List ℕ) → ℕ → ℕ → Result ℕ ProgramFault → Type 0
-DecompressesFile held e size output image old new before now (Ok n) =
+abbrev pub DecompressesFile : Held → Endian → ℕ → List ℕ → List ℕ → SinkChange
+    → Result ℕ ProgramFault → Type 0
+DecompressesFile held e size output image sink (Ok n) =
     (made : List ℕ) × Converts e size image (Ok made) × HoldsMade held made
-    × Appends old new (line_of_counts (converted_of e size image)) × (now ≡ before)
-    × (n ≡ (found_in e size image).noted)
-DecompressesFile held e size output image old new before now (Err program.Output) =
+    × Appends sink.old sink.new (line_of_counts (converted_of e size image))
+    × (sink.now ≡ sink.before) × (n ≡ (found_in e size image).noted)
+DecompressesFile held e size output image sink (Err program.Output) =
     (made : List ℕ) × Converts e size image (Ok made) × HoldsMade held made
-    × PutsPart old new (line_of_counts (converted_of e size image)) × (now ≡ next_count before)
-DecompressesFile held e size output image old new before now (Err fault) =
+    × PutsPart sink.old sink.new (line_of_counts (converted_of e size image))
+    × (sink.now ≡ next_count sink.before)
+DecompressesFile held e size output image sink (Err fault) =
     ((IsNotConverted e size image fault × (held.1 ≡ held.0))
     ⊎ ((made : List ℕ) × Converts e size image (Ok made) × IsNotWritten held output made fault))
-    × (new ≡ old) × (now ≡ before)
+    × (sink.new ≡ sink.old) × (sink.now ≡ sink.before)

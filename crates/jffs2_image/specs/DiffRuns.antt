@@ -15,9 +15,8 @@ use Rattle.jcommand.specs.declared.parsed.Options.{Options}
 use Rattle.jcommand.specs.declared.outcome.Outcome.{Outcome}
 use Rattle.jcommand.specs.declared.outcome.Outcome.TheVariants as outcome
 use Rattle.jffs2_image.specs.Host.{AreLoaded, ReadsFile}
-use Rattle.jffs2_image.specs.InfoRuns.{FileReads}
 use Rattle.jffs2_image.specs.Runs.{Finishes, Says, answer_finished}
-use Rattle.jffs2_image.specs.Writes.{IsUnreadFile}
+use Rattle.jffs2_image.specs.Writes.{IsUnreadFile, FileReads}
 
 -- how two images are compared
 pub record Comparing : Type 0 where

@@ -15,9 +15,9 @@ use Rattle.jcommand.specs.Status.{outcome_of}
 use Rattle.jcommand.specs.declared.outcome.Outcome.{Outcome}
 use Rattle.jcommand.specs.declared.outcome.Outcome.TheVariants as outcome
 use Rattle.jffs2_image.specs.Folders.{Extracting, FillsAsked, ListsFolder, settings}
-use Rattle.jffs2_image.specs.InfoRuns.{FileReads}
 use Rattle.jffs2_image.specs.Runs.{Finishes, Says, answer_finished}
 use Rattle.jffs2_image.specs.declared.folders.Extracted.{Extracted}
+use Rattle.jffs2_image.specs.Writes.{FileReads}
 
 -- the notes on what an extraction came to, if there are any
 abbrev pub notes_after_extraction : Extracted → Option (List ℕ)
@@ -57,9 +57,9 @@ pub record EndsExtraction (decompress : Bool) (x : Extracting) (image : List ℕ
   pub ends : result ≡ outcome_of_extraction answer
 
 -- `extract`, of what is given
-pub record RunsExtract (args : List (List ℕ)) (told : List ℕ → Option (List ℕ))
-    (read_before read_now : ℕ) (made_old made_new : List ℕ → Option (List Made))
-    (old new : Option (List ℕ)) (before now : ℕ) (result : Outcome) : Type 0 where
+pub record RunsExtract (args : List (List ℕ)) (reading : FileReads)
+    (made_old made_new : List ℕ → Option (List Made)) (notes : SinkChange) (result : Outcome) :
+    Type 0 where
   pub options : Options
   pub decompress : Bool
   pub owners : Bool
@@ -76,8 +76,7 @@ pub record RunsExtract (args : List (List ℕ)) (told : List ℕ → Option (Lis
     owners = owners;
     folder = folder;
     path = path;
-  }) image (record { told = told; before = read_before; now = read_now }) made_old made_new
-      (record { old = old; new = new; before = before; now = now }) result
+  }) image reading made_old made_new notes result
 
 abbrev pub said_after_listing : Result ℕ ProgramFault → Option (List ℕ)
 said_after_listing (Ok n) = None
@@ -90,50 +89,44 @@ outcome_of_listing (Err fault) = outcome.Fault
 -- The listing of the folder of a name, of which this is known, goes out, and all that was put is
 -- given on.
 pub record FinishesListing (known : Known) (options : reading.Options) (name : List ℕ)
-    (output_old output_given : Option (List ℕ)) (output_before output_now : ℕ)
-    (old new : Option (List ℕ)) (before now : ℕ) (result : Result ℕ ProgramFault) : Type 0 where
+    (output notes : SinkChange) (result : Result ℕ ProgramFault) : Type 0 where
   pub taken : Option (List ℕ)
   pub count : ℕ
   pub answer : Result ℕ ProgramFault
   pub finished : Bool
-  pub lists : ListsFolder known options name output_old taken output_before count old new before
-      now answer
-  pub finishes : Finishes taken output_given count output_now finished
+  pub lists : ListsFolder known options name
+      (record { old = output.old; new = taken; before = output.before; now = count }) notes answer
+  pub finishes : Finishes taken output.new count output.now finished
   pub comes_to : result ≡ answer_finished answer finished
 
 -- The same by a host that gives the folder and takes it back; or there is no memory for it, and the
 -- output and the notes are as they were.
-abbrev pub ListsGiven : Type 0 → Known → reading.Options → List ℕ → Option (List ℕ)
-    → Option (List ℕ) → ℕ → ℕ → Option (List ℕ) → Option (List ℕ) → ℕ → ℕ → Result ℕ ProgramFault
-    → Type 0
-ListsGiven untouched known options name output_old output_given output_before output_now old new
-    before now result =
-    FinishesListing known options name output_old output_given output_before output_now old new
-    before now result
-    ⊎ ((result ≡ Err program.OutOfMemory) × untouched × (new ≡ old) × (now ≡ before))
+abbrev pub ListsGiven : Type 0 → Known → reading.Options → List ℕ → SinkChange → SinkChange
+    → Result ℕ ProgramFault → Type 0
+ListsGiven untouched known options name output notes result =
+    FinishesListing known options name output notes result
+    ⊎ ((result ≡ Err program.OutOfMemory) × untouched × (notes.new ≡ notes.old)
+    × (notes.now ≡ notes.before))
 
 -- What it leaves out is told, and then a fault. `untouched`: the output is as it was.
 pub record EndsListing (untouched : Type 0) (known : Known) (options : reading.Options)
-    (name : List ℕ) (output_old output_given : Option (List ℕ)) (output_before output_now : ℕ)
-    (old new : Option (List ℕ)) (before now : ℕ) (result : Outcome) : Type 0 where
+    (name : List ℕ) (output notes : SinkChange) (result : Outcome) : Type 0 where
   pub between : Option (List ℕ)
   pub count : ℕ
   pub answer : Result ℕ ProgramFault
-  pub lists : ListsGiven untouched known options name output_old output_given output_before
-      output_now old between before count answer
-  pub said : Says ((new ≡ between) × (now ≡ count)) between new count now
+  pub lists : ListsGiven untouched known options name output
+      (record { old = notes.old; new = between; before = notes.before; now = count }) answer
+  pub said : Says ((notes.new ≡ between) × (notes.now ≡ count)) between notes.new count notes.now
       (said_after_listing answer)
   pub ends : result ≡ outcome_of_listing answer
 
 -- `listing`, of what is given. `reads` is what is known of each folder of the host, by its name.
 pub record RunsListing (args : List (List ℕ)) (untouched : Type 0) (reads : List ℕ → Known)
-    (output_old output_given : Option (List ℕ)) (output_before output_now : ℕ)
-    (old new : Option (List ℕ)) (before now : ℕ) (result : Outcome) : Type 0 where
+    (output notes : SinkChange) (result : Outcome) : Type 0 where
   pub owner : Option Owner
   pub time : Option ℕ
   pub quiet : Bool
   pub folder : List ℕ
   pub parsed : parsed_from args ≡ Some (ListingParsed owner time quiet folder)
   pub faultless : IsFaultless args
-  pub ends : EndsListing untouched (reads folder) (settings owner time) folder output_old
-      output_given output_before output_now old new before now result
+  pub ends : EndsListing untouched (reads folder) (settings owner time) folder output notes result

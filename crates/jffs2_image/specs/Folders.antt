@@ -39,8 +39,7 @@ use Rattle.jreport.specs.declared.faults.ProgramFault.{ProgramFault}
 use Rattle.jreport.specs.declared.faults.ProgramFault.TheVariants as program
 use Rattle.jffs2_image.specs.Decompressing.{IsNotConverted}
 use Rattle.jffs2_image.specs.Host.{AreOf, IsReadFault}
-use Rattle.jffs2_image.specs.InfoRuns.{FileReads}
-use Rattle.jffs2_image.specs.Writes.{IsUnreadFile}
+use Rattle.jffs2_image.specs.Writes.{IsUnreadFile, FileReads}
 use Rattle.jffs2_image.specs.declared.folders.Extracted.{Extracted}
 
 -- ---- extract
@@ -228,19 +227,15 @@ pub record IsListable (known : Known) (options : Options) (folder : Folder) : Ty
   pub links : AreLinked known folder.items.items
 
 -- `listing` of the folder of a name: what is left out is told, and the listing of the rest goes out
-abbrev pub ListsFolder : Known → Options → List ℕ → Option (List ℕ) → Option (List ℕ) → ℕ → ℕ
-    → Option (List ℕ) → Option (List ℕ) → ℕ → ℕ → Result ℕ ProgramFault → Type 0
-ListsFolder known options name old new before now told_old told_new told_before told_now (Ok n) =
+abbrev pub ListsFolder : Known → Options → List ℕ → SinkChange → SinkChange → Result ℕ ProgramFault
+    → Type 0
+ListsFolder known options name output notes (Ok n) =
     (folder : Folder) × IsListable known options folder × (n ≡ folder.left_out)
-    × Appends old new (listing_text folder.root folder.items.items) × (now ≡ before)
-    × Tells known options
-    (record { old = told_old; new = told_new; before = told_before; now = told_now }) (Ok folder)
-ListsFolder known options name old new before now told_old told_new told_before told_now
-    (Err fault) =
+    × Appends output.old output.new (listing_text folder.root folder.items.items)
+    × (output.now ≡ output.before) × Tells known options notes (Ok folder)
+ListsFolder known options name output notes (Err fault) =
     ((folder : Folder) × IsListable known options folder × (fault ≡ program.Output)
-    × PutsPart old new (listing_text folder.root folder.items.items) × (now ≡ next_count before)
-    × Tells known options
-    (record { old = told_old; new = told_new; before = told_before; now = told_now }) (Ok folder))
-    ⊎ ((refused : ReadFault) × IsReadingFault name refused fault × (new ≡ old) × (now ≡ before)
-    × Tells known options
-    (record { old = told_old; new = told_new; before = told_before; now = told_now }) (Err refused))
+    × PutsPart output.old output.new (listing_text folder.root folder.items.items)
+    × (output.now ≡ next_count output.before) × Tells known options notes (Ok folder))
+    ⊎ ((refused : ReadFault) × IsReadingFault name refused fault × (output.new ≡ output.old)
+    × (output.now ≡ output.before) × Tells known options notes (Err refused))

@@ -7,13 +7,10 @@ use Rattle.flashbase.specs.declared.source.LoadFault.TheVariants as load
 use Rattle.jscan.specs.Image.{greatest_image}
 use Rattle.jlisting.specs.Listing.{lines_of}
 use Rattle.jlisting.specs.declared.line.Line.{Line}
-use Rattle.jsteps.specs.declared.page.Page.{Page}
 use Rattle.jlog.specs.declared.fault.SessionFault.{SessionFault}
 use Rattle.jlog.specs.declared.fault.SessionFault.TheVariants as session
 use Rattle.jnode.specs.declared.order.Endian.{Endian}
-use Rattle.jlog.specs.Headline.{resume_address}
 use Rattle.jlog.specs.declared.report.Place.{Place}
-use Rattle.jbuild.specs.Accepted.{accepted_line}
 use Rattle.jbuild.specs.Length.{TellsLength}
 use Rattle.jbuild.specs.Operations.{ops_in}
 use Rattle.jbuild.specs.Parts.{part_contents, read_of}
@@ -24,7 +21,7 @@ use Rattle.jcommand.specs.declared.command_line.RequestFault.{RequestFault}
 use Rattle.jreport.specs.declared.faults.ProgramFault.{ProgramFault}
 use Rattle.jreport.specs.declared.faults.ProgramFault.TheVariants as program
 use Rattle.jffs2_image.specs.Decompressing.{IsNotConverted}
-use Rattle.jffs2_image.specs.Writes.{Held, HoldsFront, HoldsNothing, HoldsPart, IsNamedByLine, IsPartUnread, IsRunOn, IsTooLong}
+use Rattle.jffs2_image.specs.Writes.{FileReads, FileWrites, Held, ImageForm, HoldsFront, HoldsNothing, HoldsPart, IsNamedByLine, IsPartUnread, IsRunOn, IsTooLong, line_on}
 use Rattle.jffs2_image.specs.declared.host.FileFault.{FileFault}
 use Rattle.jffs2_image.specs.declared.host.FileFault.TheVariants as file
 use Rattle.jffs2_image.specs.declared.host.MakeFault.{MakeFault}
@@ -78,12 +75,11 @@ HaveBytes told lines files =
 
 -- The file that was made has a beginning of what goes out for the base and the operations of all
 -- lines, with the bytes of the host's files.
-abbrev pub IsCutShort : (List ℕ → Option (List ℕ)) → Held → Page → Endian → ℕ → ℕ → List ℕ → List ℕ
-    → Type 0
-IsCutShort told held page e size blocks base text =
+abbrev pub IsCutShort : (List ℕ → Option (List ℕ)) → Held → ImageForm → List ℕ → List ℕ → Type 0
+IsCutShort told held form base text =
     (lines : List Line) × (files : List ℕ → List ℕ) × (lines_of text ≡ Ok lines)
     × HaveBytes told lines files
-    × HoldsPart held page e size blocks base (ops_in e files lines)
+    × HoldsPart held form base (ops_in form.order files lines)
 
 -- the lines and the files that they name were read
 abbrev pub AreAllRead : (List ℕ → Option (List ℕ)) → List ℕ → Type 0
@@ -96,44 +92,41 @@ AreAllRead told text =
 -- one that stopped them. Where no line is told, because the file failed before or after them, a
 -- beginning of what goes out for them is in it; where memory ran out before them, a beginning of
 -- the base; or it is empty, or there is none. A fault of the base comes after all was read.
-abbrev pub RunsFiles : {T : Type 0} → (List ℕ → Option (List ℕ)) → Held → Page → Endian → ℕ → ℕ
-    → List ℕ → List ℕ → Option (List ℕ) → Option (List ℕ) → Result T ProgramFault → Type 0
-RunsFiles told held page e size blocks base text old new (Ok _) =
+abbrev pub RunsFiles : (List ℕ → Option (List ℕ)) → Held → ImageForm → List ℕ → List ℕ
+    → Option (List ℕ) → Option (List ℕ) → Result ℕ ProgramFault → Type 0
+RunsFiles told held form base text old new (Ok _) =
     (lines : List Line) × (accepted : ℕ) × (places : List Place)
-    × (run : IsRunOn held page e size blocks base text lines accepted places None)
+    × (run : IsRunOn held form base text lines accepted places None)
     × HaveBytes told lines run.files
-    × Appends old new (accepted_line (resume_address e size blocks base) accepted places)
-    × TellsLength page e size blocks base (ops_in e run.files lines) accepted places
-RunsFiles told held page e size blocks base text old new (Err program.Output) =
+    × Appends old new (line_on form base accepted places)
+    × TellsLength form.page form.order form.block form.blocks base
+    (ops_in form.order run.files lines) accepted places
+RunsFiles told held form base text old new (Err program.Output) =
     (lines : List Line) × (accepted : ℕ) × (places : List Place)
-    × (run : IsRunOn held page e size blocks base text lines accepted places None)
+    × (run : IsRunOn held form base text lines accepted places None)
     × HaveBytes told lines run.files
-    × PutsPart old new (accepted_line (resume_address e size blocks base) accepted places)
-RunsFiles told held page e size blocks base text old new
-    (Err (program.Session fault (Some number) cause)) =
+    × PutsPart old new (line_on form base accepted places)
+RunsFiles told held form base text old new (Err (program.Session fault (Some number) cause)) =
     (lines : List Line) × (accepted : ℕ) × (places : List Place)
-    × (run : IsRunOn held page e size blocks base text lines accepted places (Some fault))
+    × (run : IsRunOn held form base text lines accepted places (Some fault))
     × HaveBytes told lines run.files
     × (option_map (λ l. l.number) (slice_get lines accepted) ≡ Some number)
-RunsFiles told held page e size blocks base text old new (Err (program.Load load.TooLarge)) =
+RunsFiles told held form base text old new (Err (program.Load load.TooLarge)) =
     (lines : List Line) × (lines_of text ≡ Ok lines)
     × IsPartUnread told lines (program.Load load.TooLarge)
-RunsFiles told held page e size blocks base text old new
-    (Err (program.Session session.Sink None cause)) =
-    IsCutShort told held page e size blocks base text
-RunsFiles told held page e size blocks base text old new
-    (Err (program.Session session.OutOfMemory None cause)) =
-    AreAllRead told text × HoldsFront held e size blocks base
-RunsFiles told held page e size blocks base text old new
-    (Err (program.Session session.ReadOnly None cause)) = AreAllRead told text
-RunsFiles told held page e size blocks base text old new
-    (Err (program.Session session.Geometry None cause)) = AreAllRead told text
-RunsFiles told held page e size blocks base text old new (Err (program.Mount fault)) =
+RunsFiles told held form base text old new (Err (program.Session session.Sink None cause)) =
+    IsCutShort told held form base text
+RunsFiles told held form base text old new (Err (program.Session session.OutOfMemory None cause)) =
+    AreAllRead told text × HoldsFront held form base
+RunsFiles told held form base text old new (Err (program.Session session.ReadOnly None cause)) =
     AreAllRead told text
-RunsFiles told held page e size blocks base text old new (Err program.OutOfMemory) =
+RunsFiles told held form base text old new (Err (program.Session session.Geometry None cause)) =
+    AreAllRead told text
+RunsFiles told held form base text old new (Err (program.Mount fault)) = AreAllRead told text
+RunsFiles told held form base text old new (Err program.OutOfMemory) =
     (held.1 ≡ held.0) ⊎ HoldsNothing held
-RunsFiles told held page e size blocks base text old new (Err (program.File name)) = held.1 ≡ held.0
-RunsFiles told held page e size blocks base text old new (Err _) = Unit {0}
+RunsFiles told held form base text old new (Err (program.File name)) = held.1 ≡ held.0
+RunsFiles told held form base text old new (Err _) = Unit {0}
 
 -- ---- the file that is made
 
@@ -254,14 +247,13 @@ ReadsFile told before now (Err (program.Load load.TooLarge)) = IsTooLong told ×
 ReadsFile told before now _ = now ≡ before
 
 -- With `--decompress`, the image of this file may also be refused for what it holds, and then no
--- file is made and none failed.
-abbrev pub IsRefusedBefore : {T : Type 0} → Bool → Endian → ℕ → Option (List ℕ) → Type 0 → ℕ → ℕ
+-- file is made and none failed: `untouched`.
+abbrev pub IsRefusedBefore : {T : Type 0} → Bool → Endian → ℕ → Option (List ℕ) → Type 0
     → Result T ProgramFault → Type 0
-IsRefusedBefore false e size told untouched read_before read_now result = ⊥
-IsRefusedBefore true e size told untouched read_before read_now result =
+IsRefusedBefore false e size told untouched result = ⊥
+IsRefusedBefore true e size told untouched result =
     (image : List ℕ) × (fault : ProgramFault) × AreLoaded told image
-    × IsNotConverted e size image fault × IsErrOf result fault
-    × untouched × (read_now ≡ read_before)
+    × IsNotConverted e size image fault × IsErrOf result fault × untouched
 
 -- the same of `decompress`, of a file of which the host tells these bytes
 abbrev pub BlamesDecompress : {T : Type 0} → Type 0 → Type 0 → ℕ → ℕ → ℕ → ℕ → Result T ProgramFault
@@ -285,47 +277,36 @@ BlamesDecompress untouched makes read_before read_now made_before made_now (Err 
 
 -- the same of a request that writes an image, whose file has the name of its output; any other
 -- reads the file of its image, and makes none
-abbrev pub BlamesFor : {T : Type 0} → (List ℕ → Option (List ℕ)) → Endian → Parsed → Type 0
-    → Option (List (List ℕ)) → Option (List (List ℕ)) → ℕ → ℕ → ℕ → ℕ → Result T ProgramFault
-    → Type 0
-BlamesFor told e (ScanParsed options image) untouched names_old names_new read_before read_now
-    made_before made_now result =
-    ReadsFile (told image) read_before read_now result × untouched
-BlamesFor told e (CheckParsed options shape image) untouched names_old names_new read_before
-    read_now made_before made_now result =
-    ReadsFile (told image) read_before read_now result × untouched
-BlamesFor told e (ListParsed options decompress image path) untouched names_old names_new
-    read_before read_now made_before made_now result =
-    ReadsFile (told image) read_before read_now result × untouched
-BlamesFor told e (CatParsed options decompress image path) untouched names_old names_new read_before
-    read_now made_before made_now result =
-    ReadsFile (told image) read_before read_now result × untouched
-BlamesFor told e (BuildParsed options blocks page listing output) untouched names_old names_new
-    read_before read_now made_before made_now result =
-    Blames untouched (MakesFile output names_old names_new) read_before read_now made_before
-    made_now result
-BlamesFor told e (AppendParsed options blocks page decompress image listing output) untouched
-    names_old names_new read_before read_now made_before made_now result =
-    Blames untouched (MakesFile output names_old names_new) read_before read_now made_before
-    made_now result
-    ⊎ IsRefusedBefore decompress e options.geometry.block (told image) untouched read_before
-    read_now result
-BlamesFor told e (DecompressParsed options image output) untouched names_old names_new read_before
-    read_now made_before made_now result =
-    BlamesDecompress untouched (MakesFile output names_old names_new) read_before read_now
-    made_before made_now result
+abbrev pub BlamesFor : {T : Type 0} → Endian → Parsed → Type 0 → FileReads → FileWrites
+    → Result T ProgramFault → Type 0
+BlamesFor e (ScanParsed options image) untouched reading writing result =
+    ReadsFile (reading.told image) reading.before reading.now result × untouched
+BlamesFor e (CheckParsed options shape image) untouched reading writing result =
+    ReadsFile (reading.told image) reading.before reading.now result × untouched
+BlamesFor e (ListParsed options decompress image path) untouched reading writing result =
+    ReadsFile (reading.told image) reading.before reading.now result × untouched
+BlamesFor e (CatParsed options decompress image path) untouched reading writing result =
+    ReadsFile (reading.told image) reading.before reading.now result × untouched
+BlamesFor e (BuildParsed options blocks page listing output) untouched reading writing result =
+    Blames untouched (MakesFile output writing.names_old writing.names_new) reading.before
+    reading.now writing.before writing.now result
+BlamesFor e (AppendParsed options blocks page decompress image listing output) untouched reading
+    writing result =
+    Blames untouched (MakesFile output writing.names_old writing.names_new) reading.before
+    reading.now writing.before writing.now result
+    ⊎ IsRefusedBefore decompress e options.geometry.block (reading.told image)
+    (untouched × (reading.now ≡ reading.before)) result
+BlamesFor e (DecompressParsed options image output) untouched reading writing result =
+    BlamesDecompress untouched (MakesFile output writing.names_old writing.names_new)
+    reading.before reading.now writing.before writing.now result
 
 -- the same of a command line, in the order that it names; one that makes no request touches nothing
-abbrev pub BlamesCommand : (List ℕ → Option (List ℕ)) → Result Request RequestFault → Type 0
-    → Type 0 → Option (List (List ℕ)) → Option (List (List ℕ)) → ℕ → ℕ → ℕ → ℕ → Result Success Stop
-    → Type 0
-BlamesCommand told (Ok request) unread untouched names_old names_new read_before read_now
-    made_before made_now (Ok ended) =
-    BlamesFor {T = Success} told (options_of request).endian (view request) untouched names_old
-    names_new read_before read_now made_before made_now (Ok ended)
-BlamesCommand told (Ok request) unread untouched names_old names_new read_before read_now
-    made_before made_now (Err (stop.Fault fault)) =
-    BlamesFor {T = Success} told (options_of request).endian (view request) untouched names_old
-    names_new read_before read_now made_before made_now (Err fault)
-BlamesCommand told _ unread untouched names_old names_new read_before read_now made_before made_now
-    _ = unread × untouched
+abbrev pub BlamesCommand : Result Request RequestFault → Type 0 → Type 0 → FileReads → FileWrites
+    → Result Success Stop → Type 0
+BlamesCommand (Ok request) unread untouched reading writing (Ok ended) =
+    BlamesFor {T = Success} (options_of request).endian (view request) untouched reading writing
+    (Ok ended)
+BlamesCommand (Ok request) unread untouched reading writing (Err (stop.Fault fault)) =
+    BlamesFor {T = Success} (options_of request).endian (view request) untouched reading writing
+    (Err fault)
+BlamesCommand _ unread untouched reading writing _ = unread × untouched

@@ -14,15 +14,8 @@ use Rattle.jcommand.specs.declared.outcome.Outcome.{Outcome}
 use Rattle.jcommand.specs.declared.outcome.Outcome.TheVariants as outcome
 use Rattle.jffs2_image.specs.Host.{AreLoaded, HasFailed, ReadsFile}
 use Rattle.jffs2_image.specs.Runs.{Says}
-use Rattle.jffs2_image.specs.Writes.{GivesText, IsUnreadFile}
+use Rattle.jffs2_image.specs.Writes.{GivesText, IsUnreadFile, FileReads}
 use Rattle.jffs2_image.specs.declared.info.Informed.{Informed}
-
--- the files of the host that are read: what it tells of their bytes, and how often they failed,
--- before and after
-pub record FileReads : Type 0 where
-  pub told : List ℕ → Option (List ℕ)
-  pub before : ℕ
-  pub now : ℕ
 
 -- What is told of the bytes of an image goes out to the last byte; or a beginning of it did, and
 -- the output failed. `Ok` has the image's byte order, and what the file begins as.

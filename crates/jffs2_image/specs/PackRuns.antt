@@ -17,14 +17,12 @@ use Rattle.jcommand.specs.Parsed.{IsFaultless, PackParsed, PackingParsed, parsed
 use Rattle.jcommand.specs.Status.{outcome_of}
 use Rattle.jcommand.specs.declared.outcome.Outcome.{Outcome}
 use Rattle.jcommand.specs.declared.outcome.Outcome.TheVariants as outcome
-use Rattle.jffs2_image.specs.Compressing.{FileWrites}
 use Rattle.jffs2_image.specs.Folders.{IsListable, IsReadingFault, settings}
 use Rattle.jffs2_image.specs.Host.{Blames, MakesFile, RunsFiles}
-use Rattle.jffs2_image.specs.InfoRuns.{FileReads}
 use Rattle.jffs2_image.specs.PackedTrees.{GivesFolder}
 use Rattle.jffs2_image.specs.Runs.{Finishes, Says, answer_finished}
 use Rattle.jffs2_image.specs.WeakRuns.{AreNotesOn, flash_given, notes_said}
-use Rattle.jffs2_image.specs.Writes.{WritesImage}
+use Rattle.jffs2_image.specs.Writes.{ImageForm, WritesImage, image_form, FileReads, FileWrites}
 use Rattle.jffs2_image.specs.declared.packing.Listed.{Listed}
 use Rattle.jffs2_image.specs.declared.weak.Notes.{Notes}
 
@@ -46,6 +44,10 @@ most_blocks size = if size == 0 then 1 else max (greatest_image / size) 1
 abbrev pub blocks_of : PackingParsed → ℕ
 blocks_of asked = option_map_or (λ blocks. blocks) asked.blocks
     (most_blocks asked.options.geometry.block)
+
+abbrev pub packed_form : PackingParsed → ImageForm
+packed_form asked =
+    image_form asked.page asked.options.endian asked.options.geometry.block (blocks_of asked)
 
 -- ---- the listing
 
@@ -78,11 +80,9 @@ ReadsGiven known options name notes result = ReadsListing known options name not
 pub record PutsText (asked : PackingParsed) (text : List ℕ) (unmade : Type 0)
     (reading : FileReads) (writing : FileWrites) (output : SinkChange) (notes : Notes)
     (result : Result ℕ ProgramFault) : Type 0 where
-  pub writes : WritesImage writing.held asked.page asked.options.endian
-      asked.options.geometry.block (blocks_of asked) asked.output [] text output.old output.new
-      output.before output.now result
-  pub files : RunsFiles reading.told writing.held asked.page asked.options.endian
-      asked.options.geometry.block (blocks_of asked) [] text output.old output.new result
+  pub writes : WritesImage writing.held (packed_form asked) asked.output [] text output result
+  pub files : RunsFiles reading.told writing.held (packed_form asked) [] text output.old output.new
+      result
   pub host : Blames unmade (MakesFile asked.output writing.names_old writing.names_new)
       reading.before reading.now writing.before writing.now result
   pub weak : IfOk result (λ _. IsTrue asked.weak

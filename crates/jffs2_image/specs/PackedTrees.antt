@@ -9,9 +9,8 @@ use Rattle.jfolder.specs.declared.reading.Folder.{Folder}
 use Rattle.jtree.specs.Holding.{HoldsTree}
 use Rattle.jtree.specs.Making.{Files}
 use Rattle.jcommand.specs.Parsed.{PackingParsed}
-use Rattle.jffs2_image.specs.Compressing.{FileWrites}
 use Rattle.jffs2_image.specs.Host.{HaveBytes}
-use Rattle.jffs2_image.specs.InfoRuns.{FileReads}
+use Rattle.jffs2_image.specs.Writes.{FileReads, FileWrites}
 
 -- An image mounts as a file system that holds the tree which was read of a folder, and nothing
 -- else; its files have the bytes that they have on the host, where it tells them.

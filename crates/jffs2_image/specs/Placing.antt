@@ -9,11 +9,11 @@ use Rattle.jcommand.specs.declared.outcome.Outcome.{Outcome}
 use Rattle.jcommand.specs.declared.outcome.Outcome.TheVariants as outcome
 use Rattle.jcommand.specs.declared.parsed.Options.{Options}
 use Rattle.jcommand.specs.declared.parsed.Placing.{Placing}
-use Rattle.jffs2_image.specs.Compressing.{FileWrites}
 use Rattle.jffs2_image.specs.Filling.{HoldsFilled, HoldsFilledInPart}
 use Rattle.jffs2_image.specs.Runs.{IsSaid, IsUnopened}
 use Rattle.jffs2_image.specs.declared.filling.Filling.{Filling}
 use Rattle.jffs2_image.specs.declared.filling.Filling.TheVariants as filling
+use Rattle.jffs2_image.specs.Writes.{FileWrites}
 
 -- ---- what is asked for
 

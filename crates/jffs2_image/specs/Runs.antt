@@ -2,6 +2,7 @@
 use Rattle.std.specs.Prelude.{◌≡◌, ◌⊎◌, ◌==◌, ℕ, Bool, true, false, IsFalse, IsTrue, is_some, List, [], Option, Some, None, Result, Ok, Err, IfOk, IsErrAnd, IsErrOf, if◌then◌else◌, string_bytes}
 use Rattle.std.specs.Io.KnownBytes.{Appends, Keeps}
 use Rattle.flashbase.specs.Device.{PutsPart, next_count}
+use Rattle.flashbase.specs.Sinks.{SinkChange}
 use Rattle.jnode.specs.declared.order.Endian.{Endian}
 use Rattle.jscan.specs.Image.{is_block_size}
 use Rattle.jscan.specs.declared.geometry.ScanFault.TheVariants as scan
@@ -21,10 +22,9 @@ use Rattle.jcommand.specs.declared.command_line.RequestFault.TheVariants as refu
 use Rattle.jcommand.specs.Status.{outcome_of}
 use Rattle.jcommand.specs.declared.outcome.Outcome.{Outcome}
 use Rattle.jcommand.specs.declared.outcome.Outcome.TheVariants as outcome
-use Rattle.jsteps.specs.declared.page.Page.{Page}
 use Rattle.jffs2_image.specs.Decompressing.{DecompressesFile, IsGoneOnWith, PutsTaken}
 use Rattle.jffs2_image.specs.Host.{AreLoaded, AreOf, HasFailed, RunsFiles}
-use Rattle.jffs2_image.specs.Writes.{GivesText, Held, IsBehind, IsNotedIn, IsUnreadFile, WritesImage}
+use Rattle.jffs2_image.specs.Writes.{GivesText, Held, ImageForm, IsBehind, IsNotedIn, IsUnreadFile, WritesImage, image_form}
 use Rattle.jffs2_image.specs.declared.program.Success.{Success}
 use Rattle.jffs2_image.specs.declared.program.Success.TheVariants as success
 use Rattle.jffs2_image.specs.declared.program.Stop.{Stop}
@@ -46,12 +46,10 @@ abbrev pub number_found : Bool → ℕ
 number_found found = if found then 1 else 0
 
 -- `check`, with that number; and whether the shape is asked for
-abbrev pub PutsJudged : Endian → ℕ → Bool → List ℕ → Option (List ℕ) → Option (List ℕ) → ℕ → ℕ
-    → Result ℕ ProgramFault → Type 0
-PutsJudged e size asked image old new before now (Ok n) = (found : Bool) × (n ≡ number_found found)
-    × PutsCheck e size image asked old new before now (Ok found)
-PutsJudged e size asked image old new before now (Err fault) =
-    PutsCheck e size image asked old new before now (Err fault)
+abbrev pub PutsJudged : Endian → ℕ → Bool → List ℕ → SinkChange → Result ℕ ProgramFault → Type 0
+PutsJudged e size asked image sink (Ok n) =
+    (found : Bool) × (n ≡ number_found found) × PutsCheck e size image asked sink (Ok found)
+PutsJudged e size asked image sink (Err fault) = PutsCheck e size image asked sink (Err fault)
 
 -- the image of a request is the file of the name that it gives, where the host tells its bytes;
 -- `build` has none
@@ -67,42 +65,41 @@ IsImageOf told (DecompressParsed options name output) image = AreLoaded (told na
 
 -- the listing of a name is run on an image, with the bytes of the files that its lines name; each
 -- where the host tells its bytes
-abbrev pub RunsListed : (List ℕ → Option (List ℕ)) → Held → Page → Endian → ℕ → ℕ → List ℕ → List ℕ
-    → List ℕ → Option (List ℕ) → Option (List ℕ) → ℕ → ℕ → Result ℕ ProgramFault → Type 0
-RunsListed told held page e size blocks listing output image old new before now answer =
+abbrev pub RunsListed : (List ℕ → Option (List ℕ)) → Held → ImageForm → List ℕ → List ℕ → List ℕ
+    → SinkChange → Result ℕ ProgramFault → Type 0
+RunsListed told held form listing output image sink answer =
     (text : List ℕ) × AreLoaded (told listing) text
-    × WritesImage held page e size blocks output image text old new before now answer
-    × RunsFiles told held page e size blocks image text old new answer
+    × WritesImage held form output image text sink answer
+    × RunsFiles told held form image text sink.old sink.new answer
 
 -- What is put of an image, or why no more of it is; with `--decompress`, of what `decompress` makes
 -- of it. The answer of
 -- `build` is no finding, and that of `append` the number of findings of its base.
-abbrev pub PutsAnswer : (List ℕ → Option (List ℕ)) → Held → Endian → Parsed → List ℕ
-    → Option (List ℕ) → Option (List ℕ) → ℕ → ℕ → Result ℕ ProgramFault → Type 0
+abbrev pub PutsAnswer : (List ℕ → Option (List ℕ)) → Held → Endian → Parsed → List ℕ → SinkChange
+    → Result ℕ ProgramFault → Type 0
 PutsAnswer told held e (ScanParsed options name) = PutsStream e options.geometry.block
 PutsAnswer told held e (CheckParsed options shape name) = PutsJudged e options.geometry.block shape
 PutsAnswer told held e (ListParsed options decompress name None) =
     PutsTaken decompress e options.geometry.block
     (PutsListing (list_request e options.geometry.block None))
 PutsAnswer told held e (ListParsed options decompress name (Some word)) =
-    λ image old new before now answer.
-    (path : List ℕ) × (path_of word ≡ Some path)
+    λ image sink answer. (path : List ℕ) × (path_of word ≡ Some path)
     × PutsTaken decompress e options.geometry.block
-    (PutsListing (list_request e options.geometry.block (Some path)))
-    image old new before now answer
-PutsAnswer told held e (CatParsed options decompress name word) = λ image old new before now answer.
-    (path : List ℕ) × (path_of word ≡ Some path)
+    (PutsListing (list_request e options.geometry.block (Some path))) image sink answer
+PutsAnswer told held e (CatParsed options decompress name word) =
+    λ image sink answer. (path : List ℕ) × (path_of word ≡ Some path)
     × PutsTaken decompress e options.geometry.block
-    (λ bytes. PutsFile e options.geometry.block bytes path) image old new before now answer
+    (λ bytes. PutsFile e options.geometry.block bytes path) image sink answer
 PutsAnswer told held e (BuildParsed options blocks page listing output) =
-    λ image old new before now answer.
-    RunsListed told held page e options.geometry.block blocks listing output image old new before
-    now answer
+    λ image sink answer.
+    RunsListed told held (image_form page e options.geometry.block blocks) listing output image
+    sink answer
     × IfOk answer (λ n. n ≡ 0)
 PutsAnswer told held e (AppendParsed options blocks page decompress name listing output) =
     PutsTaken decompress e options.geometry.block
-    (λ base old new before now answer. RunsListed told held page e options.geometry.block blocks
-    listing output base old new before now answer
+    (λ base sink answer.
+    RunsListed told held (image_form page e options.geometry.block blocks) listing output base
+    sink answer
     × IfOk answer (IsNotedIn e options.geometry.block base))
 PutsAnswer told held e (DecompressParsed options name output) =
     DecompressesFile held e options.geometry.block output
@@ -159,15 +156,15 @@ TellsBlockSize _ answer = Unit {0}
 -- image, that of the name where it is told, of which the answer is put, or a fault comes before any
 -- is read.
 pub record Meets (told : List ℕ → Option (List ℕ)) (held : Held) (e : Endian) (parsed : Parsed)
-    (old new : Option (List ℕ)) (before now : ℕ) (answer : Result ℕ ProgramFault) : Type 0 where
+    (sink : SinkChange) (answer : Result ℕ ProgramFault) : Type 0 where
   pub block_size : IsErrOf answer (program.Scan scan.BlockSize)
       → IsFalse (is_block_size (options_parsed parsed).geometry.block)
   pub told_of : IsFalse (is_block_size (options_parsed parsed).geometry.block)
       → TellsBlockSize parsed answer
   pub put : ((image : List ℕ) × IsImageOf told parsed image
-      × PutsAnswer told held e parsed image old new before now answer)
+      × PutsAnswer told held e parsed image sink answer)
       ⊎ ((fault : ProgramFault) × (answer ≡ Err fault) × IsEarlyFault told e parsed fault
-      × (new ≡ old) × (now ≡ before))
+      × (sink.new ≡ sink.old) × (sink.now ≡ sink.before))
 
 -- the output gave on what it took; or a beginning of it, and failed once more
 abbrev pub Finishes : Option (List ℕ) → Option (List ℕ) → ℕ → ℕ → Bool → Type 0
@@ -180,15 +177,17 @@ answer_finished (Ok n) true = Ok n
 answer_finished (Ok n) false = Err program.Output
 answer_finished (Err fault) finished = Err fault
 
--- A request is met in the order that it names, and all that was put is given on.
+-- A request is met in the order that it names, and all that was put is given on. The new bytes of
+-- the output are those that it gave on.
 pub record MeetsWhole (told : List ℕ → Option (List ℕ)) (held : Held) (parsed : Parsed)
-    (old given : Option (List ℕ)) (before now : ℕ) (result : Result ℕ ProgramFault) : Type 0 where
+    (output : SinkChange) (result : Result ℕ ProgramFault) : Type 0 where
   pub taken : Option (List ℕ)
   pub count : ℕ
   pub answer : Result ℕ ProgramFault
   pub finished : Bool
-  pub meets : Meets told held (options_parsed parsed).endian parsed old taken before count answer
-  pub finishes : Finishes taken given count now finished
+  pub meets : Meets told held (options_parsed parsed).endian parsed
+      (record { old = output.old; new = taken; before = output.before; now = count }) answer
+  pub finishes : Finishes taken output.new count output.now finished
   pub comes_to : result ≡ answer_finished answer finished
 
 -- ---- a run
@@ -206,22 +205,23 @@ success_of (DecompressParsed options image output) n = success.Shown n
 -- What a command line is answered: the request is met; help goes out; a refusal and out of memory
 -- stay what they are, and leave the output as it was.
 abbrev pub MeetsCommand : Type 0 → (List ℕ → Option (List ℕ)) → Held → Result Request RequestFault
-    → Option (List ℕ) → Option (List ℕ) → ℕ → ℕ → Result Success Stop → Type 0
-MeetsCommand untouched told held (Ok request) old given before now (Ok ended) =
+    → SinkChange → Result Success Stop → Type 0
+MeetsCommand untouched told held (Ok request) output (Ok ended) =
     (n : ℕ) × (ended ≡ success_of (view request) n)
-    × MeetsWhole told held (view request) old given before now (Ok n)
-MeetsCommand untouched told held (Ok request) old given before now (Err (stop.Fault fault)) =
-    MeetsWhole told held (view request) old given before now (Err fault)
-MeetsCommand untouched told held (Err (refused.Help text)) old given before now (Ok ended) =
-    (ended ≡ success.Shown 0) × Appends old given (string_bytes text) × (now ≡ before)
-MeetsCommand untouched told held (Err (refused.Help text)) old given before now
-    (Err (stop.Fault fault)) =
-    (fault ≡ program.Output) × GivesText old given (string_bytes text) × HasFailed before now
-MeetsCommand untouched told held (Err (refused.Usage text)) old given before now
-    (Err (stop.Usage said)) = (said ≡ text) × untouched
-MeetsCommand untouched told held (Err refused.OutOfMemory) old given before now
-    (Err (stop.Fault fault)) = (fault ≡ program.OutOfMemory) × untouched
-MeetsCommand untouched told held _ old given before now _ = ⊥
+    × MeetsWhole told held (view request) output (Ok n)
+MeetsCommand untouched told held (Ok request) output (Err (stop.Fault fault)) =
+    MeetsWhole told held (view request) output (Err fault)
+MeetsCommand untouched told held (Err (refused.Help text)) output (Ok ended) =
+    (ended ≡ success.Shown 0) × Appends output.old output.new (string_bytes text)
+    × (output.now ≡ output.before)
+MeetsCommand untouched told held (Err (refused.Help text)) output (Err (stop.Fault fault)) =
+    (fault ≡ program.Output) × GivesText output.old output.new (string_bytes text)
+    × HasFailed output.before output.now
+MeetsCommand untouched told held (Err (refused.Usage text)) output (Err (stop.Usage said)) =
+    (said ≡ text) × untouched
+MeetsCommand untouched told held (Err refused.OutOfMemory) output (Err (stop.Fault fault)) =
+    (fault ≡ program.OutOfMemory) × untouched
+MeetsCommand untouched told held _ output _ = ⊥
 
 -- what the words make of a command line
 abbrev pub IsCommand : List (List ℕ) → Result Request RequestFault → Type 0
@@ -261,9 +261,9 @@ Says untouched old new before now (Some text) = IsSaid old new before now text
 -- A run of a command line that asks for no folder: what it is answered, and how it ends.
 -- `untouched`: the output is as it was.
 pub record RunsCommand (untouched : Type 0) (told : List ℕ → Option (List ℕ)) (held : Held)
-    (command : Result Request RequestFault) (old given : Option (List ℕ)) (before now : ℕ)
+    (command : Result Request RequestFault) (output : SinkChange)
     (says : Option (List ℕ) → Type 0) (result : Outcome) : Type 0 where
   pub answer : Result Success Stop
-  pub meets : MeetsCommand untouched told held command old given before now answer
+  pub meets : MeetsCommand untouched told held command output answer
   pub ends : result ≡ outcome_after answer
   pub said : says (said_after answer)

@@ -8,17 +8,18 @@ use Rattle.jcommand.specs.declared.parsed.Request.{Request}
 use Rattle.jcommand.specs.declared.command_line.RequestFault.{RequestFault}
 use Rattle.jcommand.specs.declared.outcome.Outcome.{Outcome}
 use Rattle.jffs2_image.specs.ClashRuns.{RunsApart}
-use Rattle.jffs2_image.specs.Compressing.{FileWrites, RunsCompress}
+use Rattle.jffs2_image.specs.Compressing.{RunsCompress}
 use Rattle.jffs2_image.specs.CutRuns.{RunsCuts}
 use Rattle.jffs2_image.specs.DamageRuns.{RunsDamage}
 use Rattle.jffs2_image.specs.DiffRuns.{RunsDiff}
 use Rattle.jffs2_image.specs.FolderRuns.{RunsExtract, RunsListing}
 use Rattle.jffs2_image.specs.Host.{BlamesCommand}
-use Rattle.jffs2_image.specs.InfoRuns.{FileReads, RunsInfo}
+use Rattle.jffs2_image.specs.InfoRuns.{RunsInfo}
 use Rattle.jffs2_image.specs.PackRuns.{PackAround, RunsPack}
 use Rattle.jffs2_image.specs.Placing.{RunsPlaced, Tellings, intent_of, writes}
 use Rattle.jffs2_image.specs.Runs.{IsCommand, RunsCommand, Says}
 use Rattle.jffs2_image.specs.WeakRuns.{RunsWeak}
+use Rattle.jffs2_image.specs.Writes.{FileReads, FileWrites}
 
 -- the folders of the host: what is made in the folder of each name, before and after, and what is
 -- known of those that are read
@@ -67,21 +68,18 @@ pub record RunsImage (args : List (List ℕ)) (a : Around) (same : Untouched) (r
     Type 0 where
   pub command : Result Request RequestFault
   pub asked : IsCommand args command
-  pub ran : RunsCommand same.output a.reading.told a.writing.held command a.output.old a.output.new
-      a.output.before a.output.now (TellsErrors same.errors a.errors) result
+  pub ran : RunsCommand same.output a.reading.told a.writing.held command a.output
+      (TellsErrors same.errors a.errors) result
   pub folders : same.folders
-  pub host : BlamesCommand a.reading.told command same.loader same.maker a.writing.names_old
-      a.writing.names_new a.reading.before a.reading.now a.writing.before a.writing.now ran.answer
+  pub host : BlamesCommand command same.loader same.maker a.reading a.writing ran.answer
 
 abbrev pub ExtractRuns : List (List ℕ) → Around → Outcome → Type 0
 ExtractRuns args a result =
-    RunsExtract args a.reading.told a.reading.before a.reading.now a.folders.made_old
-    a.folders.made_new a.errors.old a.errors.new a.errors.before a.errors.now result
+    RunsExtract args a.reading a.folders.made_old a.folders.made_new a.errors result
 
 abbrev pub ListingRuns : List (List ℕ) → Around → Untouched → Outcome → Type 0
 ListingRuns args a same result =
-    RunsListing args same.output a.folders.reads a.output.old a.output.new a.output.before
-    a.output.now a.errors.old a.errors.new a.errors.before a.errors.now result
+    RunsListing args same.output a.folders.reads a.output a.errors result
 
 -- all but the folders
 abbrev pub pack_around : Around → PackAround
@@ -121,9 +119,11 @@ abbrev pub Asks : List (List ℕ) → TaskParsed → Type 0
 Asks words task = (parsed_from words ≡ Some task) × IsFaultless words
 
 -- The words ask for a task, which ran as they intend; or for none, and no file is made.
+-- `maker` has the maker of files, before and after.
 abbrev pub RunsAsked : {M B E : Type 0} → Tellings M B → (E → E → List ℕ → Type 0) → List (List ℕ)
-    → (FileWrites → Type 0 → E → Outcome → Type 0) → M → M → E → Outcome → Type 0
-RunsAsked tells Says words Runs old new last result =
+    → (FileWrites → Type 0 → E → Outcome → Type 0) → M × M → E → Outcome → Type 0
+RunsAsked tells Says words Runs maker last result =
     ((task : TaskParsed) × Asks words task
-    × RunsPlaced tells Says (intent_of (placing_from words) task) Runs old new last result)
-    ⊎ (new ≡ old) × Runs (writes tells.real old new) (new ≡ old) last result
+    × RunsPlaced tells Says (intent_of (placing_from words) task) Runs maker.0 maker.1 last result)
+    ⊎ (maker.1 ≡ maker.0)
+    × Runs (writes tells.real maker.0 maker.1) (maker.1 ≡ maker.0) last result

@@ -25,11 +25,10 @@ use Rattle.jcommand.specs.declared.parsed.Options.{Options}
 use Rattle.jcommand.specs.declared.parsed.Request.{Request}
 use Rattle.jcommand.specs.declared.outcome.Outcome.{Outcome}
 use Rattle.jcommand.specs.declared.outcome.Outcome.TheVariants as outcome
-use Rattle.jffs2_image.specs.Compressing.{FileWrites}
 use Rattle.jffs2_image.specs.Host.{AreLoaded, BlamesFor, HaveBytes}
-use Rattle.jffs2_image.specs.InfoRuns.{FileReads}
 use Rattle.jffs2_image.specs.Runs.{MeetsWhole, Says, note_after}
 use Rattle.jffs2_image.specs.declared.weak.Notes.{Notes}
+use Rattle.jffs2_image.specs.Writes.{FileReads, FileWrites}
 
 -- ---- the notes
 
@@ -116,11 +115,8 @@ pub record EndsWeak (request : Request) (reading : FileReads) (writing : FileWri
   pub notes : Notes
   pub between : Option (List ℕ)
   pub count : ℕ
-  pub meets : MeetsWhole reading.told writing.held (view request) output.old output.new
-      output.before output.now answer
-  pub host : BlamesFor reading.told (options_of request).endian (view request) untouched
-      writing.names_old writing.names_new reading.before reading.now writing.before writing.now
-      answer
+  pub meets : MeetsWhole reading.told writing.held (view request) output answer
+  pub host : BlamesFor (options_of request).endian (view request) untouched reading writing answer
   pub noted : IfOk answer
       (λ _. HasNotes reading.told (options_of request).endian (view request) notes)
   pub said : Says ((between ≡ errors.old) × (count ≡ errors.before)) errors.old between

@@ -2,6 +2,7 @@
 use Rattle.std.specs.Prelude.{◌≡◌, ◌≢◌, ◌⊎◌, ◌<◌, ◌++◌, ℕ, List, [], ◌∷◌, Any, IfSome, length, take, slice_get, option_map, Option, Some, None, Result, Ok, Err, IsOk}
 use Rattle.std.specs.Io.KnownBytes.{Appends, Keeps}
 use Rattle.flashbase.specs.Device.{PutsPart, next_count}
+use Rattle.flashbase.specs.Sinks.{SinkChange}
 use Rattle.flashbase.specs.declared.source.LoadFault.TheVariants as load
 use Rattle.jnode.specs.declared.order.Endian.{Endian}
 use Rattle.jscan.specs.Image.{greatest_image}
@@ -20,6 +21,7 @@ use Rattle.jlog.specs.declared.report.Place.{Place}
 use Rattle.jbuild.specs.Accepted.{accepted_line}
 use Rattle.jbuild.specs.Emitting.{IsEmitted, front_before}
 use Rattle.jbuild.specs.Operations.{ops_in}
+use Rattle.jcommand.specs.declared.parsed.Target.{Target}
 use Rattle.jreport.specs.Causes.{cause_of}
 use Rattle.jreport.specs.Notes.{noted}
 use Rattle.jreport.specs.declared.cause.Cause.{Cause}
@@ -27,6 +29,31 @@ use Rattle.jreport.specs.declared.cause.Plan.{Plan}
 use Rattle.jreport.specs.declared.faults.ProgramFault.{ProgramFault}
 use Rattle.jreport.specs.declared.faults.ProgramFault.TheVariants as program
 use Rattle.jreport.specs.declared.reason.Reason.{Reason}
+
+-- ---- what is written
+
+-- the form of an image that is written: the page by which files are cut, the byte order, and the
+-- blocks of the flash, by their size and number
+pub record ImageForm : Type 0 where
+  pub page : Page
+  pub order : Endian
+  pub block : ℕ
+  pub blocks : ℕ
+
+abbrev pub image_form : Page → Endian → ℕ → ℕ → ImageForm
+image_form page order block blocks =
+    record { page = page; order = order; block = block; blocks = blocks }
+
+-- what a command line asks for, in a byte order
+abbrev pub form_of : Endian → Target → ImageForm
+form_of order target =
+    image_form target.page order target.options.geometry.block target.blocks
+
+-- where writing goes on behind a mounted image, or why it does not
+abbrev pub resumed : ImageForm → Mount → Result ℕ SessionFault
+resumed form m = resumes_by form.page form.order form.block form.blocks m
+
+-- ---- what is read
 
 -- a file is longer than the greatest image, where the host tells its bytes
 abbrev pub IsTooLong : Option (List ℕ) → Type 0
@@ -75,20 +102,34 @@ IsGivenOn _ taken given before now = Keeps taken given × (now ≡ before)
 
 -- A base and operations on it were put out, and what was taken was given on: so many were accepted,
 -- their nodes have these places, and this stopped them.
-pub record IsPut (page : Page) (e : Endian) (size blocks : ℕ) (m : Mount) (ops : List Op)
-    (accepted : ℕ) (places : List Place) (stopped : Option SessionFault)
-    (old given : Option (List ℕ)) (before now : ℕ) : Type 0 where
+pub record IsPut (form : ImageForm) (m : Mount) (ops : List Op) (accepted : ℕ) (places : List Place)
+    (stopped : Option SessionFault) (file : SinkChange) : Type 0 where
   pub taken : Option (List ℕ)
   pub count : ℕ
-  pub resumes : IsOk (resumes_by page e size blocks m)
-  pub emitted : IsEmitted page e size blocks m.image ops accepted places stopped
-      (record { old = old; new = taken; before = before; now = count })
-  pub given_on : IsGivenOn stopped taken given count now
+  pub resumes : IsOk (resumed form m)
+  pub emitted : IsEmitted form.page form.order form.block form.blocks m.image ops accepted places
+      stopped (record { old = file.old; new = taken; before = file.before; now = count })
+  pub given_on : IsGivenOn stopped taken file.new count file.now
 
 -- What was given to the files that were made and are lent out no more, in order, where the host
 -- tells it: before and after.
 abbrev pub Held : Type 0
 Held = Option (List (List ℕ)) × Option (List (List ℕ))
+
+-- the files of the host that are read: what it tells of their bytes, and how often they failed,
+-- before and after
+pub record FileReads : Type 0 where
+  pub told : List ℕ → Option (List ℕ)
+  pub before : ℕ
+  pub now : ℕ
+
+-- the files that are made: their names, what was given to them, and how often they failed
+pub record FileWrites : Type 0 where
+  pub names_old : Option (List (List ℕ))
+  pub names_new : Option (List (List ℕ))
+  pub held : Held
+  pub before : ℕ
+  pub now : ℕ
 
 -- a file that was empty when it was made was handed back, and this was given to it
 abbrev pub IsHanded : Held → Option (List ℕ) → Option (List ℕ) → Type 0
@@ -96,58 +137,51 @@ IsHanded held old given = IfSome held.0
     (λ files. (old ≡ Some []) × IfSome given (λ bytes. held.1 ≡ Some (files ++ bytes ∷ [])))
 
 -- there is a file to which they were, and to which nothing else was given
-pub record IsMade (held : Held) (page : Page) (e : Endian) (size blocks : ℕ) (m : Mount)
-    (ops : List Op) (accepted : ℕ) (places : List Place) (stopped : Option SessionFault) : Type
-    0 where
-  pub old : Option (List ℕ)
-  pub given : Option (List ℕ)
-  pub before : ℕ
-  pub now : ℕ
-  pub put : IsPut page e size blocks m ops accepted places stopped old given before now
-  pub handed : IsHanded held old given
+pub record IsMade (held : Held) (form : ImageForm) (m : Mount) (ops : List Op) (accepted : ℕ)
+    (places : List Place) (stopped : Option SessionFault) : Type 0 where
+  pub file : SinkChange
+  pub put : IsPut form m ops accepted places stopped file
+  pub handed : IsHanded held file.old file.new
 
 -- ---- a file of which no line tells
 
 -- A beginning of the base's bytes up to where writing goes on was put out; or all of them, and then
 -- operations were run, and it was not the output that stopped them.
-abbrev pub IsPutInPart : Page → Endian → ℕ → ℕ → List ℕ → List Op → Option (List ℕ)
-    → Option (List ℕ) → Type 0
-IsPutInPart page e size blocks base ops old taken =
-    PutsPart old taken (front_before e size blocks base)
+abbrev pub IsPutInPart : ImageForm → List ℕ → List Op → Option (List ℕ) → Option (List ℕ) → Type 0
+IsPutInPart form base ops old taken =
+    PutsPart old taken (front_before form.order form.block form.blocks base)
     ⊎ ((accepted : ℕ) × (places : List Place) × (stopped : Option SessionFault) × (before : ℕ)
     × (now : ℕ)
     × (stopped ≢ Some session.Sink)
-    × IsEmitted page e size blocks base ops accepted places stopped
+    × IsEmitted form.page form.order form.block form.blocks base ops accepted places stopped
     (record { old = old; new = taken; before = before; now = now }))
 
 -- of that a beginning was given on
-abbrev pub GivesPart : Page → Endian → ℕ → ℕ → List ℕ → List Op → Option (List ℕ) → Option (List ℕ)
-    → Type 0
-GivesPart page e size blocks base ops old given = (taken : Option (List ℕ))
-    × IsPutInPart page e size blocks base ops old taken × IsBehind given taken
+abbrev pub GivesPart : ImageForm → List ℕ → List Op → Option (List ℕ) → Option (List ℕ) → Type 0
+GivesPart form base ops old given =
+    (taken : Option (List ℕ)) × IsPutInPart form base ops old taken × IsBehind given taken
 
 -- The base's bytes up to there were put out and nothing else, and of that a beginning was given on.
-abbrev pub GivesFront : Endian → ℕ → ℕ → List ℕ → Option (List ℕ) → Option (List ℕ) → Type 0
-GivesFront e size blocks base old given =
-    (taken : Option (List ℕ)) × Appends old taken (front_before e size blocks base)
+abbrev pub GivesFront : ImageForm → List ℕ → Option (List ℕ) → Option (List ℕ) → Type 0
+GivesFront form base old given =
+    (taken : Option (List ℕ))
+    × Appends old taken (front_before form.order form.block form.blocks base)
     × IsBehind given taken
 
 -- the one or the other, by the fault: without memory no operation was run
-abbrev pub GivesCut : SessionFault → Page → Endian → ℕ → ℕ → List ℕ → List Op → Option (List ℕ)
+abbrev pub GivesCut : SessionFault → ImageForm → List ℕ → List Op → Option (List ℕ)
     → Option (List ℕ) → Type 0
-GivesCut session.OutOfMemory page e size blocks base ops old given =
-    GivesFront e size blocks base old given
-GivesCut _ page e size blocks base ops old given = GivesPart page e size blocks base ops old given
+GivesCut session.OutOfMemory form base ops old given = GivesFront form base old given
+GivesCut _ form base ops old given = GivesPart form base ops old given
 
 -- to a file, to which nothing else was given
-abbrev pub HoldsPart : Held → Page → Endian → ℕ → ℕ → List ℕ → List Op → Type 0
-HoldsPart held page e size blocks base ops = (old : Option (List ℕ)) × (given : Option (List ℕ))
-    × GivesPart page e size blocks base ops old given × IsHanded held old given
+abbrev pub HoldsPart : Held → ImageForm → List ℕ → List Op → Type 0
+HoldsPart held form base ops = (old : Option (List ℕ)) × (given : Option (List ℕ))
+    × GivesPart form base ops old given × IsHanded held old given
 
-abbrev pub HoldsFront : Held → Endian → ℕ → ℕ → List ℕ → Type 0
-HoldsFront held e size blocks base =
-    (old : Option (List ℕ)) × (given : Option (List ℕ)) × GivesFront e size blocks base old given
-    × IsHanded held old given
+abbrev pub HoldsFront : Held → ImageForm → List ℕ → Type 0
+HoldsFront held form base = (old : Option (List ℕ)) × (given : Option (List ℕ))
+    × GivesFront form base old given × IsHanded held old given
 
 -- a file was made, and nothing was given to it
 abbrev pub HoldsNothing : Held → Type 0
@@ -155,26 +189,24 @@ HoldsNothing held = IsHanded held (Some []) (Some [])
 
 -- What is held by the file that was made where no run is told, by the fault: a beginning of what
 -- goes out for the base and the operations, or nothing; or there is no file.
-abbrev pub HoldsCut : Held → Page → Endian → ℕ → ℕ → List ℕ → List Op → ProgramFault → Type 0
-HoldsCut held page e size blocks base ops (program.Session session.Sink line cause) =
-    HoldsPart held page e size blocks base ops
-HoldsCut held page e size blocks base ops (program.Session session.OutOfMemory line cause) =
-    HoldsFront held e size blocks base
-HoldsCut held page e size blocks base ops program.OutOfMemory = HoldsNothing held
-HoldsCut held page e size blocks base ops (program.File name) = held.1 ≡ held.0
-HoldsCut held page e size blocks base ops _ = Unit {0}
+abbrev pub HoldsCut : Held → ImageForm → List ℕ → List Op → ProgramFault → Type 0
+HoldsCut held form base ops (program.Session session.Sink line cause) = HoldsPart held form base ops
+HoldsCut held form base ops (program.Session session.OutOfMemory line cause) =
+    HoldsFront held form base
+HoldsCut held form base ops program.OutOfMemory = HoldsNothing held
+HoldsCut held form base ops (program.File name) = held.1 ≡ held.0
+HoldsCut held form base ops _ = Unit {0}
 
 -- The lines of the listing were run on a base, with some bytes for the files that they name: so
 -- many were accepted, their nodes have these places, and this stopped them. What they did survives
 -- a stop of writing at any byte.
-pub record IsRunOn (held : Held) (page : Page) (e : Endian) (size blocks : ℕ) (base text : List ℕ)
-    (lines : List Line) (accepted : ℕ) (places : List Place) (stopped : Option SessionFault) : Type
-    0 where
+pub record IsRunOn (held : Held) (form : ImageForm) (base text : List ℕ) (lines : List Line)
+    (accepted : ℕ) (places : List Place) (stopped : Option SessionFault) : Type 0 where
   pub mount : Mount
   pub files : List ℕ → List ℕ
   pub read : lines_of text ≡ Ok lines
-  pub mounts : Answers e size base (Ok mount)
-  pub made : IsMade held page e size blocks mount (ops_in e files lines) accepted places stopped
+  pub mounts : Answers form.order form.block base (Ok mount)
+  pub made : IsMade held form mount (ops_in form.order files lines) accepted places stopped
 
 -- the file that is made failed, or memory ran out
 abbrev pub IsFaultOfMaking : SessionFault → Type 0
@@ -184,9 +216,9 @@ IsFaultOfMaking _ = ⊥
 
 -- Why no operation was run, or not to its end: the image is not gone on from; or it is, and the
 -- file that is made failed, or memory ran out.
-abbrev pub IsNotGoneOn : Page → Endian → ℕ → ℕ → Mount → SessionFault → Type 0
-IsNotGoneOn page e size blocks m fault = (resumes_by page e size blocks m ≡ Err fault)
-    ⊎ (IsOk (resumes_by page e size blocks m) × IsFaultOfMaking fault)
+abbrev pub IsNotGoneOn : ImageForm → Mount → SessionFault → Type 0
+IsNotGoneOn form m fault =
+    (resumed form m ≡ Err fault) ⊎ (IsOk (resumed form m) × IsFaultOfMaking fault)
 
 -- a flash, and an image on it
 abbrev pub flash_plan : Page → ℕ → ℕ → List ℕ → Plan
@@ -204,56 +236,58 @@ IsCause page size blocks base fault cause =
     (reason : Reason) × (cause ≡ cause_of (flash_plan page size blocks base) fault reason)
 
 -- why no file was made, or not to its end
-abbrev pub IsNotMade : Page → Endian → ℕ → ℕ → Mount → List ℕ → ProgramFault → Type 0
-IsNotMade page e size blocks m output (program.File file) = file.name.now ≡ output
-IsNotMade page e size blocks m output (program.Session fault None cause) =
-    IsNotGoneOn page e size blocks m fault × IsCause page size blocks m.image fault cause
-IsNotMade page e size blocks m output program.OutOfMemory = Unit {0}
-IsNotMade page e size blocks m output _ = ⊥
+abbrev pub IsNotMade : ImageForm → Mount → List ℕ → ProgramFault → Type 0
+IsNotMade form m output (program.File file) = file.name.now ≡ output
+IsNotMade form m output (program.Session fault None cause) =
+    IsNotGoneOn form m fault × IsCause form.page form.block form.blocks m.image fault cause
+IsNotMade form m output program.OutOfMemory = Unit {0}
+IsNotMade form m output _ = ⊥
 
 -- the fault of a session, and the line of the listing that it came to
-abbrev pub IsSessionFault : Held → Page → Endian → ℕ → ℕ → List ℕ → List ℕ → SessionFault → Option ℕ
-    → Type 0
-IsSessionFault held page e size blocks base text fault line =
+abbrev pub IsSessionFault : Held → ImageForm → List ℕ → List ℕ → SessionFault → Option ℕ → Type 0
+IsSessionFault held form base text fault line =
     ((line ≡ None)
-    × ((m : Mount) × Answers e size base (Ok m) × IsNotGoneOn page e size blocks m fault))
+    × ((m : Mount) × Answers form.order form.block base (Ok m) × IsNotGoneOn form m fault))
     ⊎ ((lines : List Line) × (accepted : ℕ) × (places : List Place)
-    × IsRunOn held page e size blocks base text lines accepted places (Some fault)
+    × IsRunOn held form base text lines accepted places (Some fault)
     × (line ≡ option_map (λ l. l.number) (slice_get lines accepted)))
 
 -- why an image is not written, or not to its end
-abbrev pub IsWriteFault : Held → Page → Endian → ℕ → ℕ → List ℕ → List ℕ → List ℕ → ProgramFault
-    → Type 0
-IsWriteFault held page e size blocks output base text (program.Listing bad) = IsBadLine text bad
-IsWriteFault held page e size blocks output base text (program.File file) =
-    (file.name.now ≡ output)
+abbrev pub IsWriteFault : Held → ImageForm → List ℕ → List ℕ → List ℕ → ProgramFault → Type 0
+IsWriteFault held form output base text (program.Listing bad) = IsBadLine text bad
+IsWriteFault held form output base text (program.File file) = (file.name.now ≡ output)
     ⊎ ((lines : List Line) × (lines_of text ≡ Ok lines) × IsNamedByLine lines file.name.now)
-IsWriteFault held page e size blocks output base text (program.Load fault) =
+IsWriteFault held form output base text (program.Load fault) =
     (lines : List Line) × (lines_of text ≡ Ok lines)
-IsWriteFault held page e size blocks output base text (program.Mount fault) =
-    Answers e size base (Err fault)
-IsWriteFault held page e size blocks output base text (program.Session fault line cause) =
-    IsSessionFault held page e size blocks base text fault line
-    × IsCause page size blocks base fault cause
-IsWriteFault held page e size blocks output base text program.OutOfMemory = Unit {0}
-IsWriteFault held page e size blocks output base text _ = ⊥
+IsWriteFault held form output base text (program.Mount fault) =
+    Answers form.order form.block base (Err fault)
+IsWriteFault held form output base text (program.Session fault line cause) =
+    IsSessionFault held form base text fault line
+    × IsCause form.page form.block form.blocks base fault cause
+IsWriteFault held form output base text program.OutOfMemory = Unit {0}
+IsWriteFault held form output base text _ = ⊥
+
+-- the line on what was accepted of operations on a base
+abbrev pub line_on : ImageForm → List ℕ → ℕ → List Place → List ℕ
+line_on form base accepted places =
+    accepted_line (resume_address form.order form.block form.blocks base) accepted places
 
 -- The operations of a listing's text are run on a base, and what they did is told in a line; or a
 -- fault is due, and nothing is told.
-abbrev pub WritesImage : {T : Type 0} → Held → Page → Endian → ℕ → ℕ → List ℕ → List ℕ → List ℕ
-    → Option (List ℕ) → Option (List ℕ) → ℕ → ℕ → Result T ProgramFault → Type 0
-WritesImage held page e size blocks output base text old new before now (Ok _) =
+abbrev pub WritesImage : {T : Type 0} → Held → ImageForm → List ℕ → List ℕ → List ℕ → SinkChange
+    → Result T ProgramFault → Type 0
+WritesImage held form output base text sink (Ok _) =
     (lines : List Line) × (accepted : ℕ) × (places : List Place)
-    × IsRunOn held page e size blocks base text lines accepted places None
-    × Appends old new (accepted_line (resume_address e size blocks base) accepted places)
-    × (now ≡ before)
-WritesImage held page e size blocks output base text old new before now (Err program.Output) =
+    × IsRunOn held form base text lines accepted places None
+    × Appends sink.old sink.new (line_on form base accepted places) × (sink.now ≡ sink.before)
+WritesImage held form output base text sink (Err program.Output) =
     (lines : List Line) × (accepted : ℕ) × (places : List Place)
-    × IsRunOn held page e size blocks base text lines accepted places None
-    × PutsPart old new (accepted_line (resume_address e size blocks base) accepted places)
-    × (now ≡ next_count before)
-WritesImage held page e size blocks output base text old new before now (Err fault) =
-    IsWriteFault held page e size blocks output base text fault × (new ≡ old) × (now ≡ before)
+    × IsRunOn held form base text lines accepted places None
+    × PutsPart sink.old sink.new (line_on form base accepted places)
+    × (sink.now ≡ next_count sink.before)
+WritesImage held form output base text sink (Err fault) =
+    IsWriteFault held form output base text fault × (sink.new ≡ sink.old)
+    × (sink.now ≡ sink.before)
 
 -- a base has so many findings of which a reader of files is told
 abbrev pub IsNotedIn : Endian → ℕ → List ℕ → ℕ → Type 0

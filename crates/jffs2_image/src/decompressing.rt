@@ -6,6 +6,7 @@ ghost use Rattle.jconvert.specs.Holding.{IsHeldOf};
 ghost use Rattle.jffs2_image.specs.Decompressing.{DecompressesFile, HoldsMade, IsNotConverted, IsNotWritten, IsSinkCause, IsTaken, fault_of_conversion};
 ghost use Rattle.jffs2_image.specs.Host.{AreLoaded, BlamesDecompress, HasFailed, MakesFile, ReadsFile};
 ghost use Rattle.jffs2_image.specs.Writes.{GivesText, IsFaultOfMaking, IsUnreadFile};
+ghost use Rattle.flashbase.specs.Sinks.{change_of};
 
 use crate::host::{Loader, MakeFault, Maker};
 use crate::output::Output;
@@ -191,8 +192,7 @@ pub fn decompress_into<'a, E: Order, M: Maker, T: Sink>(
     sink: &mut T,
 ) -> Result<u64, ProgramFault<'a>>
     ensures decompresses { DecompressesFile (M.held maker.old, M.held maker.new) E.order
-        geometry.block name.entry.now image.now
-        (T.taken sink.old) (T.taken sink.new) (T.failures sink.old) (T.failures sink.new) result }
+        geometry.block name.entry.now image.now (change_of T.Sink sink.old sink.new) result }
     ensures host { (read : ℕ) → BlamesDecompress (maker.new ≡ maker.old)
         (MakesFile name.entry.now (M.names maker.old) (M.names maker.new))
         read read (M.failures maker.old) (M.failures maker.new) result }

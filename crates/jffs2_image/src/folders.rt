@@ -1,6 +1,6 @@
 //! The commands that work with a folder of the host: `extract` and `listing`.
 ghost use Rattle.std.specs.Prelude.{◌≡◌, ◌≢◌, ℕ, true, List, IfOk, Option, Some, option_map};
-ghost use Rattle.flashbase.specs.Sinks.{PutsTo};
+ghost use Rattle.flashbase.specs.Sinks.{PutsTo, change_of};
 ghost use Rattle.jfolder.specs.Known.{Known};
 ghost use Rattle.jfolder.specs.Text.{listing_text};
 ghost use Rattle.jcommand.specs.Parsed.{ExtractParsed, ListingParsed, IsFaultless};
@@ -9,6 +9,7 @@ ghost use Rattle.jffs2_image.specs.Folders.{ExtractsImage, ExtractsBytes, Extrac
 ghost use Rattle.jcommand.specs.Status.{outcome_of};
 ghost use Rattle.jffs2_image.specs.FolderRuns.{EndsExtraction, EndsListing, FinishesListing, ListsGiven, found_by_extraction, notes_after_extraction};
 ghost use Rattle.jffs2_image.specs.Runs.{Says};
+ghost use Rattle.jffs2_image.specs.Tasks.{passage};
 
 use crate::decompressing::{Taken, take_image};
 use crate::host::Loader;
@@ -415,10 +416,8 @@ pub fn list_folder<'a, H: HostFolder, T: Sink, N: Sink>(
     sink: &mut T,
     notes: &mut N,
 ) -> Result<u64, ProgramFault<'a>>
-    ensures { ListsFolder (H.known folder.old) options name.entry.now (T.taken sink.old)
-        (T.taken sink.new) (T.failures sink.old) (T.failures sink.new)
-        (N.taken notes.old) (N.taken notes.new) (N.failures notes.old) (N.failures notes.new)
-        result }
+    ensures { ListsFolder (H.known folder.old) options name.entry.now
+        (change_of T.Sink sink.old sink.new) (change_of N.Sink notes.old notes.new) result }
 {
     let read = match read_folder(alloc, folder, &options, notes) {
         Ok(read) => read,
@@ -510,10 +509,9 @@ fn list_whole<'a, H: HostFolder, T: Output, N: Sink>(
     output: &mut T,
     notes: &mut N,
 ) -> Result<u64, ProgramFault<'a>>
-    ensures { FinishesListing (H.known folder.old) options name.entry.now (T.taken output.old)
-        (T.given output.new) (T.failures output.old) (T.failures output.new)
-        (N.taken notes.old) (N.taken notes.new) (N.failures notes.old) (N.failures notes.new)
-        result }
+    ensures { FinishesListing (H.known folder.old) options name.entry.now
+        (passage T.taken T.given T.failures output.old output.new)
+        (change_of N.Sink notes.old notes.new) result }
 {
     let answer = list_folder(alloc, options, name, folder, output, notes);
     let finished = output.finish();
@@ -536,10 +534,8 @@ fn list_given<'a, D: Folders, T: Output, N: Sink>(
 ) -> Result<u64, ProgramFault<'a>>
     ensures made { D.made folders.new ≡ D.made folders.old }
     ensures lists { ListsGiven (output.new ≡ output.old) (D.reads folders.old name.entry.now)
-        options name.entry.now (T.taken output.old) (T.given output.new) (T.failures output.old)
-        (T.failures output.new)
-        (N.taken notes.old) (N.taken notes.new) (N.failures notes.old) (N.failures notes.new)
-        result }
+        options name.entry.now (passage T.taken T.given T.failures output.old output.new)
+        (change_of N.Sink notes.old notes.new) result }
 {
     let Ok(mut folder) = folders.read(name, quiet) else {
         return Err(ProgramFault::OutOfMemory);
@@ -560,10 +556,8 @@ pub fn run_listing<D: Folders, T: Output, E: Sink>(
     ensures made { D.made folders.new ≡ D.made folders.old }
     ensures ends { EndsListing (output.new ≡ output.old)
         (D.reads folders.old asked.entry.folder.now) (settings asked.entry.owner asked.entry.time)
-        asked.entry.folder.now (T.taken output.old) (T.given output.new) (T.failures output.old)
-        (T.failures output.new)
-        (E.taken errors.old) (E.taken errors.new) (E.failures errors.old) (E.failures errors.new)
-        result }
+        asked.entry.folder.now (passage T.taken T.given T.failures output.old output.new)
+        (change_of E.Sink errors.old errors.new) result }
 {
     let options = settings_of(asked.owner, asked.time);
     match list_given(

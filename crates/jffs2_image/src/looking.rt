@@ -6,6 +6,7 @@ ghost use Rattle.flashbase.specs.Device.{CountsErr};
 ghost use Rattle.jcommand.specs.Parsed.{ScanParsed, CheckParsed, ListParsed, CatParsed};
 ghost use Rattle.jffs2_image.specs.Host.{GivesFile, ReadsFile};
 ghost use Rattle.jffs2_image.specs.Runs.{Meets};
+ghost use Rattle.flashbase.specs.Sinks.{change_of};
 
 use crate::decompressing::take_file;
 use crate::host::Loader;
@@ -44,7 +45,7 @@ pub(crate) fn scan<'a, E: Order, L: Loader, T: Sink>(
     sink: &mut T,
 ) -> Result<u64, ProgramFault<'a>>
     ensures meets { Meets (L.told loader.old) (None, None) E.order (ScanParsed options image.now)
-        (T.taken sink.old) (T.taken sink.new) (T.failures sink.old) (T.failures sink.new) result }
+        (change_of T.Sink sink.old sink.new) result }
     ensures host { ReadsFile (L.told loader.old image.now) (L.failures loader.old)
         (L.failures loader.new) result }
 {
@@ -66,8 +67,7 @@ pub(crate) fn check<'a, E: Order, L: Loader, T: Sink>(
     sink: &mut T,
 ) -> Result<u64, ProgramFault<'a>>
     ensures meets { Meets (L.told loader.old) (None, None) E.order
-        (CheckParsed options shape image.now) (T.taken sink.old) (T.taken sink.new)
-        (T.failures sink.old) (T.failures sink.new) result }
+        (CheckParsed options shape image.now) (change_of T.Sink sink.old sink.new) result }
     ensures host { ReadsFile (L.told loader.old image.now) (L.failures loader.old)
         (L.failures loader.new) result }
 {
@@ -86,8 +86,7 @@ fn list_decompressed<'a, E: Order, L: Loader, T: Sink>(
     sink: &mut T,
 ) -> Result<u64, ProgramFault<'a>>
     ensures meets { Meets (L.told loader.old) (None, None) E.order
-        (ListParsed options true image.now None) (T.taken sink.old) (T.taken sink.new)
-        (T.failures sink.old) (T.failures sink.new) result }
+        (ListParsed options true image.now None) (change_of T.Sink sink.old sink.new) result }
     ensures host { ReadsFile (L.told loader.old image.now) (L.failures loader.old)
         (L.failures loader.new) result }
 {
@@ -111,8 +110,7 @@ fn list_whole<'a, E: Order, L: Loader, T: Sink>(
     sink: &mut T,
 ) -> Result<u64, ProgramFault<'a>>
     ensures meets { Meets (L.told loader.old) (None, None) E.order
-        (ListParsed options decompress image.now None) (T.taken sink.old) (T.taken sink.new)
-        (T.failures sink.old) (T.failures sink.new) result }
+        (ListParsed options decompress image.now None) (change_of T.Sink sink.old sink.new) result }
     ensures host { ReadsFile (L.told loader.old image.now) (L.failures loader.old)
         (L.failures loader.new) result }
 {
@@ -135,8 +133,8 @@ fn part_decompressed<'a, E: Order, L: Loader, T: Sink>(
     sink: &mut T,
 ) -> Result<u64, ProgramFault<'a>>
     ensures meets { Meets (L.told loader.old) (None, None) E.order
-        (ListParsed options true image.now (Some path.now)) (T.taken sink.old) (T.taken sink.new)
-        (T.failures sink.old) (T.failures sink.new) result }
+        (ListParsed options true image.now (Some path.now)) (change_of T.Sink sink.old sink.new)
+        result }
     ensures host { ReadsFile (L.told loader.old image.now) (L.failures loader.old)
         (L.failures loader.new) result }
 {
@@ -163,8 +161,8 @@ fn list_part<'a, E: Order, L: Loader, T: Sink>(
     sink: &mut T,
 ) -> Result<u64, ProgramFault<'a>>
     ensures meets { Meets (L.told loader.old) (None, None) E.order
-        (ListParsed options decompress image.now (Some path.now)) (T.taken sink.old)
-        (T.taken sink.new) (T.failures sink.old) (T.failures sink.new) result }
+        (ListParsed options decompress image.now (Some path.now))
+        (change_of T.Sink sink.old sink.new) result }
     ensures host { ReadsFile (L.told loader.old image.now) (L.failures loader.old)
         (L.failures loader.new) result }
 {
@@ -191,7 +189,7 @@ pub(crate) fn list<'a, E: Order, L: Loader, T: Sink>(
 ) -> Result<u64, ProgramFault<'a>>
     ensures meets { Meets (L.told loader.old) (None, None) E.order
         (ListParsed options decompress image.now (option_map (λ p. p.now) path.entry))
-        (T.taken sink.old) (T.taken sink.new) (T.failures sink.old) (T.failures sink.new) result }
+        (change_of T.Sink sink.old sink.new) result }
     ensures host { ReadsFile (L.told loader.old image.now) (L.failures loader.old)
         (L.failures loader.new) result }
 {
@@ -214,8 +212,7 @@ fn cat_decompressed<'a, E: Order, L: Loader, T: Sink>(
     sink: &mut T,
 ) -> Result<u64, ProgramFault<'a>>
     ensures meets { Meets (L.told loader.old) (None, None) E.order
-        (CatParsed options true image.now path.now) (T.taken sink.old) (T.taken sink.new)
-        (T.failures sink.old) (T.failures sink.new) result }
+        (CatParsed options true image.now path.now) (change_of T.Sink sink.old sink.new) result }
     ensures host { ReadsFile (L.told loader.old image.now) (L.failures loader.old)
         (L.failures loader.new) result }
 {
@@ -242,8 +239,8 @@ pub(crate) fn cat<'a, E: Order, L: Loader, T: Sink>(
     sink: &mut T,
 ) -> Result<u64, ProgramFault<'a>>
     ensures meets { Meets (L.told loader.old) (None, None) E.order
-        (CatParsed options decompress image.now path.now) (T.taken sink.old) (T.taken sink.new)
-        (T.failures sink.old) (T.failures sink.new) result }
+        (CatParsed options decompress image.now path.now) (change_of T.Sink sink.old sink.new)
+        result }
     ensures host { ReadsFile (L.told loader.old image.now) (L.failures loader.old)
         (L.failures loader.new) result }
 {

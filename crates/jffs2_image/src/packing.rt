@@ -11,7 +11,7 @@ use crate::host::{Loader, Maker};
 use crate::output::Output;
 use crate::program::report_fault;
 use crate::weak::{Notes, put_notes};
-use crate::writing::{Texts, write_image};
+use crate::writing::{Texts, Writing, write_image};
 use byteorder::{BigEndian, LittleEndian};
 use flashbase::Sink;
 use jcommand::{Outcome, Packing, Target};
@@ -149,29 +149,17 @@ fn put_text<'a, L: Loader, M: Maker, T: Sink>(
       now = T.failures sink.new;
     }) notes.new result }
 {
-    let target = target_of(asked);
+    let work = Writing {
+        target: target_of(asked),
+        base: &[],
+        text,
+    };
     match asked.options.endian {
         Endian::Little => write_image::<LittleEndian, L, M, T>(
-            alloc,
-            loader,
-            maker,
-            target,
-            &[],
-            text,
-            unread,
-            notes,
-            sink,
+            alloc, loader, maker, work, unread, notes, sink,
         ),
         Endian::Big => write_image::<BigEndian, L, M, T>(
-            alloc,
-            loader,
-            maker,
-            target,
-            &[],
-            text,
-            unread,
-            notes,
-            sink,
+            alloc, loader, maker, work, unread, notes, sink,
         ),
     }
 }

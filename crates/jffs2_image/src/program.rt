@@ -10,6 +10,7 @@ ghost use Rattle.jffs2_image.specs.Tasks.{RunsAsked, RunsTask, fills, passage, r
 ghost use Rattle.jffs2_image.specs.Placing.{SaysOn, telling, tellings, writes};
 ghost use Rattle.jffs2_image.specs.Writes.{GivesText};
 ghost use Rattle.jffs2_image.specs.Runs.{IsSaid, Meets, MeetsCommand, MeetsWhole, RunsCommand, Says, note_after, success_of};
+ghost use Rattle.flashbase.specs.Sinks.{change_of};
 
 use crate::decompressing::{decompress_into, take_file};
 use crate::folders::Folders;
@@ -19,7 +20,7 @@ use crate::output::Output;
 use crate::placing::Placer;
 use crate::tasks::run_placed;
 use crate::weak::Notes;
-use crate::writing::{Texts, load_file, write_image};
+use crate::writing::{Texts, Writing, load_file, write_image};
 use byteorder::{BigEndian, LittleEndian};
 use flashbase::{Sink, put_all};
 use jcommand::{Options, Outcome, Request, RequestFault, Target, asked};
@@ -57,8 +58,7 @@ fn build<'a, E: Order, L: Loader, M: Maker, T: Sink>(
 ) -> Result<u64, ProgramFault<'a>>
     ensures meets { Meets (L.told loader.old) (M.held maker.old, M.held maker.new) E.order
         (BuildParsed target.entry.options target.entry.blocks target.entry.page listing.entry.now
-        target.entry.output.now) (T.taken sink.old) (T.taken sink.new) (T.failures sink.old)
-        (T.failures sink.new) result }
+        target.entry.output.now) (change_of T.Sink sink.old sink.new) result }
     ensures host { Blames (maker.new ≡ maker.old) (MakesFile target.entry.output.now
         (M.names maker.old) (M.names maker.new)) (L.failures loader.old) (L.failures loader.new)
         (M.failures maker.old) (M.failures maker.new) result }
@@ -67,17 +67,12 @@ fn build<'a, E: Order, L: Loader, M: Maker, T: Sink>(
         target.entry.page listing.entry.now target.entry.output.now) notes.new) }
 {
     texts.listing = load_file(loader, listing)?;
-    write_image::<E, _, _, _>(
-        alloc,
-        loader,
-        maker,
+    let work = Writing {
         target,
-        &[],
-        texts.listing.as_slice(),
-        &mut texts.unread,
-        notes,
-        sink,
-    )?;
+        base: &[],
+        text: texts.listing.as_slice(),
+    };
+    write_image::<E, _, _, _>(alloc, loader, maker, work, &mut texts.unread, notes, sink)?;
     Ok(0)
 }
 
@@ -96,13 +91,12 @@ fn append_decompressed<'a, E: Order, L: Loader, M: Maker, T: Sink>(
 ) -> Result<u64, ProgramFault<'a>>
     ensures meets { Meets (L.told loader.old) (M.held maker.old, M.held maker.new) E.order
         (AppendParsed target.entry.options target.entry.blocks target.entry.page true
-        image.entry.now listing.entry.now target.entry.output.now) (T.taken sink.old)
-        (T.taken sink.new) (T.failures sink.old) (T.failures sink.new) result }
-    ensures host { BlamesFor (L.told loader.old) E.order
-        (AppendParsed target.entry.options target.entry.blocks target.entry.page true
-        image.entry.now listing.entry.now target.entry.output.now) (maker.new ≡ maker.old)
-        (M.names maker.old) (M.names maker.new) (L.failures loader.old) (L.failures loader.new)
-        (M.failures maker.old) (M.failures maker.new) result }
+        image.entry.now listing.entry.now target.entry.output.now) (change_of T.Sink sink.old
+        sink.new) result }
+    ensures host { BlamesFor E.order (AppendParsed target.entry.options target.entry.blocks
+        target.entry.page true image.entry.now listing.entry.now target.entry.output.now)
+        (maker.new ≡ maker.old) (reads L.told L.failures loader.old loader.new)
+        (writes (telling M.names M.held M.failures) maker.old maker.new) result }
     ensures weak { OnOk result (IsTrue notes.old.asked
         → HasNotes (L.told loader.old) E.order (AppendParsed target.entry.options
         target.entry.blocks target.entry.page true image.entry.now listing.entry.now
@@ -116,18 +110,12 @@ fn append_decompressed<'a, E: Order, L: Loader, M: Maker, T: Sink>(
         Ok(text) => text,
         Err(fault) => return Err(fault),
     };
-    let base = taken.image.as_slice();
-    match write_image::<E, _, _, _>(
-        alloc,
-        loader,
-        maker,
+    let work = Writing {
         target,
-        base,
-        texts.listing.as_slice(),
-        &mut texts.unread,
-        notes,
-        sink,
-    ) {
+        base: taken.image.as_slice(),
+        text: texts.listing.as_slice(),
+    };
+    match write_image::<E, _, _, _>(alloc, loader, maker, work, &mut texts.unread, notes, sink) {
         Ok(_) => Ok(taken.found.noted),
         Err(fault) => Err(fault),
     }
@@ -145,8 +133,8 @@ fn decompress<'a, E: Order, L: Loader, M: Maker, T: Sink>(
     sink: &mut T,
 ) -> Result<u64, ProgramFault<'a>>
     ensures meets { Meets (L.told loader.old) (M.held maker.old, M.held maker.new) E.order
-        (DecompressParsed options image.entry.now output.entry.now) (T.taken sink.old)
-        (T.taken sink.new) (T.failures sink.old) (T.failures sink.new) result }
+        (DecompressParsed options image.entry.now output.entry.now)
+        (change_of T.Sink sink.old sink.new) result }
     ensures host { BlamesDecompress (maker.new ≡ maker.old)
         (MakesFile output.entry.now (M.names maker.old) (M.names maker.new)) (L.failures loader.old)
         (L.failures loader.new) (M.failures maker.old) (M.failures maker.new) result }
@@ -182,13 +170,12 @@ fn append<'a, E: Order, L: Loader, M: Maker, T: Sink>(
 ) -> Result<u64, ProgramFault<'a>>
     ensures meets { Meets (L.told loader.old) (M.held maker.old, M.held maker.new) E.order
         (AppendParsed target.entry.options target.entry.blocks target.entry.page decompress
-        image.entry.now listing.entry.now target.entry.output.now) (T.taken sink.old)
-        (T.taken sink.new) (T.failures sink.old) (T.failures sink.new) result }
-    ensures host { BlamesFor (L.told loader.old) E.order
-        (AppendParsed target.entry.options target.entry.blocks target.entry.page decompress
-        image.entry.now listing.entry.now target.entry.output.now) (maker.new ≡ maker.old)
-        (M.names maker.old) (M.names maker.new) (L.failures loader.old) (L.failures loader.new)
-        (M.failures maker.old) (M.failures maker.new) result }
+        image.entry.now listing.entry.now target.entry.output.now) (change_of T.Sink sink.old
+        sink.new) result }
+    ensures host { BlamesFor E.order (AppendParsed target.entry.options target.entry.blocks
+        target.entry.page decompress image.entry.now listing.entry.now target.entry.output.now)
+        (maker.new ≡ maker.old) (reads L.told L.failures loader.old loader.new)
+        (writes (telling M.names M.held M.failures) maker.old maker.new) result }
     ensures weak { OnOk result (IsTrue notes.old.asked
         → HasNotes (L.told loader.old) E.order (AppendParsed target.entry.options
         target.entry.blocks target.entry.page decompress image.entry.now listing.entry.now
@@ -201,17 +188,12 @@ fn append<'a, E: Order, L: Loader, M: Maker, T: Sink>(
     }
     let base = load_file(loader, image)?;
     texts.listing = load_file(loader, listing)?;
-    write_image::<E, _, _, _>(
-        alloc,
-        loader,
-        maker,
+    let work = Writing {
         target,
-        &base,
-        texts.listing.as_slice(),
-        &mut texts.unread,
-        notes,
-        sink,
-    )
+        base: &base,
+        text: texts.listing.as_slice(),
+    };
+    write_image::<E, _, _, _>(alloc, loader, maker, work, &mut texts.unread, notes, sink)
 }
 
 /// Runs the request in the byte order `E`, and answers how much was found.
@@ -225,12 +207,10 @@ fn run_in_order<'a, E: Order, L: Loader, M: Maker, T: Sink>(
     sink: &mut T,
 ) -> Result<u64, ProgramFault<'a>>
     ensures meets { Meets (L.told loader.old) (M.held maker.old, M.held maker.new) E.order
-        (view request.entry) (T.taken sink.old) (T.taken sink.new) (T.failures sink.old)
-        (T.failures sink.new) result }
-    ensures host { BlamesFor (L.told loader.old) E.order (view request.entry)
-        (maker.new ≡ maker.old) (M.names maker.old) (M.names maker.new) (L.failures loader.old)
-        (L.failures loader.new)
-        (M.failures maker.old) (M.failures maker.new) result }
+        (view request.entry) (change_of T.Sink sink.old sink.new) result }
+    ensures host { BlamesFor E.order (view request.entry) (maker.new ≡ maker.old)
+        (reads L.told L.failures loader.old loader.new)
+        (writes (telling M.names M.held M.failures) maker.old maker.new) result }
     ensures weak { OnOk result (IsTrue notes.old.asked
         → HasNotes (L.told loader.old) E.order (view request.entry) notes.new) }
 {
@@ -283,12 +263,11 @@ fn run_request<'a, L: Loader, M: Maker, T: Sink>(
     sink: &mut T,
 ) -> Result<u64, ProgramFault<'a>>
     ensures meets { Meets (L.told loader.old) (M.held maker.old, M.held maker.new)
-        (options_of request.entry).endian (view request.entry) (T.taken sink.old) (T.taken sink.new)
-        (T.failures sink.old) (T.failures sink.new) result }
-    ensures host { BlamesFor (L.told loader.old) (options_of request.entry).endian
-        (view request.entry) (maker.new ≡ maker.old) (M.names maker.old) (M.names maker.new)
-        (L.failures loader.old) (L.failures loader.new)
-        (M.failures maker.old) (M.failures maker.new) result }
+        (options_of request.entry).endian (view request.entry) (change_of T.Sink sink.old sink.new)
+        result }
+    ensures host { BlamesFor (options_of request.entry).endian (view request.entry)
+        (maker.new ≡ maker.old) (reads L.told L.failures loader.old loader.new)
+        (writes (telling M.names M.held M.failures) maker.old maker.new) result }
     ensures weak { OnOk result (IsTrue notes.old.asked
         → HasNotes (L.told loader.old) (options_of request.entry).endian (view request.entry)
         notes.new) }
@@ -314,12 +293,10 @@ pub(crate) fn run_whole<'a, L: Loader, M: Maker, T: Output>(
     output: &mut T,
 ) -> Result<u64, ProgramFault<'a>>
     ensures meets { MeetsWhole (L.told loader.old) (M.held maker.old, M.held maker.new)
-        (view request.entry) (T.taken output.old) (T.given output.new) (T.failures output.old)
-        (T.failures output.new) result }
-    ensures host { BlamesFor (L.told loader.old) (options_of request.entry).endian
-        (view request.entry) (maker.new ≡ maker.old) (M.names maker.old) (M.names maker.new)
-        (L.failures loader.old) (L.failures loader.new)
-        (M.failures maker.old) (M.failures maker.new) result }
+        (view request.entry) (passage T.taken T.given T.failures output.old output.new) result }
+    ensures host { BlamesFor (options_of request.entry).endian (view request.entry)
+        (maker.new ≡ maker.old) (reads L.told L.failures loader.old loader.new)
+        (writes (telling M.names M.held M.failures) maker.old maker.new) result }
     ensures weak { OnOk result (IsTrue notes.old.asked
         → HasNotes (L.told loader.old) (options_of request.entry).endian (view request.entry)
         notes.new) }
@@ -374,12 +351,11 @@ fn run_command<'a, L: Loader, M: Maker, T: Output>(
     output: &mut T,
 ) -> Result<Success, Stop<'a>>
     ensures meets { MeetsCommand (output.new ≡ output.old) (L.told loader.old)
-        (M.held maker.old, M.held maker.new) command.entry (T.taken output.old) (T.given output.new)
-        (T.failures output.old) (T.failures output.new) result }
-    ensures host { BlamesCommand (L.told loader.old) command.entry (loader.new ≡ loader.old)
-        (maker.new ≡ maker.old) (M.names maker.old) (M.names maker.new) (L.failures loader.old)
-        (L.failures loader.new)
-        (M.failures maker.old) (M.failures maker.new) result }
+        (M.held maker.old, M.held maker.new) command.entry
+        (passage T.taken T.given T.failures output.old output.new) result }
+    ensures host { BlamesCommand command.entry (loader.new ≡ loader.old) (maker.new ≡ maker.old)
+        (reads L.told L.failures loader.old loader.new)
+        (writes (telling M.names M.held M.failures) maker.old maker.new) result }
 {
     let mut notes = Notes::new(alloc, false);
     match command {
@@ -440,14 +416,13 @@ pub(crate) fn run_image<L: Loader, M: Maker, T: Output, E: Sink>(
     // A fault is one that is due, and is told in one line, which a note may follow; `ls` and `cat`
     // note what they passed over. What is told of the host's files is so.
     ensures { (ran : RunsCommand (output.new ≡ output.old) (L.told loader.old)
-        (M.held maker.old, M.held maker.new) command.entry (T.taken output.old)
-        (T.given output.new) (T.failures output.old) (T.failures output.new)
+        (M.held maker.old, M.held maker.new) command.entry
+        (passage T.taken T.given T.failures output.old output.new)
         (Says (errors.new ≡ errors.old) (E.taken errors.old) (E.taken errors.new)
         (E.failures errors.old) (E.failures errors.new)) result)
-        × BlamesCommand (L.told loader.old) command.entry (loader.new ≡ loader.old)
-        (maker.new ≡ maker.old) (M.names maker.old) (M.names maker.new) (L.failures loader.old)
-        (L.failures loader.new)
-        (M.failures maker.old) (M.failures maker.new) ran.answer }
+        × BlamesCommand command.entry (loader.new ≡ loader.old) (maker.new ≡ maker.old)
+        (reads L.told L.failures loader.old loader.new)
+        (writes (telling M.names M.held M.failures) maker.old maker.new) ran.answer }
 {
     let mut texts = Texts::new(alloc);
     match run_command(alloc, loader, maker, command, &mut texts, output) {
@@ -501,7 +476,7 @@ pub fn run<L: Loader, M: Placer, D: Folders, T: Output, E: Sink>(
           folders = folders.new ≡ folders.old;
           output = output.new ≡ output.old;
           errors = last ≡ errors.old;
-        }) ended) maker.old maker.new errors.new result }
+        }) ended) (maker.old, maker.new) errors.new result }
     // With `--atomic`, a fault leaves the files of the host as they were.
     ensures atomic { (placing_from (map (λ w. w.now) args.now)).atomic ≡ true
         → result ≡ Outcome.Fault → (M.names maker.new ≡ M.names maker.old)

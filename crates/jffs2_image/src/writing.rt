@@ -3,12 +3,13 @@ ghost use Rattle.std.specs.Prelude.{◌≡◌, ◌≢◌, ◌≤◌, ℕ, List, 
 ghost use Rattle.jmount.specs.Mounts.{IsMountOf};
 ghost use Rattle.jscan.specs.Image.{greatest_image};
 ghost use Rattle.jlisting.specs.Listing.{lines_of};
-ghost use Rattle.jlog.specs.Resuming.{resumes_by};
 ghost use Rattle.jffs2_image.specs.Host.{AreOf, AreRead, Blames, BlamesMaker, IsHandedBack, IsMadeUntil, IsMakeFault, IsReadFault, Leaves, MakesFile, ReadsFile, RunsFiles};
 ghost use Rattle.jbuild.specs.Operations.{ops_in};
 ghost use Rattle.jbuild.specs.Parts.{part_contents};
 ghost use Rattle.jffs2_image.specs.WeakRuns.{AreNotes, AreNotesOn};
-ghost use Rattle.jffs2_image.specs.Writes.{GivesCut, HoldsCut, IsCause, IsMade, IsNotGoneOn, IsNotMade, IsNotedIn, IsPartUnread, IsPut, IsUnreadFile, WritesImage};
+ghost use Rattle.jffs2_image.specs.Writes.{GivesCut, HoldsCut, IsCause, IsMade, IsNotGoneOn, IsNotMade, IsNotedIn, IsPartUnread, IsPut, IsUnreadFile, WritesImage, form_of, resumed};
+ghost use Rattle.flashbase.specs.Sinks.{change_of};
+ghost use Rattle.jffs2_image.specs.Tasks.{passage};
 
 use crate::host::{FileFault, Loader, MakeFault, Maker};
 use crate::output::Output;
@@ -131,8 +132,7 @@ fn cause_on(mounted: &Mounted<'_>, target: Target<'_>, fault: SessionFault, reas
 /// Where writing goes on, by the target's page, or why it does not.
 fn goes_on_from<E: Order>(mounted: &Mounted<'_>, target: Target<'_>) -> Result<u32, SessionFault>
     requires { IsMountOf E.order target.options.geometry.block mounted.now }
-    ensures { result ≡ resumes_by target.entry.page E.order target.entry.options.geometry.block
-        target.entry.blocks mounted.now }
+    ensures { result ≡ resumed (form_of E.order target.entry) mounted.now }
 {
     let from = resume_at::<E>(mounted, target.options.geometry, target.blocks)?;
     if !page_fits(target.options.geometry, target.page) {
@@ -182,15 +182,14 @@ fn put_image<E: Order, S: Output>(
     output: S,
 ) -> Result<(S, RunReport), (SessionFault, Option<S>)>
     requires { IsMountOf E.order target.options.geometry.block mounted.now }
-    ensures put { IfOk result (λ done. IsPut target.entry.page E.order
-        target.entry.options.geometry.block target.entry.blocks mounted.now ops.now
+    ensures put { IfOk result (λ done. IsPut (form_of E.order target.entry) mounted.now ops.now
         done.1.accepted done.1.places.items done.1.stopped
-        (S.taken output) (S.given done.0) (S.failures output) (S.failures done.0)) }
-    ensures fault { IfErr result (λ refused. IsNotGoneOn target.entry.page E.order
-        target.entry.options.geometry.block target.entry.blocks mounted.now refused.0) }
+        (passage S.taken S.given S.failures output done.0)) }
+    ensures fault { IfErr result
+        (λ refused. IsNotGoneOn (form_of E.order target.entry) mounted.now refused.0) }
     ensures part { IfErr result (λ refused. IfSome refused.1
-        (λ back. GivesCut refused.0 target.entry.page E.order target.entry.options.geometry.block
-        target.entry.blocks mounted.now.image ops.now (S.taken output) (S.given back))) }
+        (λ back. GivesCut refused.0 (form_of E.order target.entry) mounted.now.image ops.now
+        (S.taken output) (S.given back))) }
     ensures back { IfErr result (λ refused. IsHandedBack (S.failures output) refused.0
         (option_map (λ back. S.failures back) refused.1)) }
 {
@@ -231,14 +230,12 @@ fn make_image<'a, E: Order, M: Maker>(
 ) -> Result<RunReport, ProgramFault<'a>>
     requires { IsMountOf E.order target.options.geometry.block mounted.now }
     ensures made { IfOk result (λ report. IsMade (M.held maker.old, M.held maker.new)
-        target.entry.page E.order target.entry.options.geometry.block target.entry.blocks
-        mounted.now ops.now report.accepted report.places.items report.stopped) }
-    ensures fault { IfErr result (λ fault. IsNotMade target.entry.page E.order
-        target.entry.options.geometry.block target.entry.blocks mounted.now
+        (form_of E.order target.entry) mounted.now ops.now report.accepted report.places.items
+        report.stopped) }
+    ensures fault { IfErr result (λ fault. IsNotMade (form_of E.order target.entry) mounted.now
         target.entry.output.now fault) }
     ensures cut { IfErr result (λ fault. HoldsCut (M.held maker.old, M.held maker.new)
-        target.entry.page E.order target.entry.options.geometry.block target.entry.blocks
-        mounted.now.image ops.now fault) }
+        (form_of E.order target.entry) mounted.now.image ops.now fault) }
     ensures stopped { IfOk result
         (λ report. IsMadeUntil (M.failures maker.old) (M.failures maker.new) report.stopped) }
     ensures failed { IfErr result
@@ -303,15 +300,12 @@ fn write_lines<'a, 'p, 'b: 'p, E: Order, M: Maker, T: Sink>(
     sink: &mut T,
 ) -> Result<u64, ProgramFault<'a>>
     ensures writes { (text : List ℕ) → lines_of text ≡ Ok lines.entry.items
-        → WritesImage (M.held maker.old, M.held maker.new) target.entry.page E.order
-        target.entry.options.geometry.block target.entry.blocks target.entry.output.now
-        base.now text
-        (T.taken sink.old) (T.taken sink.new) (T.failures sink.old) (T.failures sink.new) result }
+        → WritesImage (M.held maker.old, M.held maker.new) (form_of E.order target.entry)
+        target.entry.output.now base.now text (change_of T.Sink sink.old sink.new) result }
     ensures files { (told : List ℕ → Option (List ℕ)) → (text : List ℕ)
         → lines_of text ≡ Ok lines.entry.items → AreRead told lines.entry.items parts.entry.now
-        → RunsFiles told (M.held maker.old, M.held maker.new) target.entry.page E.order
-        target.entry.options.geometry.block target.entry.blocks base.now text (T.taken sink.old)
-        (T.taken sink.new) result }
+        → RunsFiles told (M.held maker.old, M.held maker.new) (form_of E.order target.entry)
+        base.now text (T.taken sink.old) (T.taken sink.new) result }
     ensures maker { BlamesMaker (maker.new ≡ maker.old)
         (MakesFile target.entry.output.now (M.names maker.old) (M.names maker.new))
         (M.failures maker.old) (M.failures maker.new) result }
@@ -337,6 +331,14 @@ fn write_lines<'a, 'p, 'b: 'p, E: Order, M: Maker, T: Sink>(
     Ok(noted(&mounted))
 }
 
+/// What is written: the operations of a listing's text, on a base, to the file of a target.
+#[derive(Clone, Copy, Drop)]
+pub struct Writing<'a, 'b> {
+    pub target: Target<'a>,
+    pub base: &'b [u8],
+    pub text: &'a [u8],
+}
+
 /// Writes an image: the operations of a listing's text, on a base. What they did is told in a line.
 /// The file is made only after all was judged that can be before a byte is written. Answers how
 /// many findings of the base to note. The name of a file that a line names, and that can't be
@@ -345,34 +347,33 @@ pub fn write_image<'a, E: Order, L: Loader, M: Maker, T: Sink>(
     alloc: Global,
     loader: &mut L,
     maker: &mut M,
-    target: Target<'a>,
-    base: &[u8],
-    text: &'a [u8],
+    work: Writing<'a, '_>,
     unread: &'a mut String,
     notes: &mut Notes,
     sink: &mut T,
 ) -> Result<u64, ProgramFault<'a>>
-    ensures writes { WritesImage (M.held maker.old, M.held maker.new) target.entry.page E.order
-        target.entry.options.geometry.block target.entry.blocks target.entry.output.now
-        base.now text.now
-        (T.taken sink.old) (T.taken sink.new) (T.failures sink.old) (T.failures sink.new) result }
+    ensures writes { WritesImage (M.held maker.old, M.held maker.new)
+        (form_of E.order work.entry.target) work.entry.target.output.now work.entry.base.now
+        work.entry.text.now (change_of T.Sink sink.old sink.new) result }
     // Each file that a line names was read: its operation has the bytes that it has on the host.
     ensures files { RunsFiles (L.told loader.old) (M.held maker.old, M.held maker.new)
-        target.entry.page E.order target.entry.options.geometry.block target.entry.blocks base.now
-        text.now (T.taken sink.old) (T.taken sink.new) result }
+        (form_of E.order work.entry.target) work.entry.base.now work.entry.text.now
+        (T.taken sink.old) (T.taken sink.new) result }
     // Files are blamed only where they failed, and the image's is made only after all else was
     // judged.
-    ensures host { Blames (maker.new ≡ maker.old) (MakesFile target.entry.output.now
+    ensures host { Blames (maker.new ≡ maker.old) (MakesFile work.entry.target.output.now
         (M.names maker.old) (M.names maker.new)) (L.failures loader.old) (L.failures loader.new)
         (M.failures maker.old) (M.failures maker.new) result }
-    ensures noted { IfOk result (IsNotedIn E.order target.entry.options.geometry.block base.now) }
+    ensures noted { IfOk result
+        (IsNotedIn E.order work.entry.target.options.geometry.block work.entry.base.now) }
     ensures weak { OnOk result (IsTrue notes.old.asked → AreNotesOn (L.told loader.old) E.order
         (record {
-          geometry = target.entry.options.geometry;
-          blocks = target.entry.blocks;
-          page = target.entry.page;
-        }) base.now text.now notes.new) }
+          geometry = work.entry.target.options.geometry;
+          blocks = work.entry.target.blocks;
+          page = work.entry.target.page;
+        }) work.entry.base.now work.entry.text.now notes.new) }
 {
+    let Writing { target, base, text } = work;
     let lines = listing(alloc, text)?;
     let parts = load_parts(alloc, loader, &lines, unread)?;
     write_lines::<E, M, T>(alloc, maker, target, base, lines, &parts, notes, sink)

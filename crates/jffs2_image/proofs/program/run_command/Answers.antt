@@ -8,4 +8,4 @@ pub returns-in-Ok-clause-host : goal.returns-in-Ok-clause-host
 returns-in-Ok-clause-host g c =
     let r = c.in-Ok.request in
     let is : c.args.command ≡ Ok r = search rules in
-    rw is (for_fault Success (g.L.Loader.told c.args.loader.now) (options_of r).endian (view r) _ _ _ _ _ _ _ c.in-Err.fault c.in-Err.ensures.host)
+    rw is (for_fault Success (options_of r).endian (view r) _ _ _ c.in-Err.fault c.in-Err.ensures.host)

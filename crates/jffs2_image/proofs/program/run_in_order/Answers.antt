@@ -4,34 +4,31 @@ use Rattle.jcommand.specs.Parsed.{Parsed, ScanParsed, CheckParsed, ListParsed, C
 use Rattle.jffs2_image.specs.Runs.{Meets}
 use Rattle.jffs2_image.specs.WeakRuns.{HasNotes}
 use Rattle.jffs2_image.proofs.WritingLemmas.{met_by_any}
+use Rattle.flashbase.specs.Sinks.{change_of}
 use Rattle.jffs2_image.proofs.program.run_in_order.Goals as goal
 
 pub returns-in-Scan-clause-meets : goal.returns-in-Scan-clause-meets
 returns-in-Scan-clause-meets g c =
     let is : view c.args.request ≡ ScanParsed c.in-Scan.options c.in-Scan.image.now = search rules in
-    subst (λ (p : Parsed). Meets (g.L.Loader.told c.args.loader.now) (g.M.Maker.held c.args.maker.now, g.M.Maker.held c.args.maker.now) g.E.Order.order p (g.T.Sink.taken c.args.sink.now) (g.T.Sink.taken c.scan.new.sink)
-    (g.T.Sink.failures c.args.sink.now) (g.T.Sink.failures c.scan.new.sink) c.scan.result) (sym is)
+    subst (λ (p : Parsed). Meets (g.L.Loader.told c.args.loader.now) (g.M.Maker.held c.args.maker.now, g.M.Maker.held c.args.maker.now) g.E.Order.order p (change_of g.T.Sink c.args.sink.now c.scan.new.sink) c.scan.result) (sym is)
     (met_by_any _ (None, None) _ g.E.Order.order (ScanParsed c.in-Scan.options c.in-Scan.image.now) _ _ _ _ c.scan.result tt c.scan.ensures.meets)
 
 pub returns-in-Check-clause-meets : goal.returns-in-Check-clause-meets
 returns-in-Check-clause-meets g c =
     let is : view c.args.request ≡ CheckParsed c.in-Check.options c.in-Check.shape c.in-Check.image.now = search rules in
-    subst (λ (p : Parsed). Meets (g.L.Loader.told c.args.loader.now) (g.M.Maker.held c.args.maker.now, g.M.Maker.held c.args.maker.now) g.E.Order.order p (g.T.Sink.taken c.args.sink.now) (g.T.Sink.taken c.check.new.sink)
-    (g.T.Sink.failures c.args.sink.now) (g.T.Sink.failures c.check.new.sink) c.check.result) (sym is)
+    subst (λ (p : Parsed). Meets (g.L.Loader.told c.args.loader.now) (g.M.Maker.held c.args.maker.now, g.M.Maker.held c.args.maker.now) g.E.Order.order p (change_of g.T.Sink c.args.sink.now c.check.new.sink) c.check.result) (sym is)
     (met_by_any _ (None, None) _ g.E.Order.order (CheckParsed c.in-Check.options c.in-Check.shape c.in-Check.image.now) _ _ _ _ c.check.result tt c.check.ensures.meets)
 
 pub returns-in-List-clause-meets : goal.returns-in-List-clause-meets
 returns-in-List-clause-meets g c =
     let is : view c.args.request ≡ ListParsed c.in-List.options c.in-List.decompress c.in-List.image.now (option_map (λ p. p.now) c.in-List.path) = search rules in
-    subst (λ (p : Parsed). Meets (g.L.Loader.told c.args.loader.now) (g.M.Maker.held c.args.maker.now, g.M.Maker.held c.args.maker.now) g.E.Order.order p (g.T.Sink.taken c.args.sink.now) (g.T.Sink.taken c.list.new.sink)
-    (g.T.Sink.failures c.args.sink.now) (g.T.Sink.failures c.list.new.sink) c.list.result) (sym is)
+    subst (λ (p : Parsed). Meets (g.L.Loader.told c.args.loader.now) (g.M.Maker.held c.args.maker.now, g.M.Maker.held c.args.maker.now) g.E.Order.order p (change_of g.T.Sink c.args.sink.now c.list.new.sink) c.list.result) (sym is)
     (met_by_any _ (None, None) _ g.E.Order.order (ListParsed c.in-List.options c.in-List.decompress c.in-List.image.now (option_map (λ p. p.now) c.in-List.path)) _ _ _ _ c.list.result tt c.list.ensures.meets)
 
 pub returns-in-Cat-clause-meets : goal.returns-in-Cat-clause-meets
 returns-in-Cat-clause-meets g c =
     let is : view c.args.request ≡ CatParsed c.in-Cat.options c.in-Cat.decompress c.in-Cat.image.now c.in-Cat.path.now = search rules in
-    subst (λ (p : Parsed). Meets (g.L.Loader.told c.args.loader.now) (g.M.Maker.held c.args.maker.now, g.M.Maker.held c.args.maker.now) g.E.Order.order p (g.T.Sink.taken c.args.sink.now) (g.T.Sink.taken c.cat.new.sink)
-    (g.T.Sink.failures c.args.sink.now) (g.T.Sink.failures c.cat.new.sink) c.cat.result) (sym is)
+    subst (λ (p : Parsed). Meets (g.L.Loader.told c.args.loader.now) (g.M.Maker.held c.args.maker.now, g.M.Maker.held c.args.maker.now) g.E.Order.order p (change_of g.T.Sink c.args.sink.now c.cat.new.sink) c.cat.result) (sym is)
     (met_by_any _ (None, None) _ g.E.Order.order (CatParsed c.in-Cat.options c.in-Cat.decompress c.in-Cat.image.now c.in-Cat.path.now) _ _ _ _ c.cat.result tt c.cat.ensures.meets)
 
 pub returns-in-Append-clause-weak : goal.returns-in-Append-clause-weak

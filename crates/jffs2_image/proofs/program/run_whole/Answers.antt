@@ -12,6 +12,7 @@ use Rattle.jreport.specs.declared.faults.ProgramFault.{ProgramFault}
 use Rattle.jffs2_image.specs.Writes.{Held, IsBehind}
 use Rattle.jffs2_image.specs.Runs.{Meets, MeetsWhole, options_parsed}
 use Rattle.jffs2_image.proofs.HostLemmas.{same_behind}
+use Rattle.jreport.proofs.SinkLemmas.{sink_change}
 use Rattle.jffs2_image.proofs.program.run_whole.Goals as goal
 
 options_are_parsed : (r : Request) → options_parsed (view r) ≡ options_of r
@@ -51,15 +52,15 @@ returns-in-Err-clause-meets g c =
 
 -- a fault stays what it is, whether the output was finished or not
 still_failed : (A E : Type 0) (told : List ℕ → Option (List ℕ)) (held : Held) (parsed : Parsed) (e : Endian) (old taken given : Option (List ℕ)) (before count now : ℕ) (fault : ProgramFault) (finished : Result A E) (result : Result ℕ ProgramFault)
-    → e ≡ (options_parsed parsed).endian → Meets told held e parsed old taken before count (Err fault) → OnOk finished (Keeps taken given) → IsBehind given taken → CountsErr count now finished
-    → IsErrAnd result (λ is. is ≡ fault) → MeetsWhole told held parsed old given before now result
+    → e ≡ (options_parsed parsed).endian → Meets told held e parsed (sink_change old taken before count) (Err fault) → OnOk finished (Keeps taken given) → IsBehind given taken → CountsErr count now finished
+    → IsErrAnd result (λ is. is ≡ fault) → MeetsWhole told held parsed (sink_change old given before now) result
 still_failed A E told held parsed e old taken given before count now fault finished (Ok n) same meets kept behind counts is = absurd is
 still_failed A E told held parsed e old taken given before count now fault (Ok x) (Err other) same meets kept behind counts is = record {
   taken = taken;
   count = count;
   answer = Err fault;
   finished = true;
-  meets = subst (λ (o : Endian). Meets told held o parsed old taken before count (Err fault)) same meets;
+  meets = subst (λ (o : Endian). Meets told held o parsed (sink_change old taken before count) (Err fault)) same meets;
   finishes = (kept, counts);
   comes_to = cc;
 }
@@ -68,7 +69,7 @@ still_failed A E told held parsed e old taken given before count now fault (Err 
   count = count;
   answer = Err fault;
   finished = false;
-  meets = subst (λ (o : Endian). Meets told held o parsed old taken before count (Err fault)) same meets;
+  meets = subst (λ (o : Endian). Meets told held o parsed (sink_change old taken before count) (Err fault)) same meets;
   finishes = (behind, counts);
   comes_to = cc;
 }

@@ -2,7 +2,8 @@ use Rattle.std.proofs.Common.{Option, None, IfSome, option_map, sym, subst}
 use Rattle.jreport.specs.declared.faults.ProgramFault.{ProgramFault}
 use Rattle.jreport.specs.declared.faults.ProgramFault.TheVariants as program
 use Rattle.jffs2_image.specs.Host.{IsHandedBack}
-use Rattle.jffs2_image.specs.Writes.{GivesCut, HoldsCut}
+use Rattle.jffs2_image.specs.Writes.{GivesCut, HoldsCut, image_form}
+use Rattle.jreport.proofs.SinkLemmas.{sink_change}
 use Rattle.jffs2_image.proofs.HostLemmas.{cut_gone, cut_part, put_until}
 use Rattle.jffs2_image.proofs.WritingLemmas.{handed_back}
 use Rattle.jffs2_image.proofs.writing.make_image.Goals.{in-Some, in_default}
@@ -10,10 +11,8 @@ use Rattle.jffs2_image.proofs.writing.make_image.Goals as goal
 
 pub returns-in-Ok-put_image-clause-made : goal.returns-in-Ok-put_image-clause-made
 returns-in-Ok-put_image-clause-made g c = record {
-  old = g.M.Made.Sink.taken c.in-Ok.output;
-  given = g.M.Made.Output.given c.in-Ok-put_image.output;
-  before = g.M.Made.Sink.failures c.in-Ok.output;
-  now = g.M.Made.Sink.failures c.in-Ok-put_image.output;
+  file = sink_change (g.M.Made.Sink.taken c.in-Ok.output) (g.M.Made.Output.given c.in-Ok-put_image.output)
+      (g.M.Made.Sink.failures c.in-Ok.output) (g.M.Made.Sink.failures c.in-Ok-put_image.output);
   put = c.in-Ok-put_image.ensures.put;
   handed = handed_back (g.M.Maker.held c.args.maker.now) (g.M.Maker.held c.make.new.self) (g.M.Maker.held c.take_back.new.self) _ _
       c.in-Ok.ensures.empty c.in-Ok.ensures.held c.take_back.ensures.held;
@@ -32,11 +31,12 @@ returns-after-output-clause-cut g c =
     let size = t.options.geometry.block in
     let base = a.mounted.now.image in
     let was = g.M.Maker.held a.maker.now in
-    let cut = λ (maker : g.row.M.Denot) (fault : ProgramFault). HoldsCut (was, g.M.Maker.held maker) t.page e size t.blocks base a.ops.now fault in
+    let cut = λ (maker : g.row.M.Denot) (fault : ProgramFault). HoldsCut (was, g.M.Maker.held maker) (image_form t.page e size t.blocks) base a.ops.now fault in
+    let told = c.from.ensures in
     let put = c.in-Err.ensures in
     elim c.match-output.branch [
       | in-Some w ↦
-          let part = subst (λ (back : Option g.row.M-Made.Denot). IfSome back (λ back. GivesCut c.in-Err.fault t.page e size t.blocks base a.ops.now (g.M.Made.Sink.taken c.in-Ok.output) (g.M.Made.Output.given back)))
+          let part = subst (λ (back : Option g.row.M-Made.Denot). IfSome back (λ back. GivesCut c.in-Err.fault (image_form t.page e size t.blocks) base a.ops.now (g.M.Made.Sink.taken c.in-Ok.output) (g.M.Made.Output.given back)))
           w.in-Some.is put.part in
           subst (λ (maker : g.row.M.Denot). cut maker (program.Session c.in-Err.fault None c.cause_on.result)) (sym w.maker-is)
           (cut_part _ t.page e size t.blocks base a.ops.now _ _ c.in-Err.fault c.cause_on.result part

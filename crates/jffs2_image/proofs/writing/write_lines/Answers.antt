@@ -21,7 +21,7 @@ use Rattle.jbuild.specs.Operations.{op_in}
 use Rattle.jcuts.specs.declared.cuts.Flash.{Flash}
 use Rattle.jffs2_image.specs.WeakRuns.{AreNotes}
 use Rattle.jffs2_image.proofs.WeakLemmas.{all_taken, noted_at}
-use Rattle.jffs2_image.specs.Writes.{Held, HoldsCut, IsCause, IsMade, IsSessionFault}
+use Rattle.jffs2_image.specs.Writes.{Held, HoldsCut, IsCause, IsMade, IsSessionFault, image_form}
 use Rattle.jffs2_image.proofs.WritingLemmas.{not_resumed, not_made, run_on, stopped_at, told, told_in_part, writes_fault, goes_on_from}
 use Rattle.jffs2_image.specs.Host.{IsMadeUntil}
 use Rattle.jffs2_image.proofs.HostLemmas.{files_in_part, files_not_made, files_not_mounted, files_not_resumed, files_of_all, files_until, make_fault, maker_fault, resume_fault, run_fault}
@@ -60,13 +60,13 @@ returns-in-Some-clause-writes g c = λ text read.
     let stopped : r.stopped ≡ Some c.in-Some.fault = search rules in
     let numbers : c.in_ok-numbers.numbers.items ≡ map (λ l. l.number) a.lines.items = search rules in
     let line : c.number_at-line.result ≡ slice_get c.in_ok-numbers.numbers.items r.accepted = search rules in
-    let made : IsMade (g.M.Maker.held a.maker.now, g.M.Maker.held c.make_image.new.maker) a.target.page e a.target.options.geometry.block a.target.blocks m (ops_in e (part_contents a.parts.now) a.lines.items) r.accepted r.places.items (Some c.in-Some.fault) =
-    subst (λ (o : List Op). IsMade (g.M.Maker.held a.maker.now, g.M.Maker.held c.make_image.new.maker) a.target.page e a.target.options.geometry.block a.target.blocks m o r.accepted r.places.items (Some c.in-Some.fault)) same
-    (subst (λ s. IsMade (g.M.Maker.held a.maker.now, g.M.Maker.held c.make_image.new.maker) a.target.page e a.target.options.geometry.block a.target.blocks m c.deref-4.result.now r.accepted r.places.items s) stopped c.in_ok-report.ensures.made) in
+    let made : IsMade (g.M.Maker.held a.maker.now, g.M.Maker.held c.make_image.new.maker) (image_form a.target.page e a.target.options.geometry.block a.target.blocks) m (ops_in e (part_contents a.parts.now) a.lines.items) r.accepted r.places.items (Some c.in-Some.fault) =
+    subst (λ (o : List Op). IsMade (g.M.Maker.held a.maker.now, g.M.Maker.held c.make_image.new.maker) (image_form a.target.page e a.target.options.geometry.block a.target.blocks) m o r.accepted r.places.items (Some c.in-Some.fault)) same
+    (subst (λ s. IsMade (g.M.Maker.held a.maker.now, g.M.Maker.held c.make_image.new.maker) (image_form a.target.page e a.target.options.geometry.block a.target.blocks) m c.deref-4.result.now r.accepted r.places.items s) stopped c.in_ok-report.ensures.made) in
     let run = run_on _ a.target.page e a.target.options.geometry.block a.target.blocks a.base.now text a.lines.items (part_contents a.parts.now) m r.accepted r.places.items (Some c.in-Some.fault) read mounts made in
     let shown = line ∙ (ap (λ (l : List ℕ). slice_get l r.accepted) numbers ∙ slice_get-map (λ l. l.number) a.lines.items r.accepted) in (
       (
-        subst (λ n. IsSessionFault (g.M.Maker.held a.maker.now, g.M.Maker.held c.make_image.new.maker) a.target.page e a.target.options.geometry.block a.target.blocks a.base.now text c.in-Some.fault n) (sym shown)
+        subst (λ n. IsSessionFault (g.M.Maker.held a.maker.now, g.M.Maker.held c.make_image.new.maker) (image_form a.target.page e a.target.options.geometry.block a.target.blocks) a.base.now text c.in-Some.fault n) (sym shown)
             (stopped_at _ a.target.page e a.target.options.geometry.block a.target.blocks a.base.now text a.lines.items r.accepted r.places.items c.in-Some.fault run),
         subst (λ (bytes : List ℕ). IsCause a.target.page a.target.options.geometry.block a.target.blocks bytes c.in-Some.fault c.cause_on-cause.result) image c.cause_on-cause.ensures,
       ),
@@ -85,9 +85,9 @@ returns-in_err-put_accepted-clause-writes g c = λ text read.
     let image : m.image ≡ a.base.now = search rules in
     let at : resumes_by a.target.page e a.target.options.geometry.block a.target.blocks m ≡ Ok c.in_ok-from.from = search rules in
     let stopped : r.stopped ≡ None = search rules in
-    let made : IsMade (g.M.Maker.held a.maker.now, g.M.Maker.held c.make_image.new.maker) a.target.page e a.target.options.geometry.block a.target.blocks m (ops_in e (part_contents a.parts.now) a.lines.items) r.accepted r.places.items None =
-    subst (λ (o : List Op). IsMade (g.M.Maker.held a.maker.now, g.M.Maker.held c.make_image.new.maker) a.target.page e a.target.options.geometry.block a.target.blocks m o r.accepted r.places.items None) same
-    (subst (λ s. IsMade (g.M.Maker.held a.maker.now, g.M.Maker.held c.make_image.new.maker) a.target.page e a.target.options.geometry.block a.target.blocks m c.deref-4.result.now r.accepted r.places.items s) stopped c.in_ok-report.ensures.made) in
+    let made : IsMade (g.M.Maker.held a.maker.now, g.M.Maker.held c.make_image.new.maker) (image_form a.target.page e a.target.options.geometry.block a.target.blocks) m (ops_in e (part_contents a.parts.now) a.lines.items) r.accepted r.places.items None =
+    subst (λ (o : List Op). IsMade (g.M.Maker.held a.maker.now, g.M.Maker.held c.make_image.new.maker) (image_form a.target.page e a.target.options.geometry.block a.target.blocks) m o r.accepted r.places.items None) same
+    (subst (λ s. IsMade (g.M.Maker.held a.maker.now, g.M.Maker.held c.make_image.new.maker) (image_form a.target.page e a.target.options.geometry.block a.target.blocks) m c.deref-4.result.now r.accepted r.places.items s) stopped c.in_ok-report.ensures.made) in
     let run = run_on _ a.target.page e a.target.options.geometry.block a.target.blocks a.base.now text a.lines.items (part_contents a.parts.now) m r.accepted r.places.items None read mounts made in
     let from = goes_on_from a.target.page e a.target.options.geometry.block a.target.blocks m c.in_ok-from.from at ∙ ap (λ (l : List ℕ). resume_address e a.target.options.geometry.block a.target.blocks l) image in
     let put = c.in_err-put_accepted.ensures in
@@ -106,9 +106,9 @@ returns-clause-writes g c = λ text read.
     let image : m.image ≡ a.base.now = search rules in
     let at : resumes_by a.target.page e a.target.options.geometry.block a.target.blocks m ≡ Ok c.in_ok-from.from = search rules in
     let stopped : r.stopped ≡ None = search rules in
-    let made : IsMade (g.M.Maker.held a.maker.now, g.M.Maker.held c.make_image.new.maker) a.target.page e a.target.options.geometry.block a.target.blocks m (ops_in e (part_contents a.parts.now) a.lines.items) r.accepted r.places.items None =
-    subst (λ (o : List Op). IsMade (g.M.Maker.held a.maker.now, g.M.Maker.held c.make_image.new.maker) a.target.page e a.target.options.geometry.block a.target.blocks m o r.accepted r.places.items None) same
-    (subst (λ s. IsMade (g.M.Maker.held a.maker.now, g.M.Maker.held c.make_image.new.maker) a.target.page e a.target.options.geometry.block a.target.blocks m c.deref-4.result.now r.accepted r.places.items s) stopped c.in_ok-report.ensures.made) in
+    let made : IsMade (g.M.Maker.held a.maker.now, g.M.Maker.held c.make_image.new.maker) (image_form a.target.page e a.target.options.geometry.block a.target.blocks) m (ops_in e (part_contents a.parts.now) a.lines.items) r.accepted r.places.items None =
+    subst (λ (o : List Op). IsMade (g.M.Maker.held a.maker.now, g.M.Maker.held c.make_image.new.maker) (image_form a.target.page e a.target.options.geometry.block a.target.blocks) m o r.accepted r.places.items None) same
+    (subst (λ s. IsMade (g.M.Maker.held a.maker.now, g.M.Maker.held c.make_image.new.maker) (image_form a.target.page e a.target.options.geometry.block a.target.blocks) m c.deref-4.result.now r.accepted r.places.items s) stopped c.in_ok-report.ensures.made) in
     let run = run_on _ a.target.page e a.target.options.geometry.block a.target.blocks a.base.now text a.lines.items (part_contents a.parts.now) m r.accepted r.places.items None read mounts made in
     let from = goes_on_from a.target.page e a.target.options.geometry.block a.target.blocks m c.in_ok-from.from at ∙ ap (λ (l : List ℕ). resume_address e a.target.options.geometry.block a.target.blocks l) image in
     let put = c.in_ok-put_accepted.ensures in
@@ -147,7 +147,7 @@ returns-in-Some-clause-maker g c =
     let r = c.in_ok-report.report in
     let stopped : r.stopped ≡ Some c.in-Some.fault = search rules in
     run_fault _ a.target.page e a.target.options.geometry.block a.target.blocks m c.deref-4.result.now r.accepted r.places.items _ _ _ _ c.in-Some.fault _ _
-    (subst (λ s. IsMade (g.M.Maker.held a.maker.now, g.M.Maker.held c.make_image.new.maker) a.target.page e a.target.options.geometry.block a.target.blocks m c.deref-4.result.now r.accepted r.places.items s) stopped c.in_ok-report.ensures.made)
+    (subst (λ s. IsMade (g.M.Maker.held a.maker.now, g.M.Maker.held c.make_image.new.maker) (image_form a.target.page e a.target.options.geometry.block a.target.blocks) m c.deref-4.result.now r.accepted r.places.items s) stopped c.in_ok-report.ensures.made)
     (subst (λ s. IsMadeUntil (g.M.Maker.failures a.maker.now) (g.M.Maker.failures c.make_image.new.maker) s) stopped c.in_ok-report.ensures.stopped)
     c.in_ok-report.ensures.file
 
@@ -162,9 +162,9 @@ returns-clause-files g c = λ known text read are.
     let image : m.image ≡ a.base.now = search rules in
     let at : resumes_by a.target.page e a.target.options.geometry.block a.target.blocks m ≡ Ok c.in_ok-from.from = search rules in
     let stopped : r.stopped ≡ None = search rules in
-    let made : IsMade (g.M.Maker.held a.maker.now, g.M.Maker.held c.make_image.new.maker) a.target.page e a.target.options.geometry.block a.target.blocks m (ops_in e (part_contents a.parts.now) a.lines.items) r.accepted r.places.items None =
-    subst (λ (o : List Op). IsMade (g.M.Maker.held a.maker.now, g.M.Maker.held c.make_image.new.maker) a.target.page e a.target.options.geometry.block a.target.blocks m o r.accepted r.places.items None) same
-    (subst (λ s. IsMade (g.M.Maker.held a.maker.now, g.M.Maker.held c.make_image.new.maker) a.target.page e a.target.options.geometry.block a.target.blocks m c.deref-4.result.now r.accepted r.places.items s) stopped c.in_ok-report.ensures.made) in
+    let made : IsMade (g.M.Maker.held a.maker.now, g.M.Maker.held c.make_image.new.maker) (image_form a.target.page e a.target.options.geometry.block a.target.blocks) m (ops_in e (part_contents a.parts.now) a.lines.items) r.accepted r.places.items None =
+    subst (λ (o : List Op). IsMade (g.M.Maker.held a.maker.now, g.M.Maker.held c.make_image.new.maker) (image_form a.target.page e a.target.options.geometry.block a.target.blocks) m o r.accepted r.places.items None) same
+    (subst (λ s. IsMade (g.M.Maker.held a.maker.now, g.M.Maker.held c.make_image.new.maker) (image_form a.target.page e a.target.options.geometry.block a.target.blocks) m c.deref-4.result.now r.accepted r.places.items s) stopped c.in_ok-report.ensures.made) in
     let from = goes_on_from a.target.page e a.target.options.geometry.block a.target.blocks m c.in_ok-from.from at ∙ ap (λ (l : List ℕ). resume_address e a.target.options.geometry.block a.target.blocks l) image in
     let put = c.in_ok-put_accepted.ensures in
     files_of_all known _ a.target.page e a.target.options.geometry.block a.target.blocks a.base.now text a.lines.items a.parts.now m r.accepted r.places.items c.in_ok-from.from _ _ c.noted.result image from are read mounts made
@@ -181,9 +181,9 @@ returns-in_err-put_accepted-clause-files g c = λ known text read are.
     let image : m.image ≡ a.base.now = search rules in
     let at : resumes_by a.target.page e a.target.options.geometry.block a.target.blocks m ≡ Ok c.in_ok-from.from = search rules in
     let stopped : r.stopped ≡ None = search rules in
-    let made : IsMade (g.M.Maker.held a.maker.now, g.M.Maker.held c.make_image.new.maker) a.target.page e a.target.options.geometry.block a.target.blocks m (ops_in e (part_contents a.parts.now) a.lines.items) r.accepted r.places.items None =
-    subst (λ (o : List Op). IsMade (g.M.Maker.held a.maker.now, g.M.Maker.held c.make_image.new.maker) a.target.page e a.target.options.geometry.block a.target.blocks m o r.accepted r.places.items None) same
-    (subst (λ s. IsMade (g.M.Maker.held a.maker.now, g.M.Maker.held c.make_image.new.maker) a.target.page e a.target.options.geometry.block a.target.blocks m c.deref-4.result.now r.accepted r.places.items s) stopped c.in_ok-report.ensures.made) in
+    let made : IsMade (g.M.Maker.held a.maker.now, g.M.Maker.held c.make_image.new.maker) (image_form a.target.page e a.target.options.geometry.block a.target.blocks) m (ops_in e (part_contents a.parts.now) a.lines.items) r.accepted r.places.items None =
+    subst (λ (o : List Op). IsMade (g.M.Maker.held a.maker.now, g.M.Maker.held c.make_image.new.maker) (image_form a.target.page e a.target.options.geometry.block a.target.blocks) m o r.accepted r.places.items None) same
+    (subst (λ s. IsMade (g.M.Maker.held a.maker.now, g.M.Maker.held c.make_image.new.maker) (image_form a.target.page e a.target.options.geometry.block a.target.blocks) m c.deref-4.result.now r.accepted r.places.items s) stopped c.in_ok-report.ensures.made) in
     let from = goes_on_from a.target.page e a.target.options.geometry.block a.target.blocks m c.in_ok-from.from at ∙ ap (λ (l : List ℕ). resume_address e a.target.options.geometry.block a.target.blocks l) image in
     let put = c.in_err-put_accepted.ensures in
     files_in_part known _ a.target.page e a.target.options.geometry.block a.target.blocks a.base.now text a.lines.items a.parts.now m r.accepted r.places.items c.in_ok-from.from _ _ _ c.from_residual-in_err-put_accepted.ensures.1 from are read mounts made
@@ -201,9 +201,9 @@ returns-in-Some-clause-files g c = λ known text read are.
     let stopped : r.stopped ≡ Some c.in-Some.fault = search rules in
     let numbers : c.in_ok-numbers.numbers.items ≡ map (λ l. l.number) a.lines.items = search rules in
     let line : c.number_at-line.result ≡ slice_get c.in_ok-numbers.numbers.items r.accepted = search rules in
-    let made : IsMade (g.M.Maker.held a.maker.now, g.M.Maker.held c.make_image.new.maker) a.target.page e a.target.options.geometry.block a.target.blocks m (ops_in e (part_contents a.parts.now) a.lines.items) r.accepted r.places.items (Some c.in-Some.fault) =
-    subst (λ (o : List Op). IsMade (g.M.Maker.held a.maker.now, g.M.Maker.held c.make_image.new.maker) a.target.page e a.target.options.geometry.block a.target.blocks m o r.accepted r.places.items (Some c.in-Some.fault)) same
-    (subst (λ s. IsMade (g.M.Maker.held a.maker.now, g.M.Maker.held c.make_image.new.maker) a.target.page e a.target.options.geometry.block a.target.blocks m c.deref-4.result.now r.accepted r.places.items s) stopped c.in_ok-report.ensures.made) in
+    let made : IsMade (g.M.Maker.held a.maker.now, g.M.Maker.held c.make_image.new.maker) (image_form a.target.page e a.target.options.geometry.block a.target.blocks) m (ops_in e (part_contents a.parts.now) a.lines.items) r.accepted r.places.items (Some c.in-Some.fault) =
+    subst (λ (o : List Op). IsMade (g.M.Maker.held a.maker.now, g.M.Maker.held c.make_image.new.maker) (image_form a.target.page e a.target.options.geometry.block a.target.blocks) m o r.accepted r.places.items (Some c.in-Some.fault)) same
+    (subst (λ s. IsMade (g.M.Maker.held a.maker.now, g.M.Maker.held c.make_image.new.maker) (image_form a.target.page e a.target.options.geometry.block a.target.blocks) m c.deref-4.result.now r.accepted r.places.items s) stopped c.in_ok-report.ensures.made) in
     let shown = line ∙ (ap (λ (l : List ℕ). slice_get l r.accepted) numbers ∙ slice_get-map (λ l. l.number) a.lines.items r.accepted) in
     files_until known _ a.target.page e a.target.options.geometry.block a.target.blocks a.base.now text a.lines.items a.parts.now m r.accepted r.places.items (g.T.Sink.taken a.sink.now) (g.T.Sink.taken a.sink.now) c.in-Some.fault _ _ shown are read mounts made
 
@@ -230,8 +230,8 @@ returns-in_err-report-clause-files g c = λ known text read are.
     let same : c.deref-4.result.now ≡ ops_in e (part_contents a.parts.now) a.lines.items = search rules in
     let image : m.image ≡ a.base.now = search rules in
     let held : Held = (g.M.Maker.held a.maker.now, g.M.Maker.held c.make_image.new.maker) in
-    let cut : HoldsCut held a.target.page e a.target.options.geometry.block a.target.blocks m.image (ops_in e (part_contents a.parts.now) a.lines.items) c.in_err-report.field-0.0 =
-    subst (λ (o : List Op). HoldsCut held a.target.page e a.target.options.geometry.block a.target.blocks m.image o c.in_err-report.field-0.0) same c.in_err-report.ensures.cut in
+    let cut : HoldsCut held (image_form a.target.page e a.target.options.geometry.block a.target.blocks) m.image (ops_in e (part_contents a.parts.now) a.lines.items) c.in_err-report.field-0.0 =
+    subst (λ (o : List Op). HoldsCut held (image_form a.target.page e a.target.options.geometry.block a.target.blocks) m.image o c.in_err-report.field-0.0) same c.in_err-report.ensures.cut in
     files_not_made known held a.target.page e a.target.options.geometry.block a.target.blocks a.target.output.now a.base.now text a.lines.items a.parts.now m _ _ c.in_err-report.field-0.0 _
     c.from_residual-in_err-report.ensures.1 image are read c.in_err-report.ensures.fault cut
 
@@ -261,8 +261,8 @@ returns-clause-weak g c = λ asked.
     let image : m.image ≡ a.base.now = search rules in
     let stopped : r.stopped ≡ None = search rules in
     let held : Held = (g.M.Maker.held a.maker.now, g.M.Maker.held c.make_image.new.maker) in
-    let made : IsMade held a.target.page e a.target.options.geometry.block a.target.blocks m ops r.accepted r.places.items None =
-    subst (λ (o : List Op). IsMade held a.target.page e a.target.options.geometry.block a.target.blocks m o r.accepted r.places.items None) same
-    (subst (λ s. IsMade held a.target.page e a.target.options.geometry.block a.target.blocks m c.deref-4.result.now r.accepted r.places.items s) stopped c.in_ok-report.ensures.made) in
+    let made : IsMade held (image_form a.target.page e a.target.options.geometry.block a.target.blocks) m ops r.accepted r.places.items None =
+    subst (λ (o : List Op). IsMade held (image_form a.target.page e a.target.options.geometry.block a.target.blocks) m o r.accepted r.places.items None) same
+    (subst (λ s. IsMade held (image_form a.target.page e a.target.options.geometry.block a.target.blocks) m c.deref-4.result.now r.accepted r.places.items s) stopped c.in_ok-report.ensures.made) in
     subst (λ (l : List ℕ). AreNotes e flash l ops c.take.new.self) image
     (noted_at e c.flash_of.result flash m c.deref-2.result.now ops c.take.new.self c.flash_of.ensures first (c.in_ok-take.ensures.noted asked) (all_taken held e flash m ops r.accepted r.places.items made))
