@@ -144,10 +144,10 @@ fn goes_on_from<E: Order>(mounted: &Mounted<'_>, target: Target<'_>) -> Result<u
 /// The same with the cause of a fault.
 fn resumed_from<E: Order>(mounted: &Mounted<'_>, target: Target<'_>) -> Result<u32, Refused>
     requires { IsMountOf E.order target.options.geometry.block mounted.now }
-    ensures from { IfOk result (λ from. resumes_by target.entry.page E.order
-        target.entry.options.geometry.block target.entry.blocks mounted.now ≡ Ok from) }
-    ensures refused { IfErr result (λ refused. resumes_by target.entry.page E.order
-        target.entry.options.geometry.block target.entry.blocks mounted.now ≡ Err refused.fault) }
+    ensures from { IfOk result
+        (λ from. resumed (form_of E.order target.entry) mounted.now ≡ Ok from) }
+    ensures refused { IfErr result
+        (λ refused. resumed (form_of E.order target.entry) mounted.now ≡ Err refused.fault) }
     ensures cause { IfErr result (λ refused. IsCause target.entry.page
         target.entry.options.geometry.block target.entry.blocks mounted.now.image refused.fault
         refused.cause) }
