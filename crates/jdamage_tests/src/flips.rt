@@ -36,6 +36,10 @@ const NODES: [Node; 11] = [
     Node::Inode(1, 5, DIRECTORY, 1, 0, b"r"), // 576
 ];
 
+fn nodes() -> &'static [Node] {
+    &NODES
+}
+
 fn write_node(image: &mut Vec<u8>, node: Node) -> Result<(), WriteFault> {
     match node {
         Node::Inode(ino, version, mode, isize, offset, data) => write_inode::<LittleEndian>(
@@ -85,7 +89,7 @@ fn flipped_of(alloc: Global, nodes: &[Node], places: &[usize]) -> Result<Vec<u8>
 
 /// The image, with a bit flipped in the byte at each of these places.
 fn flipped(alloc: Global, places: &[usize]) -> Result<Vec<u8>, &'static str> {
-    flipped_of(alloc, &NODES, places)
+    flipped_of(alloc, nodes(), places)
 }
 
 /// Puts what its damage costs, and answers the totals, or nothing where the sink failed.
@@ -151,9 +155,13 @@ const ROWS: [Row; 6] = [
     (&[208], DIRECTORY_GONE, (1, 0, 3)),
 ];
 
+fn rows() -> &'static [Row] {
+    &ROWS
+}
+
 #[test]
 fn worked_damage(rt: HostRuntime) -> Result<(), Fail> {
-    for (places, text, wanted) in ROWS {
+    for &(places, text, wanted) in rows() {
         let image = flipped(rt.alloc(), places)?;
         let mut sink = Taker::new(rt.alloc());
         let found = put(rt.alloc(), &image, &mut sink)?;

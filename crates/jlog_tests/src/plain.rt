@@ -1,53 +1,34 @@
 //! A plain file system: files that have their bytes in a list, and names in the root.
 
 use jmount::{Kind, Mounted, Object};
-use jsteps::Attributes;
 use std::alloc::Global;
 use std::test::Fail;
 
 /// A step on plain files. A file goes by its place among all that were made.
 #[derive(Clone, Copy)]
 pub enum Change {
-    Make {
-        mode: u32,
-        bytes: &'static [u8],
-        time: u32,
-    },
-    Name {
-        name: &'static [u8],
-        ino: u32,
-    },
-    Clear {
-        name: &'static [u8],
-    },
-    Put {
-        file: usize,
-        offset: usize,
-        bytes: &'static [u8],
-        time: u32,
-    },
-    Zero {
-        file: usize,
-        size: usize,
-        time: u32,
-    },
-    Cut {
-        file: usize,
-        size: usize,
-        time: u32,
-    },
-    /// Other attributes of the root.
-    Root {
-        attributes: Attributes,
-        time: u32,
-    },
-    /// Other attributes of a file.
-    File {
-        file: usize,
-        attributes: Attributes,
-        time: u32,
-    },
+    /// A new object: its mode, of how many bytes 0x5A it is, and the time.
+    Make(u32, usize, u32),
+    /// A name and its object.
+    Name(&'static [u8], u32),
+    /// A name that goes.
+    Clear(&'static [u8]),
+    /// Bytes of a file: the offset, the bytes and the time.
+    Put(usize, usize, &'static [u8], u32),
+    /// So many bytes 0x5A of a file from an offset on, and the time.
+    Fill(usize, usize, usize, u32),
+    /// Zeros of a file up to a size, and the time.
+    Zero(usize, usize, u32),
+    /// A file that is cut to a size, and the time.
+    Cut(usize, usize, u32),
+    /// Permissions of the root, with the attributes of `test_operations`, and the time.
+    Root(u32, u32),
+    /// The same of a file.
+    Attributes(usize, u32, u32),
 }
+
+/// What `write` writes.
+const BYTES: [u8; 16_384] = [0x5A; 16_384];
 
 #[derive(Drop)]
 struct File {
@@ -81,6 +62,36 @@ impl File {
         }
         Ok(())
     }
+
+    /// Takes a step on this file.
+    fn take(&mut self, change: &Change) -> Result<(), Fail> {
+        let time = match *change {
+            Change::Put(_, offset, bytes, time) => {
+                self.put(offset, bytes)?;
+                time
+            }
+            Change::Fill(_, offset, count, time) => {
+                self.put(offset, BYTES.get(..count).unwrap_or(&BYTES))?;
+                time
+            }
+            Change::Zero(_, size, time) => {
+                self.bytes.resize(size, 0)?;
+                time
+            }
+            Change::Cut(_, size, time) => {
+                self.bytes.truncate(size);
+                time
+            }
+            Change::Attributes(_, permissions, time) => {
+                self.object = with_attributes(self.object, permissions, time);
+                return Ok(());
+            }
+            _ => return Ok(()),
+        };
+        self.object.mtime = time;
+        self.object.ctime = time;
+        Ok(())
+    }
 }
 
 /// A new object without bytes.
@@ -102,14 +113,14 @@ fn new_object(mode: u32, time: u32) -> Object {
     }
 }
 
-/// The same object with other attributes.
-fn with_attributes(object: Object, attributes: Attributes, time: u32) -> Object {
+/// The same object with the attributes that a line gives it.
+fn with_attributes(object: Object, permissions: u32, time: u32) -> Object {
     Object {
-        mode: object.mode & 0o170000 | attributes.mode,
-        uid: attributes.uid,
-        gid: attributes.gid,
-        atime: attributes.atime,
-        mtime: attributes.mtime,
+        mode: object.mode & 0o170000 | permissions,
+        uid: 5,
+        gid: 6,
+        atime: 1,
+        mtime: 2,
         ctime: time,
         ..object
     }
@@ -133,40 +144,24 @@ impl Plain {
         }
     }
 
-    fn touched(&mut self, file: usize, time: u32) -> Result<&mut File, Fail> {
-        let file = self.files.get_mut(file).ok_or("no file")?;
-        file.object.mtime = time;
-        file.object.ctime = time;
-        Ok(file)
-    }
-
     /// Takes a step.
     pub fn take(&mut self, alloc: Global, change: &Change) -> Result<(), Fail> {
         match *change {
-            Change::Make { mode, bytes, time } => self.files.push(File {
+            Change::Make(mode, count, time) => self.files.push(File {
                 object: new_object(mode, time),
-                bytes: bytes.to_vec(alloc)?,
+                bytes: vec![in alloc; 0x5A; count]?,
             })?,
-            Change::Name { name, ino } => self.set_name(name, Some(ino)),
-            Change::Clear { name } => self.set_name(name, None),
-            Change::Put {
-                file,
-                offset,
-                bytes,
-                time,
-            } => self.touched(file, time)?.put(offset, bytes)?,
-            Change::Zero { file, size, time } => self.touched(file, time)?.bytes.resize(size, 0)?,
-            Change::Cut { file, size, time } => self.touched(file, time)?.bytes.truncate(size),
-            Change::Root { attributes, time } => {
-                self.root = with_attributes(self.root, attributes, time);
+            Change::Name(name, ino) => self.set_name(name, Some(ino)),
+            Change::Clear(name) => self.set_name(name, None),
+            Change::Root(permissions, time) => {
+                self.root = with_attributes(self.root, permissions, time);
             }
-            Change::File {
-                file,
-                attributes,
-                time,
-            } => {
-                let file = self.files.get_mut(file).ok_or("no file")?;
-                file.object = with_attributes(file.object, attributes, time);
+            Change::Put(file, ..)
+            | Change::Fill(file, ..)
+            | Change::Zero(file, ..)
+            | Change::Cut(file, ..)
+            | Change::Attributes(file, ..) => {
+                self.files.get_mut(file).ok_or("no file")?.take(change)?;
             }
         }
         Ok(())

@@ -58,20 +58,6 @@ fn run_in<E: Order>(
     })
 }
 
-/// Runs operations onto an image, on a flash of so many blocks.
-pub fn run_ops<E: Order>(
-    alloc: Global,
-    image: &[u8],
-    geometry: Geometry,
-    blocks: u32,
-    ops: &[Op<'_>],
-) -> Result<Outcome, Fail> {
-    let mounted = mount::<E>(alloc, image, geometry)?;
-    let sink = FromWriter::new(Vec::new(alloc));
-    let session = Session::<E, _>::resume(alloc, &mounted, geometry, blocks, sink)?;
-    run_in::<E>(alloc, image, session, ops)
-}
-
 /// Runs operations onto an image, by pages.
 pub fn run_paged<E: Order>(
     alloc: Global,

@@ -12,25 +12,27 @@ fn kinds_have_modes(rt: HostRuntime) {
 
 /// Numbers, each with its bytes in little and in big order, as Linux writes them (fs/jffs2/nodelist.h,
 /// jffs2_encode_dev).
-const NUMBERS: [(u16, u32, &[u8], &[u8]); 8] = [
-    (0, 0, &[0, 0], &[0, 0]),
-    (4, 1, &[1, 4], &[4, 1]),
-    (255, 255, &[255, 255], &[255, 255]),
-    (256, 0, &[0, 0, 1, 0], &[0, 1, 0, 0]),
-    (0, 256, &[0, 0, 16, 0], &[0, 16, 0, 0]),
-    (259, 65537, &[1, 3, 1, 16], &[16, 1, 3, 1]),
-    (
-        300,
-        70000,
-        &[0x70, 0x2c, 0x11, 0x11],
-        &[0x11, 0x11, 0x2c, 0x70],
-    ),
-    (4095, 1048575, &[255, 255, 255, 255], &[255, 255, 255, 255]),
-];
+fn numbers() -> &'static [(u16, u32, &'static [u8], &'static [u8])] {
+    &[
+        (0, 0, &[0, 0], &[0, 0]),
+        (4, 1, &[1, 4], &[4, 1]),
+        (255, 255, &[255, 255], &[255, 255]),
+        (256, 0, &[0, 0, 1, 0], &[0, 1, 0, 0]),
+        (0, 256, &[0, 0, 16, 0], &[0, 16, 0, 0]),
+        (259, 65537, &[1, 3, 1, 16], &[16, 1, 3, 1]),
+        (
+            300,
+            70000,
+            &[0x70, 0x2c, 0x11, 0x11],
+            &[0x11, 0x11, 0x2c, 0x70],
+        ),
+        (4095, 1048575, &[255, 255, 255, 255], &[255, 255, 255, 255]),
+    ]
+}
 
 #[test]
 fn numbers_have_bytes_in_both_orders(rt: HostRuntime) {
-    for (major, minor, wanted, swapped) in NUMBERS {
+    for &(major, minor, wanted, swapped) in numbers() {
         let little = DeviceNumber::new::<LittleEndian>(major, minor);
         let big = DeviceNumber::new::<BigEndian>(major, minor);
         equal(&rt, little.as_slice(), wanted);

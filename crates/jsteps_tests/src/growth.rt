@@ -3,42 +3,45 @@
 
 use crate::checks::equal;
 use crate::lines::BY;
-use crate::trees::{GEOMETRY, SMALL};
+use crate::taking::take_once;
+use crate::trees::{GEOMETRY, small};
 use byteorder::LittleEndian;
 use jmount::{Mounted, mount};
-use jsteps::{Index, Op, OpFault, Step, Text, advance, plan};
-use std::alloc::{AllocError, Global};
-use test_operations::{is_ready, op_of};
+use jsteps::{Index, Op, OpFault, Step, Text, plan};
+use std::alloc::Global;
+use test_operations::op_of;
 use test_support::image_of;
 
 /// Those at the end make names enough for a directory, and objects enough for an index, that are no
 /// longer one node of a map.
-const LINES: [&str; 24] = [
-    "mkdir /m 755",
-    "create /d/e/f 600",
-    "symlink /d/l ../a",
-    "write /d/e/f 100 9000",
-    "truncate /a 4",
-    "truncate /a 400",
-    "link /a /d/e/n",
-    "rename /d /m/d",
-    "rename /a /m/d/e/name-of-more-than-sixteen-bytes",
-    "remove /q",
-    "remove /m/d/l",
-    "attr /m/d/e 700",
-    "create /m/d/e/0 644",
-    "create /m/d/e/1 644",
-    "create /m/d/e/2 644",
-    "create /m/d/e/3 644",
-    "create /m/d/e/4 644",
-    "create /m/d/e/5 644",
-    "create /m/d/e/6 644",
-    "create /m/d/e/7 644",
-    "create /m/d/e/8 644",
-    "create /m/d/e/9 644",
-    "create /m/d/e/10 644",
-    "create /m/d/e/11 644",
-];
+fn lines() -> &'static [&'static str] {
+    &[
+        "mkdir /m 755",
+        "create /d/e/f 600",
+        "symlink /d/l ../a",
+        "write /d/e/f 100 9000",
+        "truncate /a 4",
+        "truncate /a 400",
+        "link /a /d/e/n",
+        "rename /d /m/d",
+        "rename /a /m/d/e/name-of-more-than-sixteen-bytes",
+        "remove /q",
+        "remove /m/d/l",
+        "attr /m/d/e 700",
+        "create /m/d/e/0 644",
+        "create /m/d/e/1 644",
+        "create /m/d/e/2 644",
+        "create /m/d/e/3 644",
+        "create /m/d/e/4 644",
+        "create /m/d/e/5 644",
+        "create /m/d/e/6 644",
+        "create /m/d/e/7 644",
+        "create /m/d/e/8 644",
+        "create /m/d/e/9 644",
+        "create /m/d/e/10 644",
+        "create /m/d/e/11 644",
+    ]
+}
 
 /// How many steps they have.
 const STEPS: usize = 44;
@@ -46,40 +49,50 @@ const STEPS: usize = 44;
 /// Greater than the numbers of all objects.
 const NUMBERS: u32 = 80;
 
-const PATHS: [&str; 26] = [
-    "/a",
-    "/d",
-    "/s",
-    "/q",
-    "/x",
-    "/d/e",
-    "/d/e/n",
-    "/d/e/f",
-    "/d/l",
-    "/m",
-    "/m/d",
-    "/m/d/e",
-    "/m/d/e/f",
-    "/y",
-    "/m/d/e/0",
-    "/m/d/e/1",
-    "/m/d/e/2",
-    "/m/d/e/3",
-    "/m/d/e/4",
-    "/m/d/e/5",
-    "/m/d/e/6",
-    "/m/d/e/7",
-    "/m/d/e/8",
-    "/m/d/e/9",
-    "/m/d/e/10",
-    "/m/d/e/11",
-];
+fn paths() -> &'static [&'static str] {
+    &[
+        "/a",
+        "/d",
+        "/s",
+        "/q",
+        "/x",
+        "/d/e",
+        "/d/e/n",
+        "/d/e/f",
+        "/d/l",
+        "/m",
+        "/m/d",
+        "/m/d/e",
+        "/m/d/e/f",
+        "/y",
+        "/m/d/e/0",
+        "/m/d/e/1",
+        "/m/d/e/2",
+        "/m/d/e/3",
+        "/m/d/e/4",
+        "/m/d/e/5",
+        "/m/d/e/6",
+        "/m/d/e/7",
+        "/m/d/e/8",
+        "/m/d/e/9",
+        "/m/d/e/10",
+        "/m/d/e/11",
+    ]
+}
 
 /// Two indexes that have taken the same steps: what is refused to the one is seen beside the other.
 #[derive(Drop)]
 struct Pair {
     tried: Index,
     other: Index,
+}
+
+/// The directory that loses a name by the first of these steps.
+fn cleared(steps: &[Step<'_>]) -> Option<(u32, Option<OpFault>)> {
+    match steps.first() {
+        Some(Step::ClearName { directory, .. }) => Some((*directory, None)),
+        _ => None,
+    }
 }
 
 /// How a removal of a path is answered: the directory that loses the name, or the refusal. None
@@ -90,10 +103,7 @@ fn removal(alloc: Global, index: &Index, path: &str) -> Option<(u32, Option<OpFa
         path: Text::lent(path.as_bytes()),
     };
     match plan(alloc, index, &op) {
-        Ok(steps) => match steps.first()? {
-            Step::ClearName { directory, .. } => Some((*directory, None)),
-            _ => None,
-        },
+        Ok(steps) => cleared(&steps),
         Err(OpFault::OutOfMemory) => None,
         Err(fault) => Some((0, Some(fault))),
     }
@@ -107,15 +117,6 @@ fn index_of(alloc: Global, mounted: &Mounted<'_>) -> Option<Index> {
     }
 }
 
-/// Takes a step, if it can be taken.
-fn take_once(index: &mut Index, step: &Step<'_>) -> Option<Result<(), AllocError>> {
-    if is_ready(index, step) {
-        Some(advance(index, step))
-    } else {
-        None
-    }
-}
-
 impl Pair {
     /// Whether the two show the same. None where a growth is refused.
     fn is_same(&self, alloc: Global) -> Option<bool> {
@@ -125,7 +126,7 @@ impl Pair {
                 && self.tried.object(ino) == self.other.object(ino)
                 && self.tried.top(ino) == self.other.top(ino);
         }
-        for path in PATHS {
+        for &path in paths() {
             let tried = removal(alloc, &self.tried, path)?;
             same = same && tried == removal(alloc, &self.other, path)?;
         }
@@ -158,6 +159,20 @@ impl Pair {
         }
         Some(())
     }
+
+    fn take_all(&mut self, alloc: Global, steps: &[Step<'_>]) -> Option<usize> {
+        for step in steps {
+            self.take(alloc, step)?;
+        }
+        Some(steps.len())
+    }
+
+    /// Takes the operation of a line, and tells how many steps it has.
+    fn take_line(&mut self, alloc: Global, line: &str) -> Option<usize> {
+        let op = op_of(line, BY)?;
+        let steps = self.steps(alloc, &op)?;
+        self.take_all(alloc, &steps)
+    }
 }
 
 /// Takes all operations, and tells how many steps there were; none where something is not as it
@@ -167,13 +182,8 @@ fn steps_taken(alloc: Global, mounted: &Mounted<'_>) -> Option<usize> {
     let other = index_of(alloc, mounted)?;
     let mut pair = Pair { tried, other };
     let mut count = 0usize;
-    for line in LINES {
-        let op = op_of(line, BY)?;
-        let steps = pair.steps(alloc, &op)?;
-        for step in &steps {
-            pair.take(alloc, step)?;
-        }
-        count = count.checked_add(steps.len())?;
+    for &line in lines() {
+        count = count.wrapping_add(pair.take_line(alloc, line)?);
     }
     // (a growth that is refused here is none of a call that is tried)
     if pair.is_same(alloc).unwrap_or(true) {
@@ -188,7 +198,7 @@ fn steps_taken(alloc: Global, mounted: &Mounted<'_>) -> Option<usize> {
 #[test]
 fn refused_growth_of_operations(rt: HostRuntime) {
     let alloc = rt.alloc();
-    let Ok(image) = image_of::<LittleEndian>(alloc, SMALL) else {
+    let Ok(image) = image_of::<LittleEndian>(alloc, small()) else {
         return;
     };
     let Ok(mounted) = mount::<LittleEndian>(alloc, &image, GEOMETRY) else {

@@ -3,14 +3,14 @@
 use crate::checks::{equal, equal_at};
 use crate::lines::answer;
 use crate::taking::take;
-use crate::trees::{ONE_NUMBER_LEFT, SMALL, index_of};
+use crate::trees::{index_of, one_number_left, small};
 use jmount::Kind;
 use jsteps::with_permissions;
 use std::test::Fail;
 
 #[test]
 fn what_an_index_shows(rt: HostRuntime) -> Result<(), Fail> {
-    let index = index_of(rt.alloc(), SMALL)?;
+    let index = index_of(rt.alloc(), small())?;
     let shown = [
         (1, Some((Kind::Directory, 0o040755, 0)), 7),
         (2, Some((Kind::Regular, 0o100644, 10)), 1),
@@ -28,11 +28,9 @@ fn what_an_index_shows(rt: HostRuntime) -> Result<(), Fail> {
     Ok(())
 }
 
-#[test]
-fn what_steps_leave(rt: HostRuntime) -> Result<(), Fail> {
-    let alloc = rt.alloc();
-    let mut index = index_of(alloc, SMALL)?;
-    let rows = [
+/// Lines, each with the number of its steps, an object, what that is then, and its greatest version.
+fn changes() -> &'static [(&'static str, usize, u32, Option<(u32, u16, u16, u32)>, u32)] {
+    &[
         ("write /a 4000 200", 3, 2, Some((0o100644, 3, 4, 4200)), 4),
         ("truncate /a 9", 1, 2, Some((0o100644, 3, 4, 9)), 5),
         ("truncate /a 12", 1, 2, Some((0o100644, 3, 4, 12)), 6),
@@ -50,8 +48,14 @@ fn what_steps_leave(rt: HostRuntime) -> Result<(), Fail> {
             1,
         ),
         ("remove /q", 1, 57, None, 0),
-    ];
-    for (line, count, ino, object, top) in rows {
+    ]
+}
+
+#[test]
+fn what_steps_leave(rt: HostRuntime) -> Result<(), Fail> {
+    let alloc = rt.alloc();
+    let mut index = index_of(alloc, small())?;
+    for &(line, count, ino, object, top) in changes() {
         equal_at(&rt, take(alloc, &mut index, line)?, count, line);
         let found = index.object(ino).map(|o| (o.mode, o.uid, o.gid, o.size));
         equal_at(&rt, found, object, line);
@@ -64,18 +68,22 @@ fn what_steps_leave(rt: HostRuntime) -> Result<(), Fail> {
     Ok(())
 }
 
-#[test]
-fn what_attributes_leave(rt: HostRuntime) -> Result<(), Fail> {
-    let alloc = rt.alloc();
-    let mut index = index_of(alloc, SMALL)?;
-    let rows = [
+/// The same for lines of attributes, with an object's mode and size.
+fn attributes() -> &'static [(&'static str, usize, u32, u32, u32, u32)] {
+    &[
         ("attr /a 600", 1, 2, 0o100600, 10, 2),
         ("attr /d 7711", 1, 3, 0o047711, 0, 3),
         ("attr / 700", 1, 1, 0o040700, 0, 8),
         ("mkdir /x 755", 2, 1, 0o040700, 0, 9),
         ("attr /x 0", 1, 58, 0o040000, 0, 2),
-    ];
-    for (line, count, ino, mode, size, top) in rows {
+    ]
+}
+
+#[test]
+fn what_attributes_leave(rt: HostRuntime) -> Result<(), Fail> {
+    let alloc = rt.alloc();
+    let mut index = index_of(alloc, small())?;
+    for &(line, count, ino, mode, size, top) in attributes() {
         equal_at(&rt, take(alloc, &mut index, line)?, count, line);
         let found = index.object(ino).map(|o| (o.mode, o.size));
         equal_at(&rt, found, Some((mode, size)), line);
@@ -95,17 +103,21 @@ fn what_attributes_leave(rt: HostRuntime) -> Result<(), Fail> {
     Ok(())
 }
 
+/// Lines of two steps, each with the object that it makes, and its mode and size.
+fn devices() -> &'static [(&'static str, u32, u32, u32)] {
+    &[
+        ("char /x 600 866:411233", 58, 0o020600, 0),
+        ("block /d/y 7777 8:0", 59, 0o067777, 0),
+        ("file /z 644 300", 60, 0o100644, 300),
+    ]
+}
+
 /// A device has no bytes, whatever its node has.
 #[test]
 fn what_devices_leave(rt: HostRuntime) -> Result<(), Fail> {
     let alloc = rt.alloc();
-    let mut index = index_of(alloc, SMALL)?;
-    let rows = [
-        ("char /x 600 866:411233", 58, 0o020600, 0),
-        ("block /d/y 7777 8:0", 59, 0o067777, 0),
-        ("file /z 644 300", 60, 0o100644, 300),
-    ];
-    for (line, ino, mode, size) in rows {
+    let mut index = index_of(alloc, small())?;
+    for &(line, ino, mode, size) in devices() {
         equal_at(&rt, take(alloc, &mut index, line)?, 2, line);
         let found = index.object(ino).map(|o| (o.mode, o.size));
         equal_at(&rt, found, Some((mode, size)), line);
@@ -126,11 +138,9 @@ fn other_permission_bits(rt: HostRuntime) {
     }
 }
 
-#[test]
-fn what_names_leave(rt: HostRuntime) -> Result<(), Fail> {
-    let alloc = rt.alloc();
-    let mut index = index_of(alloc, SMALL)?;
-    let rows = [
+/// Lines that are taken, each with the number of its steps, and a next one with its answer.
+fn names() -> &'static [(&'static str, usize, &'static str, &'static str)] {
+    &[
         ("mkdir /m 755", 2, "remove /m", "clear 1 m"),
         ("create /m/b 600", 2, "remove /m", "O7 NotEmpty"),
         ("create /m/a 600", 2, "remove /m/a", "clear 58 a"),
@@ -140,8 +150,14 @@ fn what_names_leave(rt: HostRuntime) -> Result<(), Fail> {
         ("rename /m/c /m/a", 2, "remove /m/c", "O3 NotFound"),
         ("remove /m/a", 1, "remove /m", "clear 1 m"),
         ("link /a /m/c", 1, "remove /m/c", "clear 58 c"),
-    ];
-    for (line, count, next, wanted) in rows {
+    ]
+}
+
+#[test]
+fn what_names_leave(rt: HostRuntime) -> Result<(), Fail> {
+    let alloc = rt.alloc();
+    let mut index = index_of(alloc, small())?;
+    for &(line, count, next, wanted) in names() {
         equal_at(&rt, take(alloc, &mut index, line)?, count, line);
         let found = answer(alloc, &index, next)?;
         equal_at(&rt, found.as_str(), wanted, line);
@@ -152,7 +168,7 @@ fn what_names_leave(rt: HostRuntime) -> Result<(), Fail> {
 #[test]
 fn what_the_last_number_leaves(rt: HostRuntime) -> Result<(), Fail> {
     let alloc = rt.alloc();
-    let mut index = index_of(alloc, ONE_NUMBER_LEFT)?;
+    let mut index = index_of(alloc, one_number_left())?;
     equal(&rt, take(alloc, &mut index, "mkdir /y 755")?, 2);
     equal(&rt, index.next(), 4_294_967_296);
     equal(&rt, index.top(u32::MAX), 1);

@@ -98,14 +98,19 @@ fn put_step(text: &mut String, step: &Step<'_>) -> Result<(), Fail> {
     Ok(())
 }
 
+/// Appends a step, behind a comma where it is not the first.
+fn put_next(text: &mut String, step: &Step<'_>) -> Result<(), Fail> {
+    if !text.is_empty() {
+        text.push_str(", ")?;
+    }
+    put_step(text, step)
+}
+
 /// Steps between commas.
 fn text_of_steps(alloc: Global, steps: &[Step<'_>]) -> Result<String, Fail> {
     let mut text = String::new(alloc);
     for step in steps {
-        if !text.is_empty() {
-            text.push_str(", ")?;
-        }
-        put_step(&mut text, step)?;
+        put_next(&mut text, step)?;
     }
     Ok(text)
 }

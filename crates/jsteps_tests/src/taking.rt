@@ -1,20 +1,30 @@
 //! Steps that are taken, each judged before.
 
 use crate::lines::BY;
-use jsteps::{Index, advance, plan};
-use std::alloc::Global;
+use jsteps::{Index, Step, advance, plan};
+use std::alloc::{AllocError, Global};
 use std::test::Fail;
 use test_operations::{is_ready, op_of};
 
-/// Takes the steps of an operation, and tells how many there are; 0 where one cannot be taken.
+/// Takes a step, if it can be taken.
+pub fn take_once(index: &mut Index, step: &Step<'_>) -> Option<Result<(), AllocError>> {
+    if is_ready(index, step) {
+        Some(advance(index, step))
+    } else {
+        None
+    }
+}
+
+/// Takes the steps of an operation, and tells how many were taken.
 pub fn take(alloc: Global, index: &mut Index, line: &str) -> Result<usize, Fail> {
     let op = op_of(line, BY).ok_or("no operation")?;
     let steps = plan(alloc, index, &op)?;
+    let mut count = 0usize;
     for step in &steps {
-        if !is_ready(index, step) {
-            return Ok(0);
+        if let Some(taken) = take_once(index, step) {
+            taken?;
+            count = count.wrapping_add(1);
         }
-        advance(index, step)?;
     }
-    Ok(steps.len())
+    Ok(count)
 }

@@ -27,9 +27,9 @@ fn words(line: &str) -> (&str, &str, &str, &str) {
 }
 
 /// The operation of a line. A write has an offset and a count of bytes, which are 0x5A, and 0xFF
-/// under the verb `erase`; a file has a mode and such a count. A device has the verb of its kind, a
-/// mode, and its numbers with a colon between, in little order. Attributes have owners 5 and 6 and
-/// the times 1 and 2.
+/// under the verb `erase`, or under `text` the bytes themselves; a file has a mode and such a count.
+/// A device has the verb of its kind, a mode, and its numbers with a colon between, in little order.
+/// Attributes have owners 5 and 6 and the times 1 and 2.
 pub fn op_of<'a>(line: &'a str, by: By) -> Option<Op<'a>> {
     let (verb, path, second, third) = words(line);
     match verb {
@@ -39,7 +39,9 @@ pub fn op_of<'a>(line: &'a str, by: By) -> Option<Op<'a>> {
         "file" => Some(new_file(path, second, third, by)),
         "char" => Some(new_device(DeviceKind::Character, path, second, third, by)),
         "block" => Some(new_device(DeviceKind::Block, path, second, third, by)),
-        "write" | "erase" | "truncate" => Some(other_bytes(verb, path, second, third, by.time)),
+        "write" | "erase" | "text" | "truncate" => Some(other_bytes(
+            verb, path, second, third, by.time,
+        )),
         "attr" => Some(other_attributes(path, second, by.time)),
         _ => other_name(verb, path, second, by.time),
     }
@@ -134,12 +136,13 @@ fn new_device<'a>(kind: DeviceKind, path: &'a str, mode: &str, numbers: &str, by
     }
 }
 
-fn other_bytes<'a>(verb: &str, path: &'a str, second: &str, third: &str, time: u32) -> Op<'a> {
+fn other_bytes<'a>(verb: &str, path: &'a str, second: &str, third: &'a str, time: u32) -> Op<'a> {
     let path = Text::lent(path.as_bytes());
     let number = second.parse::<u32>().unwrap_or(0);
     let bytes = bytes_of(third);
     let bytes = match verb {
         "write" => bytes,
+        "text" => third.as_bytes(),
         "erase" => &ERASED[..bytes.len().min(ERASED.len())],
         _ => {
             return Op::Truncate {

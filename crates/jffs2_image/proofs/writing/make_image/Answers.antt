@@ -32,7 +32,6 @@ returns-after-output-clause-cut g c =
     let base = a.mounted.now.image in
     let was = g.M.Maker.held a.maker.now in
     let cut = λ (maker : g.row.M.Denot) (fault : ProgramFault). HoldsCut (was, g.M.Maker.held maker) (image_form t.page e size t.blocks) base a.ops.now fault in
-    let told = c.from.ensures in
     let put = c.in-Err.ensures in
     elim c.match-output.branch [
       | in-Some w ↦
