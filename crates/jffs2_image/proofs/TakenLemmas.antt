@@ -138,4 +138,4 @@ pub append_blames : (u v : Type 0) (e : Endian) (size : ℕ) (name : List ℕ) (
     → IsNotTaken e size name told (rn ≡ rb) f → ReadsFile {T = Taken} told rb rn (Err f)
     → Blames {T = ℕ} u v rb rn mb mn (Err f) ⊎ IsRefusedBefore {T = ℕ} true e size told (u × (rn ≡ rb)) (Err f)
 append_blames u v e size name told rb rn mb mn f still (inl not) reads = inl (file_blame ℕ u v rb rn mb mn name told f still not (reads_fault Taken told rb rn f reads))
-append_blames u v e size name told rb rn mb mn f still (inr not) reads = inr (not.0, f, not.1, not.2, refl, still, not.3)
+append_blames u v e size name told rb rn mb mn f still (inr not) reads = inr (not.0, f, not.1, not.2, refl, (still, not.3))

@@ -19,4 +19,4 @@ pub mod EmptyLemmas
 pub mod UpdateLemmas
 pub mod WholeFilesLemmas
 mod ListingUpdateLemmas
-mod WrittenLemmas
+pub mod WrittenLemmas
