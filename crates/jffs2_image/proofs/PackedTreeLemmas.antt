@@ -47,24 +47,24 @@ run_holds : (asked : PackingParsed) (folder : Folder) (told : List ℕ → Optio
 run_holds asked folder told held before lines accepted places known_folder options listable is run have =
     let made = run.made in
     let put = made.put in
-    let handed : (made.old ≡ Some []) × IfSome made.given (λ bytes. held.1 ≡ Some (before ++ bytes ∷ [])) =
-    subst (λ (o : Option (List (List ℕ))). IfSome o (λ files. (made.old ≡ Some []) × IfSome made.given (λ bytes. held.1 ≡ Some (files ++ bytes ∷ [])))) is made.handed in
-    let took = known made.old put.emitted.between put.taken made.given _ _ handed.0 put.emitted.front put.emitted.runs.2.wrote.bytes put.given_on.0 in
+    let handed : (made.file.old ≡ Some []) × IfSome made.file.new (λ bytes. held.1 ≡ Some (before ++ bytes ∷ [])) =
+    subst (λ (o : Option (List (List ℕ))). IfSome o (λ files. (made.file.old ≡ Some []) × IfSome made.file.new (λ bytes. held.1 ≡ Some (files ++ bytes ∷ [])))) is made.handed in
+    let took = known made.file.old put.emitted.between put.taken made.file.new _ _ handed.0 put.emitted.front put.emitted.runs.2.wrote.bytes put.given_on.0 in
     let image : List ℕ = took.image in
     let e = asked.options.endian in
     let size : ℕ = asked.options.geometry.block in
     let emitted : IsEmitted asked.page e size (blocks_of asked) run.mount.image (ops_in e run.files lines) accepted places None
-    (record { old = Some []; new = Some image; before = made.before; now = put.count }) =
+    (record { old = Some []; new = Some image; before = made.file.before; now = put.count }) =
     subst (λ (o : Option (List ℕ)). IsEmitted asked.page e size (blocks_of asked) run.mount.image (ops_in e run.files lines) accepted places None
-    (record { old = o; new = Some image; before = made.before; now = put.count })) handed.0
+    (record { old = o; new = Some image; before = made.file.before; now = put.count })) handed.0
     (subst (λ (t : Option (List ℕ)). IsEmitted asked.page e size (blocks_of asked) run.mount.image (ops_in e run.files lines) accepted places None
-    (record { old = made.old; new = t; before = made.before; now = put.count })) took.taken_is put.emitted) in
+    (record { old = made.file.old; new = t; before = made.file.before; now = put.count })) took.taken_is put.emitted) in
     let tree = put_out_holds_tree asked.page e size (blocks_of asked) image run.files folder.root folder.items.items lines listable.fits listable.tree run.read
     (record {
       mount = run.mount;
       accepted = accepted;
       places = places;
-      before = made.before;
+      before = made.file.before;
       now = put.count;
       mounts = run.mounts;
       resumes = put.resumes;
