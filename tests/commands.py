@@ -25,7 +25,7 @@ import tempfile
 ROOT = os.path.dirname(os.path.dirname(os.path.abspath(__file__)))
 PROGRAM = os.path.join(ROOT, "crates", "jffs2_image", "out", "jffs2_image")
 # What the repository has; beside it there may be what somebody made by the commands of README.md.
-PARTS = ("bench", "completions", "crates", "docs", "open", "tests", "CHANGELOG.md",
+PARTS = ("bench", "completions", "crates", "docs", "tests", "CHANGELOG.md",
          "CONTRIBUTING.md", "HANDLES", "README.md", "crates.txt")
 BLOCK = re.compile(r"^```(\w*)\n(.*?)^```$", re.M | re.S)
 LITERAL = re.compile(r"^\.Bd -literal.*?\n(.*?)^\.Ed$"

@@ -7,6 +7,7 @@ use jlog::{Session, SessionFault, resume_at};
 use jmount::mount;
 use jscan::Geometry;
 use jsteps::OpFault;
+use std::process::Abort;
 use std::test::Fail;
 use test_operations::op_of;
 use test_support::{FORBIDS, Taker};
@@ -41,15 +42,11 @@ fn where_writing_may_go_on(rt: HostRuntime) -> Result<(), Fail> {
     Ok(())
 }
 
-#[test]
-fn the_blocks_that_hold_an_operation(rt: HostRuntime) -> Result<(), Fail> {
-    let alloc = rt.alloc();
-    let made = op_of("create /a 644", BY).ok_or("no operation")?;
-    let mounted = mount::<LittleEndian>(alloc, &[], GEOMETRY)?;
-    let sink = Taker::limited(alloc, 7, 124);
-    let mut session = Session::<LittleEndian, _>::resume(alloc, &mounted, GEOMETRY, 1, sink)?;
-    equal(&rt, session.blocks_for(alloc, &made), Ok(Some(1)));
-    session.apply(alloc, &made)?;
+/// How many blocks hold what comes after `/a` was made.
+fn blocks_after_a_file(
+    rt: &(impl Abort + AllocGlobal),
+    session: &Session<'_, LittleEndian, Taker>,
+) -> Result<(), Fail> {
     let rows = [
         ("write /a 0 0", Ok(Some(0))),
         ("write /a 0 4000", Ok(Some(1))),
@@ -59,15 +56,25 @@ fn the_blocks_that_hold_an_operation(rt: HostRuntime) -> Result<(), Fail> {
     ];
     for (line, want) in rows {
         let op = op_of(line, BY).ok_or("no operation")?;
-        equal_at(&rt, session.blocks_for(alloc, &op), want, line);
+        equal_at(rt, session.blocks_for(rt.alloc(), &op), want, line);
     }
+    Ok(())
+}
+
+#[test]
+fn the_blocks_that_hold_an_operation(rt: HostRuntime) -> Result<(), Fail> {
+    let alloc = rt.alloc();
+    let made = op_of("create /a 644", BY).ok_or("no operation")?;
+    let mounted = mount::<LittleEndian>(alloc, &[], GEOMETRY)?;
+    let sink = Taker::limited(alloc, 7, 124);
+    let mut session = Session::<LittleEndian, _>::resume(alloc, &mounted, GEOMETRY, 1, sink)?;
+    equal(&rt, session.blocks_for(alloc, &made), Ok(Some(1)));
+    session.apply(alloc, &made)?;
+    blocks_after_a_file(&rt, &session)?;
     let next = op_of("write /a 0 10", BY).ok_or("no operation")?;
     let broken = session.apply(alloc, &next).is_err();
-    equal(
-        &rt,
-        session.blocks_for(alloc, &next),
-        Err(SessionFault::Broken),
-    );
+    let after = session.blocks_for(alloc, &next);
+    equal(&rt, after, Err(SessionFault::Broken));
     equal(&rt, (broken, session.finish().bytes.len()), (true, 124));
     Ok(())
 }
