@@ -4,9 +4,10 @@ use crate::checks::{equal, equal_at};
 use crate::sessions::BY;
 use byteorder::LittleEndian;
 use jlog::{Session, SessionFault, resume_at};
-use jmount::mount;
+use jmount::{Mounted, mount};
 use jscan::Geometry;
 use jsteps::OpFault;
+use std::alloc::Global;
 use std::process::Abort;
 use std::test::Fail;
 use test_operations::op_of;
@@ -61,20 +62,33 @@ fn blocks_after_a_file(
     Ok(())
 }
 
+/// A session on an image that made `/a`, onto a sink that takes so many bytes.
+fn with_a_file<'a>(
+    alloc: Global,
+    mounted: &'a Mounted<'a>,
+    limit: usize,
+) -> Result<Session<'a, LittleEndian, Taker>, Fail> {
+    let made = op_of("create /a 644", BY).ok_or("no operation")?;
+    let sink = Taker::limited(alloc, 7, limit);
+    let mut session = Session::<LittleEndian, _>::resume(alloc, mounted, GEOMETRY, 1, sink)?;
+    session.apply(alloc, &made)?;
+    Ok(session)
+}
+
 #[test]
 fn the_blocks_that_hold_an_operation(rt: HostRuntime) -> Result<(), Fail> {
-    let alloc = rt.alloc();
-    let made = op_of("create /a 644", BY).ok_or("no operation")?;
-    let mounted = mount::<LittleEndian>(alloc, &[], GEOMETRY)?;
-    let sink = Taker::limited(alloc, 7, 124);
-    let mut session = Session::<LittleEndian, _>::resume(alloc, &mounted, GEOMETRY, 1, sink)?;
-    equal(&rt, session.blocks_for(alloc, &made), Ok(Some(1)));
-    session.apply(alloc, &made)?;
-    blocks_after_a_file(&rt, &session)?;
+    let mounted = mount::<LittleEndian>(rt.alloc(), &[], GEOMETRY)?;
+    let session = with_a_file(rt.alloc(), &mounted, 1000)?;
+    blocks_after_a_file(&rt, &session)
+}
+
+#[test]
+fn a_broken_session_tells_no_blocks(rt: HostRuntime) -> Result<(), Fail> {
+    let mounted = mount::<LittleEndian>(rt.alloc(), &[], GEOMETRY)?;
+    let mut session = with_a_file(rt.alloc(), &mounted, 124)?;
     let next = op_of("write /a 0 10", BY).ok_or("no operation")?;
-    let broken = session.apply(alloc, &next).is_err();
-    let after = session.blocks_for(alloc, &next);
-    equal(&rt, after, Err(SessionFault::Broken));
-    equal(&rt, (broken, session.finish().bytes.len()), (true, 124));
+    let broken = session.apply(rt.alloc(), &next).is_err();
+    let told = session.blocks_for(rt.alloc(), &next);
+    equal(&rt, (broken, told), (true, Err(SessionFault::Broken)));
     Ok(())
 }
