@@ -4,13 +4,12 @@ use crate::checks::{equal, equal_at};
 use crate::sessions::BY;
 use byteorder::LittleEndian;
 use jlog::{Session, SessionFault, resume_at};
-use jmount::{Mounted, mount};
+use jmount::mount;
 use jscan::Geometry;
 use jsteps::OpFault;
 use std::alloc::Global;
-use std::process::Abort;
 use std::test::Fail;
-use test_operations::op_of;
+use test_operations::{op_of, ops_of};
 use test_support::{FORBIDS, Taker};
 
 const GEOMETRY: Geometry = Geometry { block: 8192 };
@@ -43,52 +42,45 @@ fn where_writing_may_go_on(rt: HostRuntime) -> Result<(), Fail> {
     Ok(())
 }
 
-/// How many blocks hold what comes after `/a` was made.
-fn blocks_after_a_file(
-    rt: &(impl Abort + AllocGlobal),
-    session: &Session<'_, LittleEndian, Taker>,
-) -> Result<(), Fail> {
-    let rows = [
-        ("write /a 0 0", Ok(Some(0))),
-        ("write /a 0 4000", Ok(Some(1))),
-        ("write /a 0 8192", Ok(Some(2))),
-        ("write /a 0 20000", Ok(Some(4))),
-        ("create /a 644", Err(SessionFault::Refused(OpFault::Exists))),
-    ];
-    for (line, want) in rows {
-        let op = op_of(line, BY).ok_or("no operation")?;
-        equal_at(rt, session.blocks_for(rt.alloc(), &op), want, line);
-    }
-    Ok(())
-}
-
-/// A session on an image that made `/a`, onto a sink that takes so many bytes.
-fn with_a_file<'a>(
+/// What is told of the blocks of an operation, once others were run on an image without nodes, onto
+/// a sink that takes so many bytes.
+fn told_after(
     alloc: Global,
-    mounted: &'a Mounted<'a>,
+    before: &'static [&'static str],
+    line: &'static str,
     limit: usize,
-) -> Result<Session<'a, LittleEndian, Taker>, Fail> {
-    let made = op_of("create /a 644", BY).ok_or("no operation")?;
+) -> Result<Result<Option<u32>, SessionFault>, Fail> {
+    let ops = ops_of(alloc, before, BY)?;
+    let next = op_of(line, BY).ok_or("no operation")?;
+    let mounted = mount::<LittleEndian>(alloc, &[], GEOMETRY)?;
     let sink = Taker::limited(alloc, 7, limit);
-    let mut session = Session::<LittleEndian, _>::resume(alloc, mounted, GEOMETRY, 1, sink)?;
-    session.apply(alloc, &made)?;
-    Ok(session)
+    let mut session = Session::<LittleEndian, _>::resume(alloc, &mounted, GEOMETRY, 1, sink)?;
+    let _ = session.run(alloc, &ops);
+    Ok(session.blocks_for(alloc, &next))
 }
 
 #[test]
 fn the_blocks_that_hold_an_operation(rt: HostRuntime) -> Result<(), Fail> {
-    let mounted = mount::<LittleEndian>(rt.alloc(), &[], GEOMETRY)?;
-    let session = with_a_file(rt.alloc(), &mounted, 1000)?;
-    blocks_after_a_file(&rt, &session)
-}
-
-#[test]
-fn a_broken_session_tells_no_blocks(rt: HostRuntime) -> Result<(), Fail> {
-    let mounted = mount::<LittleEndian>(rt.alloc(), &[], GEOMETRY)?;
-    let mut session = with_a_file(rt.alloc(), &mounted, 124)?;
-    let next = op_of("write /a 0 10", BY).ok_or("no operation")?;
-    let broken = session.apply(rt.alloc(), &next).is_err();
-    let told = session.blocks_for(rt.alloc(), &next);
-    equal(&rt, (broken, told), (true, Err(SessionFault::Broken)));
+    let rows: [(&[&str], &str, Result<Option<u32>, SessionFault>); 7] = [
+        (&[], "create /a 644", Ok(Some(1))),
+        (&["create /a 644"], "write /a 0 0", Ok(Some(0))),
+        (&["create /a 644"], "write /a 0 4000", Ok(Some(1))),
+        (&["create /a 644"], "write /a 0 8192", Ok(Some(2))),
+        (&["create /a 644"], "write /a 0 20000", Ok(Some(4))),
+        (
+            &["create /a 644"],
+            "create /a 644",
+            Err(SessionFault::Refused(OpFault::Exists)),
+        ),
+        (
+            &["create /a 644", "write /a 0 10"],
+            "write /a 0 0",
+            Err(SessionFault::Broken),
+        ),
+    ];
+    for (before, line, want) in rows {
+        let found = told_after(rt.alloc(), before, line, 124)?;
+        equal_at(&rt, found, want, (before.len(), line));
+    }
     Ok(())
 }
