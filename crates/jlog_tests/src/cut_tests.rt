@@ -107,8 +107,8 @@ fn cases() -> &'static [Case] {
             whole: &[80, 121, 165, 209],
             len: 212,
         },
-        // Its name stands for the whole old file up to the node that sets it, and for the whole new one
-        // from there on.
+        // Its name stands for the whole old file up to the node that sets it, and for the whole new
+        // one from there on.
         Case {
             about: "a file that is replaced",
             flash: ONE,
@@ -241,8 +241,8 @@ fn cases() -> &'static [Case] {
             whole: &[80, 121, 202, 272, 340, 408, 480, 521],
             len: 524,
         },
-        // Two nodes of data, each in its block: some 100,000 mounts, which take a second as LLVM builds
-        // them and many minutes by `rt try`.
+        // Two nodes of data, each in its block: some 100,000 mounts, which take a second as LLVM
+        // builds them and many minutes by `rt try`.
         Case {
             about: "a file over two blocks",
             flash: TWO,
@@ -258,8 +258,8 @@ fn cases() -> &'static [Case] {
             whole: &[80, 121, 4288, 12368],
             len: 12368,
         },
-        // The first piece is two nodes, since its length would spell the magic; the second write lies in
-        // two pages. A new file has the same pieces.
+        // The first piece is two nodes, since its length would spell the magic; the second write
+        // lies in two pages. A new file has the same pieces.
         Case {
             about: "a file by pages of 8192",
             flash: LARGE,

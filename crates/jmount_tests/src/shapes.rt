@@ -5,6 +5,7 @@ use crate::images::{DIRECTORY, FILE, Item, Version, image_of};
 use byteorder::LittleEndian;
 use jmount::mount;
 use jscan::Geometry;
+use std::process::Abort;
 use std::test::Fail;
 
 const GEOMETRY: Geometry = Geometry { block: 4096 };
@@ -18,7 +19,10 @@ const FOUR: Item = Item::Data(Version(4, 1, DIRECTORY, 0), 0, b"");
 
 const FIVE: Item = Item::Data(Version(5, 1, DIRECTORY, 0), 0, b"");
 
-fn trees() -> &'static [(&'static str, &'static [Item], bool)] {
+/// What an image is, its items, and whether it has the shape of a tree.
+type Shape = (&'static str, &'static [Item], bool);
+
+fn trees() -> &'static [Shape] {
     &[
         ("no bytes at all", &[], true),
         ("a directory", &[TWO, Item::Entry(1, 1, 2, b"d")], true),
@@ -37,6 +41,26 @@ fn trees() -> &'static [(&'static str, &'static [Item], bool)] {
             ],
             true,
         ),
+        (
+            "two names of a file",
+            &[
+                Item::Data(Version(2, 1, FILE, 0), 0, b""),
+                Item::Entry(1, 1, 2, b"d"),
+                Item::Entry(1, 2, 2, b"e"),
+            ],
+            true,
+        ),
+        (
+            "two names of what is missing",
+            &[Item::Entry(1, 1, 2, b"d"), Item::Entry(1, 2, 2, b"e")],
+            true,
+        ),
+    ]
+}
+
+/// Directories with a second name, that stands or was removed.
+fn second_names() -> &'static [Shape] {
+    &[
         (
             "two names in one directory",
             &[TWO, Item::Entry(1, 1, 2, b"d"), Item::Entry(1, 2, 2, b"e")],
@@ -68,20 +92,12 @@ fn trees() -> &'static [(&'static str, &'static [Item], bool)] {
             ],
             true,
         ),
-        (
-            "two names of a file",
-            &[
-                Item::Data(Version(2, 1, FILE, 0), 0, b""),
-                Item::Entry(1, 1, 2, b"d"),
-                Item::Entry(1, 2, 2, b"e"),
-            ],
-            true,
-        ),
-        (
-            "two names of what is missing",
-            &[Item::Entry(1, 1, 2, b"d"), Item::Entry(1, 2, 2, b"e")],
-            true,
-        ),
+    ]
+}
+
+/// Directories that lie in themselves.
+fn rings() -> &'static [Shape] {
+    &[
         (
             "a directory in itself",
             &[TWO, Item::Entry(2, 1, 2, b"d")],
@@ -97,6 +113,12 @@ fn trees() -> &'static [(&'static str, &'static [Item], bool)] {
             ],
             false,
         ),
+    ]
+}
+
+/// The root with a name.
+fn roots() -> &'static [Shape] {
+    &[
         ("the root in itself", &[Item::Entry(1, 1, 1, b"r")], false),
         (
             "the root below itself",
@@ -133,13 +155,21 @@ fn trees() -> &'static [(&'static str, &'static [Item], bool)] {
     ]
 }
 
-#[test]
-fn trees_have_their_shape_or_not(rt: HostRuntime) -> Result<(), Fail> {
-    for &(about, items, wanted) in trees() {
+/// Whether images of these items have their shapes.
+fn have_shapes(rt: &(impl Abort + AllocGlobal), shapes: &[Shape]) -> Result<(), Fail> {
+    for &(about, items, wanted) in shapes {
         let image = image_of::<LittleEndian>(rt.alloc(), items)?;
         let mounted = mount::<LittleEndian>(rt.alloc(), &image, GEOMETRY)?;
         let shape = mounted.shape(rt.alloc())?;
-        equal_at(&rt, shape, wanted, about);
+        equal_at(rt, shape, wanted, about);
     }
     Ok(())
+}
+
+#[test]
+fn trees_have_their_shape_or_not(rt: HostRuntime) -> Result<(), Fail> {
+    have_shapes(&rt, trees())?;
+    have_shapes(&rt, second_names())?;
+    have_shapes(&rt, rings())?;
+    have_shapes(&rt, roots())
 }
