@@ -1,7 +1,7 @@
 //! What goes out for a base and operations on it.
 
 ghost use Rattle.std.specs.Prelude.{◌≡◌, None, Err, IfOk, IfErr, OnOk, IsOk};
-ghost use Rattle.flashbase.specs.Sinks.{PutsTo};
+ghost use Rattle.flashbase.specs.Sinks.{PutsTo, change_of};
 ghost use Rattle.jmount.specs.Mounts.{IsMountOf};
 ghost use Rattle.jlog.specs.Left.{front_of};
 ghost use Rattle.jlog.specs.Resuming.{resumes_by};
@@ -50,24 +50,14 @@ pub fn emit<E: Order, S: Sink>(
         (IsOk (resumes_by page E.order geometry.block blocks mounted.now)) }
     ensures emitted { IfOk result (λ done. IsEmitted page E.order geometry.block blocks
         mounted.now.image ops.now done.1.accepted done.1.places.items done.1.stopped
-        (record {
-          old = S.taken sink;
-          new = S.taken done.0;
-          before = S.failures sink;
-          now = S.failures done.0;
-        })) }
+        (change_of S.Sink sink done.0)) }
     // The places end where what went out for all operations does.
     ensures long { IfOk result (λ done. done.1.stopped ≡ None
         → TellsLength page E.order geometry.block blocks mounted.now.image ops.now done.1.accepted
         done.1.places.items) }
     ensures refused { IfErr result (λ refused. IsNotEmitted page E.order geometry.block blocks
         mounted.now
-        (record {
-          old = S.taken sink;
-          new = S.taken refused.1;
-          before = S.failures sink;
-          now = S.failures refused.1;
-        })
+        (change_of S.Sink sink refused.1)
         refused.0) }
     // An image that is not gone on from is refused before a byte is put.
     ensures untouched { IfErr result (λ refused.

@@ -6,6 +6,7 @@ ghost use Rattle.jexpand.specs.declared.fault.ConvertFault.TheVariants.{OutOfMem
 ghost use Rattle.jconvert.specs.Apart.{located_nodes, DecompressesApart};
 ghost use Rattle.jconvert.specs.Converting.{convert_fault};
 ghost use Rattle.jconvert.specs.Holding.{IsHeldOf};
+ghost use Rattle.flashbase.specs.Sinks.{change_of};
 
 use crate::converted::Converted;
 use crate::judging::judge;
@@ -67,12 +68,7 @@ pub fn decompress_apart<E: Order, S: Sink>(
     mut sink: S,
 ) -> Result<(S, Apart), (ConvertFault, Option<S>)>
     ensures ok { IfOk result (λ done. DecompressesApart E.order geometry.block image.now
-        (record {
-          old = S.taken sink;
-          new = S.taken done.0;
-          before = S.failures sink;
-          now = S.failures done.0;
-        }) (Ok done.1)) }
+        (change_of S.Sink sink done.0) (Ok done.1)) }
     ensures err { IfErr result (λ refused. (back : S) × (refused.1 ≡ Some back)
         × DecompressesApart E.order geometry.block image.now
         (record {

@@ -14,6 +14,7 @@ ghost use Rattle.jconvert.specs.Compressing.{IsPackedForm};
 ghost use Rattle.jnode.specs.declared.node.InodeNode.{InodeNode};
 ghost use Rattle.jnode.specs.declared.node.NodeRef.TheVariants as node;
 ghost use Rattle.jconvert.specs.Tallying.{IsCursor};
+ghost use Rattle.flashbase.specs.Sinks.{change_of};
 
 use crate::converted::Converted;
 use crate::judging::{judge, more};
@@ -182,12 +183,7 @@ fn put_packed<E: Order, S: Sink>(
     requires cursor { IsCursor geometry.block from }
     ensures { PutsPacked E.order geometry.block
         (expanded_node E.order geometry.block image.now (addr, seen.now)) from
-        (record {
-          old = S.taken sink.old;
-          new = S.taken sink.new;
-          before = S.failures sink.old;
-          now = S.failures sink.new;
-        }) result }
+        (change_of S.Sink sink.old sink.new) result }
 {
     let is_packed = match make_packed::<E>(alloc, image, geometry, addr, seen, packing) {
         Ok((true, is_packed)) => is_packed,
@@ -213,12 +209,7 @@ pub fn write_packed<E: Order, S: Sink>(
 ) -> Result<(u64, u64), ConvertFault>
     requires { convert_fault E.order geometry.block image.now ≡ None }
     ensures { WritesPacked E.order geometry.block image.now
-        (record {
-          old = S.taken sink.old;
-          new = S.taken sink.new;
-          before = S.failures sink.old;
-          now = S.failures sink.new;
-        }) result }
+        (change_of S.Sink sink.old sink.new) result }
 {
     let sightings = match Sightings::<E>::new(image, geometry) {
         Ok(sightings) => sightings,
@@ -262,12 +253,7 @@ pub fn compress<E: Order, S: Sink>(
 ) -> Result<(S, Converted), (ConvertFault, Option<S>)>
     ensures scannable { OnOk result (IsScannable geometry.block image.now) }
     ensures ok { IfOk result (λ done. Compresses E.order geometry.block image.now
-        (record {
-          old = S.taken sink;
-          new = S.taken done.0;
-          before = S.failures sink;
-          now = S.failures done.0;
-        }) (Ok done.1)) }
+        (change_of S.Sink sink done.0) (Ok done.1)) }
     ensures err { IfErr result (λ refused. (back : S) × (refused.1 ≡ Some back)
         × Compresses E.order geometry.block image.now
         (record {

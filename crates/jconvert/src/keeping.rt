@@ -1,6 +1,6 @@
 //! Writing the image of nodes that stay, of those that an image gives.
 
-ghost use Rattle.std.specs.Prelude.{◌≡◌, ◌≤◌, None, Some, Ok, Err, IfOk, IfErr, OnOk, IsTrue};
+ghost use Rattle.std.specs.Prelude.{◌≡◌, ◌≤◌, None, Ok, Err, IfErr, OnOk, IsTrue};
 ghost use Rattle.jnode.specs.Writing.{canonical};
 ghost use Rattle.jscan.specs.Image.{is_block_size};
 ghost use Rattle.jexpand.specs.declared.fault.ConvertFault.TheVariants.{OutOfMemory};
@@ -8,6 +8,7 @@ ghost use Rattle.jconvert.specs.Apart.{WritesNodes};
 ghost use Rattle.jconvert.specs.Converting.{least_written};
 ghost use Rattle.jconvert.specs.Putting.{PutsForm};
 ghost use Rattle.jconvert.specs.Tallying.{IsCursor};
+ghost use Rattle.flashbase.specs.Sinks.{change_of};
 
 use crate::writing::put_form;
 use flashbase::Sink;
@@ -47,12 +48,7 @@ fn put_one<E: Order, S: Sink>(
     requires written { least_written ≤ geometry.block }
     requires cursor { IsCursor geometry.block from }
     ensures { PutsForm E.order geometry.block from (canonical E.order node.now)
-        (record {
-          old = S.taken sink.old;
-          new = S.taken sink.new;
-          before = S.failures sink.old;
-          now = S.failures sink.new;
-        }) result }
+        (change_of S.Sink sink.old sink.new) result }
 {
     match write_form::<E>(node, form) {
         Ok(()) => {}
@@ -78,12 +74,7 @@ pub fn write_nodes<E: Order, S: Sink>(
     requires readable { IsTrue (is_block_size geometry.block) }
     requires written { least_written ≤ geometry.block }
     ensures { WritesNodes E.order geometry.block nodes.now
-        (record {
-          old = S.taken sink.old;
-          new = S.taken sink.new;
-          before = S.failures sink.old;
-          now = S.failures sink.new;
-        }) result }
+        (change_of S.Sink sink.old sink.new) result }
 {
     let mut form = Vec::new(alloc);
     let mut from = 0;

@@ -12,6 +12,7 @@ ghost use Rattle.jexpand.specs.Answers.{IsFormOf};
 ghost use Rattle.jexpand.specs.Expanded.{expanded_node, tile_content};
 ghost use Rattle.jexpand.specs.declared.fault.ConvertFault.TheVariants.{OutOfMemory};
 ghost use Rattle.jconvert.specs.Converting.{least_written, convert_fault, Converts, WritesConverted, Decompresses};
+ghost use Rattle.flashbase.specs.Sinks.{change_of};
 
 use crate::converted::Converted;
 use crate::judging::{HELD_MOST, greatest_blocks, judge};
@@ -35,12 +36,7 @@ pub(crate) fn put_form<E: Order, S: Sink>(
     requires cursor { IsCursor geometry.block from }
     requires len { length form.now ≤ totlen_most }
     ensures { PutsForm E.order geometry.block from form.now
-        (record {
-          old = S.taken sink.old;
-          new = S.taken sink.new;
-          before = S.failures sink.old;
-          now = S.failures sink.new;
-        }) result }
+        (change_of S.Sink sink.old sink.new) result }
 {
     let len = form.len() as u32;
     match place_of(geometry.block, greatest_blocks(geometry), from, len) {
@@ -124,12 +120,7 @@ fn put_tile<E: Order, S: Sink>(
     requires held { BeginsAs (tile_content E.order geometry.block image.now (addr, seen.now))
         making.old.held.now }
     ensures put { PutsTile E.order geometry.block image.now (addr, seen.now) from
-        (record {
-          old = S.taken sink.old;
-          new = S.taken sink.new;
-          before = S.failures sink.old;
-          now = S.failures sink.new;
-        }) result }
+        (change_of S.Sink sink.old sink.new) result }
     ensures held { making.new.held.now
         ≡ held_after (tile_content E.order geometry.block image.now (addr, seen.now))
         making.old.held.now }
@@ -156,12 +147,7 @@ pub fn write_converted<E: Order, S: Sink>(
     requires accepted { convert_fault E.order geometry.block image.now ≡ None }
     requires held { IsHeldOf E.order geometry.block image.now held.now }
     ensures { WritesConverted E.order geometry.block image.now
-        (record {
-          old = S.taken sink.old;
-          new = S.taken sink.new;
-          before = S.failures sink.old;
-          now = S.failures sink.new;
-        }) result }
+        (change_of S.Sink sink.old sink.new) result }
 {
     let sightings = match Sightings::<E>::new(image, geometry) {
         Ok(sightings) => sightings,
@@ -194,12 +180,7 @@ pub fn decompress<E: Order, S: Sink>(
 ) -> Result<(S, Converted), (ConvertFault, Option<S>)>
     ensures scannable { OnOk result (IsScannable geometry.block image.now) }
     ensures ok { IfOk result (λ done. Decompresses E.order geometry.block image.now
-        (record {
-          old = S.taken sink;
-          new = S.taken done.0;
-          before = S.failures sink;
-          now = S.failures done.0;
-        }) (Ok done.1)) }
+        (change_of S.Sink sink done.0) (Ok done.1)) }
     ensures err { IfErr result (λ refused. (back : S) × (refused.1 ≡ Some back)
         × Decompresses E.order geometry.block image.now
         (record {

@@ -4,6 +4,7 @@ ghost use Rattle.std.specs.Prelude.{◌≡◌, IfOk, IfErr, OnOk, Ok, length};
 ghost use Rattle.jmount.specs.Mounts.{IsMountOf};
 ghost use Rattle.jcuts.specs.Lines.{weak_count};
 ghost use Rattle.jcuts.specs.Cuts.{base_point, flash_of, point_of, resumes, IsReady, IsNotResumed, TellsOp, TellsOps, PutsCuts};
+ghost use Rattle.flashbase.specs.Sinks.{change_of};
 
 use crate::held::Held;
 use crate::lines::{Telling, put_end, put_nodes};
@@ -99,12 +100,7 @@ fn tell_op<E: Order, T: Sink>(
     ensures ready { OnOk result (IsReady plan.new) }
     ensures tells { TellsOp E.order (flash_of plan.old)
         (record { telling = telling; op = op.now; line = line }) (point_of plan.old)
-        (point_of plan.new) (record {
-          old = T.taken sink.old;
-          new = T.taken sink.new;
-          before = T.failures sink.old;
-          now = T.failures sink.new;
-        }) result }
+        (point_of plan.new) (change_of T.Sink sink.old sink.new) result }
 {
     let nodes = match plan_op(alloc, plan, op) {
         Ok(nodes) => nodes,
@@ -137,12 +133,7 @@ fn tell_ops<E: Order, T: Sink>(
     requires numbered { length lines.now ≡ length ops.now }
     ensures { TellsOps E.order (flash_of plan.old)
         (record { telling = telling; ops = ops.now; lines = lines.now }) (point_of plan.old)
-        (point_of plan.new) (record {
-          old = T.taken sink.old;
-          new = T.taken sink.new;
-          before = T.failures sink.old;
-          now = T.failures sink.new;
-        }) result }
+        (point_of plan.new) (change_of T.Sink sink.old sink.new) result }
 {
     let mut nodes = 0;
     let mut weak = 0;
@@ -184,12 +175,7 @@ pub fn put_cuts<E: Order, T: Sink>(
     requires numbered { length lines.now ≡ length ops.now }
     ensures { PutsCuts E.order flash mounted.now
         (record { telling = telling; ops = ops.now; lines = lines.now })
-        (record {
-          old = T.taken sink.old;
-          new = T.taken sink.new;
-          before = T.failures sink.old;
-          now = T.failures sink.new;
-        }) result }
+        (change_of T.Sink sink.old sink.new) result }
 {
     let mut plan = match resume_plan::<E>(alloc, mounted, flash) {
         Ok(plan) => plan,

@@ -3,6 +3,7 @@
 ghost use Rattle.std.specs.Prelude.{map};
 ghost use Rattle.jdiff.specs.Differing.{PutsDifferences};
 ghost use Rattle.jdiff.specs.Walking.{PairGoesUp, PutsPairStep, PutsSpot};
+ghost use Rattle.flashbase.specs.Sinks.{change_of};
 
 use crate::found::{directory_of, look};
 use crate::pair::Pair;
@@ -36,12 +37,8 @@ fn visit<T: Sink>(
     ensures { PutsSpot trees.now.times trees.now.left.now.state trees.now.right.now.state
         (record { left = met_left.old; right = met_right.old })
         (record { left = met_left.new; right = met_right.new })
-        (map (λ name. name.now) path.now, inos.0, inos.1) (record {
-          old = T.taken sink.old;
-          new = T.taken sink.new;
-          before = T.failures sink.old;
-          now = T.failures sink.new;
-        }) result }
+        (map (λ name. name.now) path.now, inos.0, inos.1)
+        (change_of T.Sink sink.old sink.new) result }
 {
     let left = look(trees.left, inos.0, met_left)?;
     let right = look(trees.right, inos.1, met_right)?;
@@ -76,12 +73,7 @@ impl<'m, 'a> Walk<'m, 'a> {
         sink: &mut T,
     ) -> Result<Option<u64>, ProgramFault<'static>>
         ensures { PutsPairStep trees.now.times trees.now.left.now.state trees.now.right.now.state
-            self.old self.new (record {
-              old = T.taken sink.old;
-              new = T.taken sink.new;
-              before = T.failures sink.old;
-              now = T.failures sink.new;
-            }) result }
+            self.old self.new (change_of T.Sink sink.old sink.new) result }
     {
         let Some((name, left, right)) = self.left.next() else {
             return Ok(self.go_up());

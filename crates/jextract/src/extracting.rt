@@ -12,6 +12,7 @@ ghost use Rattle.jextract.specs.declared.fault.ExtractFault.TheVariants.{OutOfMe
 ghost use Rattle.jmount.specs.Tree as tree;
 ghost use Rattle.jextract.specs.Making.{firsts_of};
 ghost use Rattle.jextract.specs.Walking.{Completes, Enters, Fills, ExtractionGoesUp, Steps, Settles, Visits, no_totals, totals_up};
+ghost use Rattle.flashbase.specs.Sinks.{change_of};
 
 use crate::fault::ExtractFault;
 use crate::folder::{Folder, FolderFault};
@@ -62,12 +63,7 @@ fn settle<N: Sink>(
     notes: &mut N,
 ) -> Result<bool, ExtractFault>
     ensures { Settles done (map (λ name. name.now) path.now)
-        (record {
-          old = N.taken notes.old;
-          new = N.taken notes.new;
-          before = N.failures notes.old;
-          now = N.failures notes.new;
-        }) totals.old totals.new result }
+        (change_of N.Sink notes.old notes.new) totals.old totals.new result }
 {
     match done {
         Ok(lost) => {
@@ -454,12 +450,7 @@ pub fn extract<F: Folder, N: Sink>(
           before = F.failures folder.old;
           now = F.failures folder.new;
         })
-        (record {
-          old = N.taken notes.old;
-          new = N.taken notes.new;
-          before = N.failures notes.old;
-          now = N.failures notes.new;
-        }) result }
+        (change_of N.Sink notes.old notes.new) result }
 {
     match folder.make_directory("") {
         Ok(()) => fill(alloc, mounted, &[], owners, folder, notes),
@@ -487,12 +478,7 @@ pub fn extract_part<F: Folder, N: Sink>(
           before = F.failures folder.old;
           now = F.failures folder.new;
         })
-        (record {
-          old = N.taken notes.old;
-          new = N.taken notes.new;
-          before = N.failures notes.old;
-          now = N.failures notes.new;
-        }) result }
+        (change_of N.Sink notes.old notes.new) result }
 {
     match folder.make_directory("") {
         Ok(()) => fill_part(alloc, mounted, part, owners, folder, notes),

@@ -69,6 +69,17 @@ pub record Filling : Type 0 where
   pub failures_new : Failures
   pub notes : SinkChange
 
+-- a folder before and after, and the notes
+abbrev pub filling : {X : Type 0} → (X → Option (List Made)) → (X → Failures) → X → X → SinkChange
+    → Filling
+filling made failures old new notes = record {
+  made_old = made old;
+  made_new = made new;
+  failures_old = failures old;
+  failures_new = failures new;
+  notes = notes;
+}
+
 -- nothing
 abbrev pub FillsNothing : Filling → Type 0
 FillsNothing f = (f.made_new ≡ f.made_old) × (f.failures_new ≡ f.failures_old)

@@ -7,6 +7,9 @@ ghost use Rattle.jffs2_image.specs.Compressing.{CompressesFile, CompressesNamed,
 ghost use Rattle.jffs2_image.specs.Decompressing.{HoldsMade, IsNotWritten};
 ghost use Rattle.jffs2_image.specs.Host.{BlamesDecompress, HasFailed, MakesFile};
 ghost use Rattle.jffs2_image.specs.Writes.{IsFaultOfMaking};
+ghost use Rattle.flashbase.specs.Sinks.{change_of};
+ghost use Rattle.jffs2_image.specs.Tasks.{passage, reads};
+ghost use Rattle.jffs2_image.specs.Placing.{telling, writes};
 
 use crate::decompressing::{conversion_fault, sink_cause};
 use crate::host::{Loader, MakeFault, Maker};
@@ -101,12 +104,7 @@ pub fn compress_into<'a, E: Order, M: Maker, T: Sink>(
     sink: &mut T,
 ) -> Result<u64, ProgramFault<'a>>
     ensures compresses { CompressesFile (M.held maker.old, M.held maker.new) E.order
-        geometry.block name.entry.now image.now (record {
-          old = T.taken sink.old;
-          new = T.taken sink.new;
-          before = T.failures sink.old;
-          now = T.failures sink.new;
-        }) result }
+        geometry.block name.entry.now image.now (change_of T.Sink sink.old sink.new) result }
     ensures host { (read : ℕ) → BlamesDecompress (maker.new ≡ maker.old)
         (MakesFile name.entry.now (M.names maker.old) (M.names maker.new))
         read read (M.failures maker.old) (M.failures maker.new) result }
@@ -140,12 +138,7 @@ pub fn compress_file<'a, E: Order, L: Loader, M: Maker, T: Sink>(
           options = options;
           image = image.entry.now;
           output = output.entry.now;
-        }) (L.told loader.old image.entry.now) (record {
-          old = T.taken sink.old;
-          new = T.taken sink.new;
-          before = T.failures sink.old;
-          now = T.failures sink.new;
-        }) result }
+        }) (L.told loader.old image.entry.now) (change_of T.Sink sink.old sink.new) result }
     ensures host { BlamesDecompress (maker.new ≡ maker.old)
         (MakesFile output.entry.now (M.names maker.old) (M.names maker.new))
         (L.failures loader.old) (L.failures loader.new)
@@ -180,12 +173,7 @@ fn compress_in_order<'a, L: Loader, M: Maker, T: Sink>(
           options = options;
           image = image.entry.now;
           output = output.entry.now;
-        }) (L.told loader.old image.entry.now) (record {
-          old = T.taken sink.old;
-          new = T.taken sink.new;
-          before = T.failures sink.old;
-          now = T.failures sink.new;
-        }) result }
+        }) (L.told loader.old image.entry.now) (change_of T.Sink sink.old sink.new) result }
     ensures host { BlamesDecompress (maker.new ≡ maker.old)
         (MakesFile output.entry.now (M.names maker.old) (M.names maker.new))
         (L.failures loader.old) (L.failures loader.new)
@@ -215,22 +203,9 @@ fn compress_whole<'a, L: Loader, M: Maker, T: Output>(
       options = options;
       image = image.entry.now;
       output = made.entry.now;
-    }) (record {
-      told = L.told loader.old;
-      before = L.failures loader.old;
-      now = L.failures loader.new;
-    }) (record {
-      names_old = M.names maker.old;
-      names_new = M.names maker.new;
-      held = (M.held maker.old, M.held maker.new);
-      before = M.failures maker.old;
-      now = M.failures maker.new;
-    }) (maker.new ≡ maker.old) (record {
-      old = T.taken output.old;
-      new = T.given output.new;
-      before = T.failures output.old;
-      now = T.failures output.new;
-    }) result }
+    }) (reads L.told L.failures loader.old loader.new)
+        (writes (telling M.names M.held M.failures) maker.old maker.new) (maker.new ≡ maker.old)
+        (passage T.taken T.given T.failures output.old output.new) result }
 {
     let answer = compress_in_order(alloc, loader, maker, options, image, made, output);
     let finished = output.finish();
@@ -254,27 +229,10 @@ pub fn run_compress<L: Loader, M: Maker, T: Output, E: Sink>(
       options = asked.entry.options;
       image = asked.entry.image.now;
       output = asked.entry.output.now;
-    }) (record {
-      told = L.told loader.old;
-      before = L.failures loader.old;
-      now = L.failures loader.new;
-    }) (record {
-      names_old = M.names maker.old;
-      names_new = M.names maker.new;
-      held = (M.held maker.old, M.held maker.new);
-      before = M.failures maker.old;
-      now = M.failures maker.new;
-    }) (maker.new ≡ maker.old) (record {
-      old = T.taken output.old;
-      new = T.given output.new;
-      before = T.failures output.old;
-      now = T.failures output.new;
-    }) (record {
-      old = E.taken errors.old;
-      new = E.taken errors.new;
-      before = E.failures errors.old;
-      now = E.failures errors.new;
-    }) result }
+    }) (reads L.told L.failures loader.old loader.new)
+        (writes (telling M.names M.held M.failures) maker.old maker.new) (maker.new ≡ maker.old)
+        (passage T.taken T.given T.failures output.old output.new)
+        (change_of E.Sink errors.old errors.new) result }
 {
     let Compression {
         options,

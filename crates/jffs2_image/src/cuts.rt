@@ -8,6 +8,8 @@ ghost use Rattle.jcuts.specs.declared.lines.Telling.TheVariants.{Nodes};
 ghost use Rattle.std.specs.Prelude.{Result};
 ghost use Rattle.jffs2_image.specs.Host.{AreRead};
 ghost use Rattle.jffs2_image.specs.CutRuns.{answer_of_cuts, BlamesReading, EndsCuts, FinishesCuts, IsBaseOf, IsBaseUnread, TellsFiles, TellsText};
+ghost use Rattle.flashbase.specs.Sinks.{change_of};
+ghost use Rattle.jffs2_image.specs.Tasks.{passage, reads};
 
 use crate::host::Loader;
 use crate::output::Output;
@@ -40,12 +42,7 @@ fn tell_ops<E: Order, T: Sink>(
     requires numbered { length lines.now ≡ length ops.now }
     ensures tells { (cuts : Result ℕ CutsFault) × PutsCuts E.order flash mounted.now
         (record { telling = Nodes; ops = ops.now; lines = lines.now })
-        (record {
-          old = T.taken sink.old;
-          new = T.taken sink.new;
-          before = T.failures sink.old;
-          now = T.failures sink.new;
-        }) cuts
+        (change_of T.Sink sink.old sink.new) cuts
         × (result ≡ answer_of_cuts cuts) }
     ensures unread { (n : ℕ) → BlamesReading n n result }
 {
@@ -71,12 +68,7 @@ fn tell_lines<'p, 'b: 'p, E: Order, T: Sink>(
 ) -> Result<u64, ProgramFault<'static>>
     ensures tells { (told : List ℕ → Option (List ℕ)) → (text : List ℕ)
         → lines_of text ≡ Ok lines.entry.items → AreRead told lines.entry.items parts.entry.now
-        → TellsText told E.order flash base.now text (record {
-          old = T.taken sink.old;
-          new = T.taken sink.new;
-          before = T.failures sink.old;
-          now = T.failures sink.new;
-        }) result }
+        → TellsText told E.order flash base.now text (change_of T.Sink sink.old sink.new) result }
     ensures unread { (n : ℕ) → BlamesReading n n result }
 {
     let numbers = numbers_of(alloc, &lines)?;
@@ -96,12 +88,7 @@ fn tell_text<'a, E: Order, L: Loader, T: Sink>(
     sink: &mut T,
 ) -> Result<u64, ProgramFault<'a>>
     ensures tells { TellsText (L.told loader.old) E.order flash base.now text.now
-        (record {
-          old = T.taken sink.old;
-          new = T.taken sink.new;
-          before = T.failures sink.old;
-          now = T.failures sink.new;
-        }) result }
+        (change_of T.Sink sink.old sink.new) result }
     ensures blames { BlamesReading (L.failures loader.old) (L.failures loader.new) result }
 {
     let lines = listing(alloc, text)?;
@@ -148,12 +135,7 @@ fn tell_files<'a, E: Order, L: Loader, T: Sink>(
           blocks = asked.entry.blocks;
           page = asked.entry.page;
         }) (option_map (λ name. name.now) asked.entry.on)
-        asked.entry.listing.now (record {
-          old = T.taken sink.old;
-          new = T.taken sink.new;
-          before = T.failures sink.old;
-          now = T.failures sink.new;
-        }) result }
+        asked.entry.listing.now (change_of T.Sink sink.old sink.new) result }
     ensures blames { BlamesReading (L.failures loader.old) (L.failures loader.new) result }
 {
     let flash = Flash {
@@ -194,12 +176,7 @@ fn tell_in_order<'a, L: Loader, T: Sink>(
           blocks = asked.entry.blocks;
           page = asked.entry.page;
         }) (option_map (λ name. name.now) asked.entry.on)
-        asked.entry.listing.now (record {
-          old = T.taken sink.old;
-          new = T.taken sink.new;
-          before = T.failures sink.old;
-          now = T.failures sink.new;
-        }) result }
+        asked.entry.listing.now (change_of T.Sink sink.old sink.new) result }
     ensures blames { BlamesReading (L.failures loader.old) (L.failures loader.new) result }
 {
     match asked.options.endian {
@@ -223,12 +200,7 @@ fn tell_whole<'a, L: Loader, T: Output>(
       on = option_map (λ name. name.now) asked.entry.on;
       listing = asked.entry.listing.now;
     })
-        (record {
-          old = T.taken output.old;
-          new = T.given output.new;
-          before = T.failures output.old;
-          now = T.failures output.new;
-        }) result }
+        (passage T.taken T.given T.failures output.old output.new) result }
     ensures blames { BlamesReading (L.failures loader.old) (L.failures loader.new) result }
 {
     let answer = tell_in_order::<L, T>(alloc, loader, asked, texts, output);
@@ -256,23 +228,9 @@ pub fn run_cuts<L: Loader, T: Output, E: Sink>(
       page = asked.entry.page;
       on = option_map (λ name. name.now) asked.entry.on;
       listing = asked.entry.listing.now;
-    }) (record {
-      told = L.told loader.old;
-      before = L.failures loader.old;
-      now = L.failures loader.new;
-    })
-        (record {
-          old = T.taken output.old;
-          new = T.given output.new;
-          before = T.failures output.old;
-          now = T.failures output.new;
-        })
-        (record {
-          old = E.taken errors.old;
-          new = E.taken errors.new;
-          before = E.failures errors.old;
-          now = E.failures errors.new;
-        }) result }
+    }) (reads L.told L.failures loader.old loader.new)
+        (passage T.taken T.given T.failures output.old output.new)
+        (change_of E.Sink errors.old errors.new) result }
 {
     let mut texts = Texts::new(alloc);
     match tell_whole(alloc, loader, asked, &mut texts, output) {

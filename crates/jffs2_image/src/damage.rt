@@ -2,6 +2,8 @@
 ghost use Rattle.std.specs.Prelude.{◌≡◌, ◌≤◌, length};
 ghost use Rattle.jdamage.specs.Damage.{PutsDamage};
 ghost use Rattle.jffs2_image.specs.DamageRuns.{EndsDamage, FinishesDamage, TellsDamage, TellsDamageOfFile, as_told};
+ghost use Rattle.flashbase.specs.Sinks.{change_of};
+ghost use Rattle.jffs2_image.specs.Tasks.{passage, reads};
 
 use crate::host::Loader;
 use crate::output::Output;
@@ -36,12 +38,7 @@ fn put_lines<E: Order, T: Sink>(
     sink: &mut T,
 ) -> Result<u64, ProgramFault<'static>>
     requires { options.endian ≡ E.order }
-    ensures { TellsDamage options image.now (record {
-      old = T.taken sink.old;
-      new = T.taken sink.new;
-      before = T.failures sink.old;
-      now = T.failures sink.new;
-    }) result }
+    ensures { TellsDamage options image.now (change_of T.Sink sink.old sink.new) result }
 {
     let mounted = mount::<E>(alloc, image, options.geometry)?;
     as_told(put_damage::<E, T>(alloc, &mounted, options.geometry, sink))
@@ -54,12 +51,7 @@ fn put_in_order<T: Sink>(
     image: &[u8],
     sink: &mut T,
 ) -> Result<u64, ProgramFault<'static>>
-    ensures { TellsDamage options image.now (record {
-      old = T.taken sink.old;
-      new = T.taken sink.new;
-      before = T.failures sink.old;
-      now = T.failures sink.new;
-    }) result }
+    ensures { TellsDamage options image.now (change_of T.Sink sink.old sink.new) result }
 {
     match options.endian {
         Endian::Little => put_lines::<LittleEndian, T>(alloc, options, image, sink),
@@ -74,12 +66,8 @@ fn put_whole<T: Output>(
     image: &[u8],
     output: &mut T,
 ) -> Result<u64, ProgramFault<'static>>
-    ensures { FinishesDamage options image.now (record {
-      old = T.taken output.old;
-      new = T.given output.new;
-      before = T.failures output.old;
-      now = T.failures output.new;
-    }) result }
+    ensures { FinishesDamage options image.now
+        (passage T.taken T.given T.failures output.old output.new) result }
 {
     let answer = put_in_order(alloc, options, image, output);
     let finished = output.finish();
@@ -98,16 +86,8 @@ fn examine_file<'a, L: Loader, T: Output>(
     output: &mut T,
 ) -> Result<u64, ProgramFault<'a>>
     ensures { TellsDamageOfFile asked.entry.options asked.entry.image.now
-        (record {
-          told = L.told loader.old;
-          before = L.failures loader.old;
-          now = L.failures loader.new;
-        }) (output.new ≡ output.old) (record {
-          old = T.taken output.old;
-          new = T.given output.new;
-          before = T.failures output.old;
-          now = T.failures output.new;
-        }) result }
+        (reads L.told L.failures loader.old loader.new) (output.new ≡ output.old)
+        (passage T.taken T.given T.failures output.old output.new) result }
 {
     let image = match load_file(loader, asked.image) {
         Ok(image) => image,
@@ -125,22 +105,9 @@ pub fn run_damage<L: Loader, T: Output, E: Sink>(
     errors: &mut E,
 ) -> Outcome
     ensures { EndsDamage asked.entry.options asked.entry.image.now
-        (record {
-          told = L.told loader.old;
-          before = L.failures loader.old;
-          now = L.failures loader.new;
-        }) (output.new ≡ output.old) (record {
-          old = T.taken output.old;
-          new = T.given output.new;
-          before = T.failures output.old;
-          now = T.failures output.new;
-        })
-        (record {
-          old = E.taken errors.old;
-          new = E.taken errors.new;
-          before = E.failures errors.old;
-          now = E.failures errors.new;
-        }) result }
+        (reads L.told L.failures loader.old loader.new) (output.new ≡ output.old)
+        (passage T.taken T.given T.failures output.old output.new)
+        (change_of E.Sink errors.old errors.new) result }
 {
     match examine_file(alloc, loader, asked, output) {
         Ok(count) => Outcome::of(count),

@@ -2,6 +2,8 @@
 ghost use Rattle.std.specs.Prelude.{◌≡◌, ◌≤◌, length};
 ghost use Rattle.jscan.specs.Image.{greatest_image};
 ghost use Rattle.jffs2_image.specs.DiffRuns.{DiffersOf, DiffersOfFiles, EndsDiff, FinishesDiff};
+ghost use Rattle.flashbase.specs.Sinks.{change_of};
+ghost use Rattle.jffs2_image.specs.Tasks.{passage, reads};
 
 use crate::host::Loader;
 use crate::output::Output;
@@ -27,12 +29,8 @@ fn put_lines<E: Order, T: Sink>(
     sink: &mut T,
 ) -> Result<u64, ProgramFault<'static>>
     requires { options.endian ≡ E.order }
-    ensures { DiffersOf (record { options = options; times = times }) first.now second.now (record {
-      old = T.taken sink.old;
-      new = T.taken sink.new;
-      before = T.failures sink.old;
-      now = T.failures sink.new;
-    }) result }
+    ensures { DiffersOf (record { options = options; times = times }) first.now second.now
+        (change_of T.Sink sink.old sink.new) result }
 {
     let left = mount::<E>(alloc, first, options.geometry)?;
     let right = mount::<E>(alloc, second, options.geometry)?;
@@ -48,12 +46,8 @@ fn put_in_order<T: Sink>(
     second: &[u8],
     sink: &mut T,
 ) -> Result<u64, ProgramFault<'static>>
-    ensures { DiffersOf (record { options = options; times = times }) first.now second.now (record {
-      old = T.taken sink.old;
-      new = T.taken sink.new;
-      before = T.failures sink.old;
-      now = T.failures sink.new;
-    }) result }
+    ensures { DiffersOf (record { options = options; times = times }) first.now second.now
+        (change_of T.Sink sink.old sink.new) result }
 {
     match options.endian {
         Endian::Little => put_lines::<LittleEndian, T>(alloc, options, times, first, second, sink),
@@ -71,12 +65,7 @@ fn put_whole<T: Output>(
     output: &mut T,
 ) -> Result<u64, ProgramFault<'static>>
     ensures { FinishesDiff (record { options = options; times = times }) first.now second.now
-        (record {
-          old = T.taken output.old;
-          new = T.given output.new;
-          before = T.failures output.old;
-          now = T.failures output.new;
-        }) result }
+        (passage T.taken T.given T.failures output.old output.new) result }
 {
     let answer = put_in_order(alloc, options, times, first, second, output);
     let finished = output.finish();
@@ -97,17 +86,8 @@ fn compare_files<'a, L: Loader, T: Output>(
     ensures { DiffersOfFiles
         (record { options = asked.entry.options; times = asked.entry.times })
         asked.entry.first.now asked.entry.second.now
-        (record {
-          told = L.told loader.old;
-          before = L.failures loader.old;
-          now = L.failures loader.new;
-        }) (output.new ≡ output.old)
-        (record {
-          old = T.taken output.old;
-          new = T.given output.new;
-          before = T.failures output.old;
-          now = T.failures output.new;
-        }) result }
+        (reads L.told L.failures loader.old loader.new) (output.new ≡ output.old)
+        (passage T.taken T.given T.failures output.old output.new) result }
 {
     let first = match load_file(loader, asked.first) {
         Ok(image) => image,
@@ -137,23 +117,9 @@ pub fn run_diff<L: Loader, T: Output, E: Sink>(
 ) -> Outcome
     ensures { EndsDiff (record { options = asked.entry.options; times = asked.entry.times })
         asked.entry.first.now asked.entry.second.now
-        (record {
-          told = L.told loader.old;
-          before = L.failures loader.old;
-          now = L.failures loader.new;
-        }) (output.new ≡ output.old)
-        (record {
-          old = T.taken output.old;
-          new = T.given output.new;
-          before = T.failures output.old;
-          now = T.failures output.new;
-        })
-        (record {
-          old = E.taken errors.old;
-          new = E.taken errors.new;
-          before = E.failures errors.old;
-          now = E.failures errors.new;
-        }) result }
+        (reads L.told L.failures loader.old loader.new) (output.new ≡ output.old)
+        (passage T.taken T.given T.failures output.old output.new)
+        (change_of E.Sink errors.old errors.new) result }
 {
     match compare_files(alloc, loader, asked, output) {
         Ok(lines) => Outcome::of(lines),

@@ -5,11 +5,12 @@ ghost use Rattle.jfolder.specs.Known.{Known};
 ghost use Rattle.jfolder.specs.Text.{listing_text};
 ghost use Rattle.jcommand.specs.Parsed.{ExtractParsed, ListingParsed, IsFaultless};
 ghost use Rattle.jextract.specs.Folders.{Made};
-ghost use Rattle.jffs2_image.specs.Folders.{ExtractsImage, ExtractsBytes, ExtractsPart, ExtractsTaken, FillsAsked, FillsFolder, IsExtractFault, extracting_of, IsReadingFault, ListsFolder, settings};
+ghost use Rattle.jffs2_image.specs.Folders.{ExtractsImage, ExtractsBytes, ExtractsPart, ExtractsTaken, FillsAsked, FillsFolder, IsExtractFault, extracting_of, IsReadingFault, ListsFolder, settings, filling};
 ghost use Rattle.jcommand.specs.Status.{outcome_of};
 ghost use Rattle.jffs2_image.specs.FolderRuns.{EndsExtraction, EndsListing, FinishesListing, ListsGiven, found_by_extraction, notes_after_extraction};
 ghost use Rattle.jffs2_image.specs.Runs.{Says};
 ghost use Rattle.jffs2_image.specs.Tasks.{passage};
+ghost use Rattle.jffs2_image.specs.Tasks as tasks;
 
 use crate::decompressing::{Taken, take_image};
 use crate::host::Loader;
@@ -107,18 +108,8 @@ fn extract_at<'a, X: Folder, N: Sink>(
 ) -> Result<Totals, ProgramFault<'a>>
     ensures { ExtractsPart mounted.now.state
         (extracting_of asked.entry.options.endian asked.entry (Some path.now))
-        (record {
-          made_old = X.made folder.old;
-          made_new = X.made folder.new;
-          failures_old = X.failures folder.old;
-          failures_new = X.failures folder.new;
-          notes = record {
-            old = N.taken notes.old;
-            new = N.taken notes.new;
-            before = N.failures notes.old;
-            now = N.failures notes.new;
-          };
-        }) result }
+        (filling X.made X.failures folder.old folder.new
+        (change_of N.Sink notes.old notes.new)) result }
 {
     let part = match part_at(alloc, mounted, path) {
         Ok(part) => part,
@@ -142,18 +133,8 @@ fn extract_tree<'a, X: Folder, N: Sink>(
 ) -> Result<Totals, ProgramFault<'a>>
     ensures { ExtractsPart mounted.now.state
         (extracting_of asked.entry.options.endian asked.entry (option_map (λ p. p.now) path.entry))
-        (record {
-          made_old = X.made folder.old;
-          made_new = X.made folder.new;
-          failures_old = X.failures folder.old;
-          failures_new = X.failures folder.new;
-          notes = record {
-            old = N.taken notes.old;
-            new = N.taken notes.new;
-            before = N.failures notes.old;
-            now = N.failures notes.new;
-          };
-        }) result }
+        (filling X.made X.failures folder.old folder.new
+        (change_of N.Sink notes.old notes.new)) result }
 {
     if let Some(path) = path {
         return extract_at(alloc, mounted, asked, path, folder, notes);
@@ -175,18 +156,8 @@ fn extract_bytes<'a, E: Order, X: Folder, N: Sink>(
 ) -> Result<Extracted, ProgramFault<'a>>
     ensures { ExtractsBytes
         (extracting_of E.order asked.entry (option_map (λ p. p.now) path.entry)) image.now
-        (record {
-          made_old = X.made folder.old;
-          made_new = X.made folder.new;
-          failures_old = X.failures folder.old;
-          failures_new = X.failures folder.new;
-          notes = record {
-            old = N.taken notes.old;
-            new = N.taken notes.new;
-            before = N.failures notes.old;
-            now = N.failures notes.new;
-          };
-        }) result }
+        (filling X.made X.failures folder.old folder.new
+        (change_of N.Sink notes.old notes.new)) result }
 {
     let mounted = match mount::<E>(alloc, image, asked.options.geometry) {
         Ok(mounted) => mounted,
@@ -213,18 +184,8 @@ fn extract_decompressed<'a, E: Order, X: Folder, N: Sink>(
 ) -> Result<Extracted, ProgramFault<'a>>
     ensures { ExtractsTaken true
         (extracting_of E.order asked.entry (option_map (λ p. p.now) path.entry)) image.now
-        (record {
-          made_old = X.made folder.old;
-          made_new = X.made folder.new;
-          failures_old = X.failures folder.old;
-          failures_new = X.failures folder.new;
-          notes = record {
-            old = N.taken notes.old;
-            new = N.taken notes.new;
-            before = N.failures notes.old;
-            now = N.failures notes.new;
-          };
-        }) result }
+        (filling X.made X.failures folder.old folder.new
+        (change_of N.Sink notes.old notes.new)) result }
 {
     let Taken { image: made, found } = match take_image::<E>(alloc, image, asked.options.geometry) {
         Ok(taken) => taken,
@@ -252,23 +213,9 @@ fn extract_image<'a, E: Order, L: Loader, X: Folder, N: Sink>(
     ensures { ExtractsImage asked.entry.decompress
         (extracting_of E.order asked.entry (option_map (λ p. p.now) path.entry))
         asked.entry.image.now
-        (record {
-          told = L.told loader.old;
-          before = L.failures loader.old;
-          now = L.failures loader.new;
-        })
-        (record {
-          made_old = X.made folder.old;
-          made_new = X.made folder.new;
-          failures_old = X.failures folder.old;
-          failures_new = X.failures folder.new;
-          notes = record {
-            old = N.taken notes.old;
-            new = N.taken notes.new;
-            before = N.failures notes.old;
-            now = N.failures notes.new;
-          };
-        }) result }
+        (tasks.reads L.told L.failures loader.old loader.new)
+        (filling X.made X.failures folder.old folder.new
+        (change_of N.Sink notes.old notes.new)) result }
 {
     let bytes = match load_file(loader, asked.image) {
         Ok(bytes) => bytes,
@@ -293,23 +240,9 @@ fn extract_in_order<'a, L: Loader, X: Folder, N: Sink>(
     ensures { ExtractsImage asked.entry.decompress
         (extracting_of asked.entry.options.endian asked.entry (option_map (λ p. p.now) path.entry))
         asked.entry.image.now
-        (record {
-          told = L.told loader.old;
-          before = L.failures loader.old;
-          now = L.failures loader.new;
-        })
-        (record {
-          made_old = X.made folder.old;
-          made_new = X.made folder.new;
-          failures_old = X.failures folder.old;
-          failures_new = X.failures folder.new;
-          notes = record {
-            old = N.taken notes.old;
-            new = N.taken notes.new;
-            before = N.failures notes.old;
-            now = N.failures notes.new;
-          };
-        }) result }
+        (tasks.reads L.told L.failures loader.old loader.new)
+        (filling X.made X.failures folder.old folder.new
+        (change_of N.Sink notes.old notes.new)) result }
 {
     match asked.options.endian {
         Endian::Little => {
@@ -333,17 +266,9 @@ fn fill<'a, L: Loader, D: Folders, N: Sink>(
     ensures { FillsFolder asked.entry.decompress
         (extracting_of asked.entry.options.endian asked.entry (option_map (λ p. p.now) path.entry))
         asked.entry.image.now
-        (record {
-          told = L.told loader.old;
-          before = L.failures loader.old;
-          now = L.failures loader.new;
-        }) (D.made folders.old) (D.made folders.new)
-        (record {
-          old = N.taken notes.old;
-          new = N.taken notes.new;
-          before = N.failures notes.old;
-          now = N.failures notes.new;
-        }) result }
+        (tasks.reads L.told L.failures loader.old loader.new) (D.made folders.old)
+        (D.made folders.new)
+        (change_of N.Sink notes.old notes.new) result }
 {
     let name = asked.folder;
     let Ok(mut folder) = folders.filled(name, asked.quiet) else {
@@ -366,17 +291,9 @@ fn fill_asked<'a, L: Loader, D: Folders, N: Sink>(
         (extracting_of asked.entry.options.endian asked.entry
         (option_map (λ word. word.now) asked.entry.path))
         asked.entry.image.now
-        (record {
-          told = L.told loader.old;
-          before = L.failures loader.old;
-          now = L.failures loader.new;
-        }) (D.made folders.old) (D.made folders.new)
-        (record {
-          old = N.taken notes.old;
-          new = N.taken notes.new;
-          before = N.failures notes.old;
-          now = N.failures notes.new;
-        }) result }
+        (tasks.reads L.told L.failures loader.old loader.new) (D.made folders.old)
+        (D.made folders.new)
+        (change_of N.Sink notes.old notes.new) result }
 {
     let Some(word) = asked.path else {
         return fill(alloc, loader, folders, asked, None, notes);
@@ -468,17 +385,9 @@ pub fn run_extract<L: Loader, D: Folders, E: Sink>(
         (extracting_of asked.entry.options.endian asked.entry
         (option_map (λ word. word.now) asked.entry.path))
         asked.entry.image.now
-        (record {
-          told = L.told loader.old;
-          before = L.failures loader.old;
-          now = L.failures loader.new;
-        }) (D.made folders.old) (D.made folders.new)
-        (record {
-          old = E.taken errors.old;
-          new = E.taken errors.new;
-          before = E.failures errors.old;
-          now = E.failures errors.new;
-        }) result }
+        (tasks.reads L.told L.failures loader.old loader.new) (D.made folders.old)
+        (D.made folders.new)
+        (change_of E.Sink errors.old errors.new) result }
 {
     match fill_asked(alloc, loader, folders, asked, errors) {
         Ok(done) => {

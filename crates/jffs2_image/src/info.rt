@@ -1,7 +1,7 @@
 //! `info`: what an image tells of itself, of which nobody says the byte order or the block size.
 ghost use Rattle.std.specs.Prelude.{◌≡◌, ◌≤◌, IfErr, IfOk, is_some, if◌then◌else◌, length, option_map};
 ghost use Rattle.std.specs.Io.KnownBytes.{Appends};
-ghost use Rattle.flashbase.specs.Sinks.{PutsTo};
+ghost use Rattle.flashbase.specs.Sinks.{PutsTo, change_of};
 ghost use Rattle.jscan.specs.Image.{greatest_image};
 ghost use Rattle.jinfo.specs.Containers.{container_line};
 ghost use Rattle.jinfo.specs.Infos.{order_of};
@@ -10,6 +10,7 @@ ghost use Rattle.jffs2_image.specs.Host.{HasFailed, ReadsFile};
 ghost use Rattle.jffs2_image.specs.InfoRuns.{EndsInfo, InformsOf, InformsOfFile};
 ghost use Rattle.jffs2_image.specs.Runs.{Says};
 ghost use Rattle.jffs2_image.specs.Writes.{GivesText};
+ghost use Rattle.jffs2_image.specs.Tasks.{passage, reads};
 
 use crate::host::Loader;
 use crate::output::Output;
@@ -64,12 +65,8 @@ fn put_whole<T: Output>(image: &[u8], output: &mut T) -> Result<Option<Endian>, 
 /// The same, with what the file begins as.
 fn inform<T: Output>(image: &[u8], output: &mut T) -> Result<Informed, ProgramFault<'static>>
     requires { length image.now ≤ greatest_image }
-    ensures { InformsOf image.now (record {
-      old = T.taken output.old;
-      new = T.given output.new;
-      before = T.failures output.old;
-      now = T.failures output.new;
-    }) result }
+    ensures { InformsOf image.now
+        (passage T.taken T.given T.failures output.old output.new) result }
 {
     match put_whole(image, output) {
         Ok(order) => Ok(Informed {
@@ -87,12 +84,8 @@ pub fn inform_of_file<'a, L: Loader, T: Output>(
     output: &mut T,
 ) -> Result<Informed, ProgramFault<'a>>
     ensures informs { InformsOfFile name.entry.now (L.told loader.old name.entry.now)
-        (output.new ≡ output.old) (record {
-          old = T.taken output.old;
-          new = T.given output.new;
-          before = T.failures output.old;
-          now = T.failures output.new;
-        }) result }
+        (output.new ≡ output.old)
+        (passage T.taken T.given T.failures output.old output.new) result }
     ensures reads { ReadsFile (L.told loader.old name.entry.now) (L.failures loader.old)
         (L.failures loader.new) result }
 {
@@ -131,22 +124,9 @@ pub fn run_info<L: Loader, T: Output, E: Sink>(
     output: &mut T,
     errors: &mut E,
 ) -> Outcome
-    ensures { EndsInfo name.now (record {
-      told = L.told loader.old;
-      before = L.failures loader.old;
-      now = L.failures loader.new;
-    }) (output.new ≡ output.old) (record {
-      old = T.taken output.old;
-      new = T.given output.new;
-      before = T.failures output.old;
-      now = T.failures output.new;
-    })
-        (record {
-          old = E.taken errors.old;
-          new = E.taken errors.new;
-          before = E.failures errors.old;
-          now = E.failures errors.new;
-        }) result }
+    ensures { EndsInfo name.now (reads L.told L.failures loader.old loader.new)
+        (output.new ≡ output.old) (passage T.taken T.given T.failures output.old output.new)
+        (change_of E.Sink errors.old errors.new) result }
 {
     match inform_of_file(loader, name, output) {
         Ok(found) => {

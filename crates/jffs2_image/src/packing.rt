@@ -5,6 +5,9 @@ ghost use Rattle.jcommand.specs.Parsed.{packing_view};
 ghost use Rattle.jffs2_image.specs.Folders.{settings};
 ghost use Rattle.jffs2_image.specs.PackRuns.{EndsPack, PacksFolder, PutsText, ReadsGiven, ReadsListing, WritesText, blocks_of, most_blocks, outcome_of_packing, said_after_packing};
 ghost use Rattle.jffs2_image.specs.Runs.{Says};
+ghost use Rattle.flashbase.specs.Sinks.{change_of};
+ghost use Rattle.jffs2_image.specs.Tasks.{passage, reads};
+ghost use Rattle.jffs2_image.specs.Placing.{telling, writes};
 
 use crate::folders::{Folders, put_read, read_fault, settings_of};
 use crate::host::{Loader, Maker};
@@ -74,12 +77,8 @@ fn read_listing<'a, H: HostFolder, N: Sink>(
     folder: &mut H,
     notes: &mut N,
 ) -> Result<Listed, ProgramFault<'a>>
-    ensures { ReadsListing (H.known folder.old) options name.entry.now (record {
-      old = N.taken notes.old;
-      new = N.taken notes.new;
-      before = N.failures notes.old;
-      now = N.failures notes.new;
-    }) result }
+    ensures { ReadsListing (H.known folder.old) options name.entry.now
+        (change_of N.Sink notes.old notes.new) result }
 {
     let read = match read_folder(alloc, folder, &options, notes) {
         Ok(read) => read,
@@ -104,12 +103,8 @@ fn read_given<'a, D: Folders, N: Sink>(
 ) -> Result<Listed, ProgramFault<'a>>
     ensures made { D.made folders.new ≡ D.made folders.old }
     ensures reads { ReadsGiven (D.reads folders.old asked.entry.folder.now)
-        (settings asked.entry.owner asked.entry.time) asked.entry.folder.now (record {
-          old = N.taken notes.old;
-          new = N.taken notes.new;
-          before = N.failures notes.old;
-          now = N.failures notes.new;
-        }) result }
+        (settings asked.entry.owner asked.entry.time) asked.entry.folder.now
+        (change_of N.Sink notes.old notes.new) result }
 {
     let options = settings_of(asked.owner, asked.time);
     let Ok(mut folder) = folders.read_whole(asked.folder, asked.quiet) else {
@@ -132,22 +127,10 @@ fn put_text<'a, L: Loader, M: Maker, T: Sink>(
     sink: &mut T,
 ) -> Result<u64, ProgramFault<'a>>
     requires { notes.now.asked ≡ asked.weak }
-    ensures { PutsText (packing_view asked.entry) text.now (maker.new ≡ maker.old) (record {
-      told = L.told loader.old;
-      before = L.failures loader.old;
-      now = L.failures loader.new;
-    }) (record {
-      names_old = M.names maker.old;
-      names_new = M.names maker.new;
-      held = (M.held maker.old, M.held maker.new);
-      before = M.failures maker.old;
-      now = M.failures maker.new;
-    }) (record {
-      old = T.taken sink.old;
-      new = T.taken sink.new;
-      before = T.failures sink.old;
-      now = T.failures sink.new;
-    }) notes.new result }
+    ensures { PutsText (packing_view asked.entry) text.now (maker.new ≡ maker.old)
+        (reads L.told L.failures loader.old loader.new)
+        (writes (telling M.names M.held M.failures) maker.old maker.new)
+        (change_of T.Sink sink.old sink.new) notes.new result }
 {
     let work = Writing {
         target: target_of(asked),
@@ -176,22 +159,10 @@ fn write_text<'a, L: Loader, M: Maker, T: Output>(
     output: &mut T,
 ) -> Result<u64, ProgramFault<'a>>
     requires { notes.now.asked ≡ asked.weak }
-    ensures { WritesText (packing_view asked.entry) text.now (maker.new ≡ maker.old) (record {
-      told = L.told loader.old;
-      before = L.failures loader.old;
-      now = L.failures loader.new;
-    }) (record {
-      names_old = M.names maker.old;
-      names_new = M.names maker.new;
-      held = (M.held maker.old, M.held maker.new);
-      before = M.failures maker.old;
-      now = M.failures maker.new;
-    }) (record {
-      old = T.taken output.old;
-      new = T.given output.new;
-      before = T.failures output.old;
-      now = T.failures output.new;
-    }) notes.new result }
+    ensures { WritesText (packing_view asked.entry) text.now (maker.new ≡ maker.old)
+        (reads L.told L.failures loader.old loader.new)
+        (writes (telling M.names M.held M.failures) maker.old maker.new)
+        (passage T.taken T.given T.failures output.old output.new) notes.new result }
 {
     let answer = put_text(alloc, loader, maker, asked, text, unread, notes, output);
     let finished = output.finish();
@@ -220,30 +191,10 @@ fn pack_folder<'a, L: Loader, M: Maker, D: Folders, T: Output, E: Sink>(
     ensures packs { PacksFolder (packing_view asked.entry)
         (D.reads folders.old asked.entry.folder.now) (maker.new ≡ maker.old)
         (output.new ≡ output.old) (record {
-          reading = record {
-            told = L.told loader.old;
-            before = L.failures loader.old;
-            now = L.failures loader.new;
-          };
-          writing = record {
-            names_old = M.names maker.old;
-            names_new = M.names maker.new;
-            held = (M.held maker.old, M.held maker.new);
-            before = M.failures maker.old;
-            now = M.failures maker.new;
-          };
-          output = record {
-            old = T.taken output.old;
-            new = T.given output.new;
-            before = T.failures output.old;
-            now = T.failures output.new;
-          };
-          errors = record {
-            old = E.taken errors.old;
-            new = E.taken errors.new;
-            before = E.failures errors.old;
-            now = E.failures errors.new;
-          };
+          reading = reads L.told L.failures loader.old loader.new;
+          writing = writes (telling M.names M.held M.failures) maker.old maker.new;
+          output = passage T.taken T.given T.failures output.old output.new;
+          errors = change_of E.Sink errors.old errors.new;
         }) notes.new result }
 {
     let Listed { text, left_out } = match read_given(alloc, folders, asked, errors) {
@@ -303,30 +254,10 @@ pub fn run_pack<L: Loader, M: Maker, D: Folders, T: Output, E: Sink>(
     ensures ends { EndsPack (packing_view asked.entry)
         (D.reads folders.old asked.entry.folder.now) (maker.new ≡ maker.old)
         (output.new ≡ output.old) (record {
-          reading = record {
-            told = L.told loader.old;
-            before = L.failures loader.old;
-            now = L.failures loader.new;
-          };
-          writing = record {
-            names_old = M.names maker.old;
-            names_new = M.names maker.new;
-            held = (M.held maker.old, M.held maker.new);
-            before = M.failures maker.old;
-            now = M.failures maker.new;
-          };
-          output = record {
-            old = T.taken output.old;
-            new = T.given output.new;
-            before = T.failures output.old;
-            now = T.failures output.new;
-          };
-          errors = record {
-            old = E.taken errors.old;
-            new = E.taken errors.new;
-            before = E.failures errors.old;
-            now = E.failures errors.new;
-          };
+          reading = reads L.told L.failures loader.old loader.new;
+          writing = writes (telling M.names M.held M.failures) maker.old maker.new;
+          output = passage T.taken T.given T.failures output.old output.new;
+          errors = change_of E.Sink errors.old errors.new;
         }) result }
 {
     let mut texts = Texts::new(alloc);

@@ -4,6 +4,9 @@ ghost use Rattle.jmount.specs.Mounts.{IsMountOf};
 ghost use Rattle.jcommand.specs.Status.{outcome_of};
 ghost use Rattle.jffs2_image.specs.Runs.{Says};
 ghost use Rattle.jffs2_image.specs.WeakRuns.{AreAllTaken, AreNotes, EndsWeak, notes_said};
+ghost use Rattle.flashbase.specs.Sinks.{change_of};
+ghost use Rattle.jffs2_image.specs.Tasks.{passage, reads};
+ghost use Rattle.jffs2_image.specs.Placing.{telling, writes};
 
 use crate::host::{Loader, Maker};
 use crate::output::Output;
@@ -133,27 +136,10 @@ pub fn run_weak<L: Loader, M: Maker, T: Output, E: Sink>(
     output: &mut T,
     errors: &mut E,
 ) -> Outcome
-    ensures { EndsWeak request.entry (record {
-      told = L.told loader.old;
-      before = L.failures loader.old;
-      now = L.failures loader.new;
-    }) (record {
-      names_old = M.names maker.old;
-      names_new = M.names maker.new;
-      held = (M.held maker.old, M.held maker.new);
-      before = M.failures maker.old;
-      now = M.failures maker.new;
-    }) (maker.new ≡ maker.old) (record {
-      old = T.taken output.old;
-      new = T.given output.new;
-      before = T.failures output.old;
-      now = T.failures output.new;
-    }) (record {
-      old = E.taken errors.old;
-      new = E.taken errors.new;
-      before = E.failures errors.old;
-      now = E.failures errors.new;
-    }) result }
+    ensures { EndsWeak request.entry (reads L.told L.failures loader.old loader.new)
+        (writes (telling M.names M.held M.failures) maker.old maker.new) (maker.new ≡ maker.old)
+        (passage T.taken T.given T.failures output.old output.new)
+        (change_of E.Sink errors.old errors.new) result }
 {
     let mut texts = Texts::new(alloc);
     let mut notes = Notes::new(alloc, true);

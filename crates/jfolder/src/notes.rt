@@ -1,7 +1,7 @@
 //! What is told of what is left out.
 
 ghost use Rattle.std.specs.Prelude.{◌≡◌, ◌∷◌, []};
-ghost use Rattle.flashbase.specs.Sinks.{PutsTo};
+ghost use Rattle.flashbase.specs.Sinks.{PutsTo, change_of};
 ghost use Rattle.jfolder.specs.Notes.{TellsMore, TellsWhy, count_text, left_out_line, not_listed_line};
 ghost use Rattle.jfolder.specs.Pieces.{piece_text};
 
@@ -46,12 +46,7 @@ pub fn leave_out<N: Sink>(
     reason: Reason,
 ) -> Result<(), ReadFault>
     ensures { TellsMore (λ _ lefts. lefts ≡ (path.now, reason) ∷ [])
-        (record {
-          old = N.taken notes.old;
-          new = N.taken notes.new;
-          before = N.failures notes.old;
-          now = N.failures notes.new;
-        }) count.old count.new
+        (change_of N.Sink notes.old notes.new) count.old count.new
         result }
 {
     match put_left_out(notes, path, reason) {
@@ -80,12 +75,7 @@ fn put_not_listed<N: Sink>(notes: &mut N, reason: Reason) -> Result<(), DeviceFa
 /// Tells why a folder is not read, and answers the fault of that.
 pub fn refuse_folder<N: Sink>(notes: &mut N, reason: Reason) -> ReadFault
     ensures { TellsWhy reason
-        (record {
-          old = N.taken notes.old;
-          new = N.taken notes.new;
-          before = N.failures notes.old;
-          now = N.failures notes.new;
-        }) result }
+        (change_of N.Sink notes.old notes.new) result }
 {
     match put_not_listed(notes, reason) {
         Ok(()) => ReadFault::Folder(reason),

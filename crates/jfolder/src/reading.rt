@@ -13,6 +13,7 @@ ghost use Rattle.jfolder.specs.Reasons.{ComesAgain, IsRefusal, IsRight, IsRootWh
 ghost use Rattle.jfolder.specs.Trees.{IsRegular, IsTree, Rise};
 ghost use Rattle.jfolder.specs.WalkOrder.{Ascend, InOrder, IsAdded, IsInTurn};
 ghost use Rattle.jfolder.specs.Walking.{FoundFits, HasOptions, IsChild, IsFileOf, IsItemTold, IsMore, IsPending, IsShortName, IsToldAt, WalkFits, comes_next, item_of};
+ghost use Rattle.flashbase.specs.Sinks.{change_of};
 
 use crate::fault::{FolderFault, ReadFault};
 use crate::found::{
@@ -126,12 +127,7 @@ fn add_child<N: Sink>(
         (λ _ lefts. (map string_bytes paths.old.items ++ child directory.now name.now ∷ []
         ≡ map string_bytes paths.new.items ++ left_paths lefts)
         × All (IsWrongChild directory.now (name.now ∷ [])) lefts)
-        (record {
-          old = N.taken notes.old;
-          new = N.taken notes.new;
-          before = N.failures notes.old;
-          now = N.failures notes.new;
-        })
+        (change_of N.Sink notes.old notes.new)
         left_out.old left_out.new result }
 {
     let _count = *left_out;
@@ -156,12 +152,7 @@ fn leave_out_others<N: Sink>(
 ) -> Result<(), ReadFault>
     ensures { TellsMore (λ _ lefts. (left_paths lefts ≡ unnamed_paths directory.now others)
         × All (IsUnnamed directory.now others) lefts)
-        (record {
-          old = N.taken notes.old;
-          new = N.taken notes.new;
-          before = N.failures notes.old;
-          now = N.failures notes.new;
-        })
+        (change_of N.Sink notes.old notes.new)
         left_out.old left_out.new result }
 {
     let _count = *left_out;
@@ -188,12 +179,7 @@ fn paths_of<N: Sink>(
         (map (λ name. child directory.now (string_bytes name)) names.now)
         (map string_bytes paths.items ++ left_paths lefts)
         × All (IsWrongChild directory.now (map string_bytes names.now)) lefts)
-        (record {
-          old = N.taken notes.old;
-          new = N.taken notes.new;
-          before = N.failures notes.old;
-          now = N.failures notes.new;
-        })
+        (change_of N.Sink notes.old notes.new)
         left_out.old left_out.new result }
 {
     let _count = *left_out;
@@ -219,12 +205,7 @@ fn children<N: Sink>(
     ensures told { TellsMore (λ paths lefts. IsPermutation (children directory.now (named_of names))
         (map string_bytes paths.items ++ left_paths lefts)
         × All (IsUnlisted directory.now (named_of names)) lefts)
-        (record {
-          old = N.taken notes.old;
-          new = N.taken notes.new;
-          before = N.failures notes.old;
-          now = N.failures notes.new;
-        })
+        (change_of N.Sink notes.old notes.new)
         left_out.old left_out.new result }
 {
     names.texts.sort()?;
@@ -350,12 +331,7 @@ impl Walk {
         ensures told { TellsMore (λ paths lefts. IsPermutation (children_of path.now names)
             (map string_bytes paths.items ++ left_paths lefts)
             × All (IsUnlistedIn path.now names) lefts)
-            (record {
-              old = N.taken notes.old;
-              new = N.taken notes.new;
-              before = N.failures notes.old;
-              now = N.failures notes.new;
-            })
+            (change_of N.Sink notes.old notes.new)
             self.old.left_out self.new.left_out result }
     {
         let _count = self.left_out;
@@ -434,12 +410,7 @@ impl Walk {
             ++ map string_bytes self.old.pending.items)
             (map string_bytes self.new.pending.items ++ left_paths lefts)
             × All (IsUnlistedIn (string_bytes path) found.names) lefts)
-            (record {
-              old = N.taken notes.old;
-              new = N.taken notes.new;
-              before = N.failures notes.old;
-              now = N.failures notes.new;
-            })
+            (change_of N.Sink notes.old notes.new)
             self.old.left_out self.new.left_out result }
     {
         let Found {
@@ -496,12 +467,7 @@ impl Walk {
             (map string_bytes self.old.pending.items ++ string_bytes path ∷ [])
             self.new.items.items (map string_bytes self.new.pending.items) lefts
             × All (IsRight (F.known folder.old) options.now self.new.items.items) lefts)
-            (record {
-              old = N.taken notes.old;
-              new = N.taken notes.new;
-              before = N.failures notes.old;
-              now = N.failures notes.new;
-            })
+            (change_of N.Sink notes.old notes.new)
             self.old.left_out self.new.left_out result }
     {
         match self.find(alloc, folder, options, path.as_str()) {
@@ -567,12 +533,7 @@ pub fn read_folder<F: HostFolder, N: Sink>(
         (λ read. All (IsObjectTold (F.known folder.old)) read.items.items) }
     ensures links { IfOk result (λ read. AreLinked (F.known folder.old) read.items.items) }
     ensures notes { Tells (F.known folder.old) options.now
-        (record {
-          old = N.taken notes.old;
-          new = N.taken notes.new;
-          before = N.failures notes.old;
-          now = N.failures notes.new;
-        }) result }
+        (change_of N.Sink notes.old notes.new) result }
 {
     let (root, names) = match root_of(folder, options) {
         Ok(found) => found,
