@@ -82,10 +82,16 @@ impl Parts {
         ensures count { CountsLoad (S.failures source.old) (S.failures source.new) result }
     {
         ready(alloc, &mut self.piece)?;
-        let from = self.bytes.len();
+        let start = self.bytes.len();
         read_behind(&mut self.bytes, source, &mut self.piece, limit)?;
-        let length = self.bytes.len() - from;
-        match self.files.insert(name, Span { from, length }) {
+        let length = self.bytes.len() - start;
+        match self.files.insert(
+            name,
+            Span {
+                from: start,
+                length,
+            },
+        ) {
             Ok(_) => Ok(()),
             Err(_) => Err(LoadFault::OutOfMemory),
         }
