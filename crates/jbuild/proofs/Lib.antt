@@ -1,4 +1,5 @@
 pub mod FrontLemmas
 pub mod EmitLemmas
 pub mod LengthLemmas
+pub mod BlocksLemmas
 mod PartLemmas

@@ -18,6 +18,6 @@ mod parts;
 mod span;
 
 pub use crate::accepted::put_accepted;
-pub use crate::emitting::emit;
+pub use crate::emitting::{Emitted, emit};
 pub use crate::listed::operations;
 pub use crate::parts::Parts;
