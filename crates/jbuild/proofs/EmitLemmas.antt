@@ -15,7 +15,7 @@ use Rattle.jlog.specs.Session.{IsFresh, attempted}
 use Rattle.jlog.proofs.Parts.{RunsBy}
 use Rattle.jlog.specs.declared.fault.SessionFault.{SessionFault}
 use Rattle.jlog.specs.declared.report.Place.{Place}
-use Rattle.jbuild.specs.Emitting.{IsEmitted}
+use Rattle.jbuild.specs.Emitting.{IsEmitted, paged_flash}
 
 number_or_zero : {E : Type 0} → Result ℕ E → ℕ
 number_or_zero (Ok n) = n
@@ -37,7 +37,7 @@ emitted_at : (page : Page) (e : Endian) (size blocks : ℕ) (base : List ℕ) (f
     → IsFresh e size blocks base from x → was ≡ false → mid ≡ before → Appends old between (front_of base from)
     → RunsBy (page_size page) e size blocks from x ops was n end y is between new mid now places stopped
     → Survives e size blocks base (steps_of_first (page_size page) x ops (attempted n is))
-    → IsEmitted page e size blocks base ops n places stopped (record { old = old; new = new; before = before; now = now })
+    → IsEmitted (paged_flash page e size blocks) base ops n places stopped (record { old = old; new = new; before = before; now = now })
 emitted_at page e size blocks base from x ops was n end y is old between new before mid now places stopped fresh whole same front runs survives = record {
   between = between;
   end = end;
@@ -58,11 +58,11 @@ pub emitted_by : (page p : Page) (e : Endian) (size s blocks b : ℕ) (base imag
     → IsFresh e s b image from x → was ≡ false → mid ≡ before → Appends old between (front_of base at)
     → RunsBy (page_size p) e s b from x ops was n end y is between new mid now places stopped
     → Survives e s b image (steps_of_first (page_size p) x ops (attempted n is))
-    → IsEmitted page e size blocks base ops n places stopped (record { old = old; new = new; before = before; now = now })
+    → IsEmitted (paged_flash page e size blocks) base ops n places stopped (record { old = old; new = new; before = before; now = now })
 emitted_by page p e size s blocks b base image from at x ops was n end y is old between new before mid now places stopped same_page same_size same_blocks same_base same_at fresh whole same front runs survives =
-    subst (λ (z : Page). IsEmitted z e size blocks base ops n places stopped (record { old = old; new = new; before = before; now = now })) same_page
-    (subst (λ (z : List ℕ). IsEmitted p e size blocks z ops n places stopped (record { old = old; new = new; before = before; now = now })) same_base
-    (subst (λ (z : ℕ). IsEmitted p e size z image ops n places stopped (record { old = old; new = new; before = before; now = now })) same_blocks
-    (subst (λ (z : ℕ). IsEmitted p e z b image ops n places stopped (record { old = old; new = new; before = before; now = now })) same_size
+    subst (λ (z : Page). IsEmitted (paged_flash z e size blocks) base ops n places stopped (record { old = old; new = new; before = before; now = now })) same_page
+    (subst (λ (z : List ℕ). IsEmitted (paged_flash p e size blocks) z ops n places stopped (record { old = old; new = new; before = before; now = now })) same_base
+    (subst (λ (z : ℕ). IsEmitted (paged_flash p e size z) image ops n places stopped (record { old = old; new = new; before = before; now = now })) same_blocks
+    (subst (λ (z : ℕ). IsEmitted (paged_flash p e z b) image ops n places stopped (record { old = old; new = new; before = before; now = now })) same_size
     (emitted_at p e s b image from x ops was n end y is old between new before mid now places stopped fresh whole same
     (subst (λ (z : List ℕ). Appends old between (front_of z from)) (sym same_base) (subst (λ (z : ℕ). Appends old between (front_of base z)) same_at front)) runs survives))))

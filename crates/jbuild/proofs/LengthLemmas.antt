@@ -5,7 +5,6 @@ use Rattle.std.proofs.lemmas.List.{length-replicate}
 use Rattle.std.specs.Prelude.{◌&&◌, ◌==◌, IsTrue, nat_le, nat_lt, slice_get, Ok, Err, IsOk, if◌then◌else◌}
 use Rattle.std.specs.Option.{option_map_or}
 use Rattle.jscan.specs.Image.{is_block_size, greatest_image}
-use Rattle.jsteps.specs.Planning.{page_size}
 use Rattle.jsteps.specs.Refusals.{steps_of_first}
 use Rattle.flashbase.specs.Bytes.{pad4_of, erased}
 use Rattle.flashbase.proofs.BytesLemmas.{le_pad4, pad4_below, pad4_words}
@@ -14,18 +13,20 @@ use Rattle.jnode.specs.declared.order.Endian.{Endian}
 use Rattle.jnode.proofs.WritingLemmas.{length-filled}
 use Rattle.jsteps.specs.declared.op.Op.{Op}
 use Rattle.jsteps.specs.declared.page.Page.{Page}
-use Rattle.jlog.specs.Headline.{is_flash_of, index_of_image, resume_address}
+use Rattle.jlog.specs.Headline.{is_flash_of, resume_address}
 use Rattle.jlog.specs.Output.{gap, output}
 use Rattle.jlog.specs.Places.{place_after, end_after, end_of_all, is_writable_flash, places}
 use Rattle.jmount.specs.Mount.{Mount}
 use Rattle.jlog.specs.Resuming.{resumes_by, page_fits}
 use Rattle.jlog.specs.declared.fault.SessionFault.TheVariants as session
 use Rattle.jlog.specs.Running.{places_of, shown_place, written}
+use Rattle.jlog.specs.Session.{Flash}
 use Rattle.jlog.specs.declared.report.Place.{Place}
 use Rattle.jlog.proofs.CodeLemmas.{flash_limits}
 use Rattle.jlog.proofs.PlaceLemmas.{block_floor, div_at, pad4_behind, times_words}
 use Rattle.jlog.proofs.SightLemmas.{marker_long}
 use Rattle.jbuild.specs.Accepted.{end_of_places}
+use Rattle.jbuild.specs.Emitting.{index_on, resume_on}
 use Rattle.jbuild.specs.Length.{LineTellsLength, PlacesTellLength, TellsLength}
 
 -- ---- one node
@@ -137,15 +138,15 @@ places_tell_length e size from nodes words room = omega (arith, ends size from n
 
 -- ---- what went out for operations
 
-pub tells_length : (page : Page) (e : Endian) (size blocks : ℕ) (base : List ℕ) (ops : List Op) (accepted : ℕ) (told : List Place) → IsTrue (is_flash_of size blocks base)
-    → told ≡ [] ++ places_of e size (resume_address e size blocks base) (index_of_image e size base) (steps_of_first (page_size page) (index_of_image e size base) ops accepted)
-    → TellsLength page e size blocks base ops accepted told
-tells_length page e size blocks base ops accepted told flash is =
-    let both = and_parts (is_writable_flash size blocks) (nat_le (length base) (blocks * size)) flash in
-    let least : 8192 ≤ size = (flash_limits size blocks both.0).least in
-    let from : ℕ = resume_address e size blocks base in
-    subst (λ (places : List Place). TellsLength page e size blocks base ops accepted places) (sym is)
-    (places_tell_length e size from (written e (index_of_image e size base) (steps_of_first (page_size page) (index_of_image e size base) ops accepted)) (sized size blocks both.0) (omega arith))
+pub tells_length : (flash : Flash) (base : List ℕ) (ops : List Op) (accepted : ℕ) (told : List Place) → IsTrue (is_flash_of flash.size flash.blocks base)
+    → told ≡ [] ++ places_of flash.order flash.size (resume_on flash base) (index_on flash base) (steps_of_first flash.page (index_on flash base) ops accepted)
+    → TellsLength flash base ops accepted told
+tells_length flash base ops accepted told fits is =
+    let both = and_parts (is_writable_flash flash.size flash.blocks) (nat_le (length base) (flash.blocks * flash.size)) fits in
+    let least : 8192 ≤ flash.size = (flash_limits flash.size flash.blocks both.0).least in
+    let index = index_on flash base in
+    subst (λ (places : List Place). TellsLength flash base ops accepted places) (sym is)
+    (places_tell_length flash.order flash.size (resume_on flash base) (written flash.order index (steps_of_first flash.page index ops accepted)) (sized flash.size flash.blocks both.0) (omega arith))
   where
     sized : (size blocks : ℕ) → IsTrue (is_writable_flash size blocks) → size % 4 ≡ 0
     sized size blocks ok =
@@ -156,7 +157,7 @@ tells_length page e size blocks base ops accepted told flash is =
         eqb-true _ _ both.1
 
 pub line_tells_length : LineTellsLength
-line_tells_length page e size blocks base ops accepted told sink flash emitted = tells_length page e size blocks base ops accepted told flash emitted.runs.2.wrote.places
+line_tells_length flash base ops accepted told sink fits emitted = tells_length flash base ops accepted told fits emitted.runs.2.wrote.places
 
 -- an image that is gone on from fits its flash
 pub goes_on_flash : (page : Page) (e : Endian) (size blocks : ℕ) (m : Mount) → IsOk (resumes_by page e size blocks m) → IsTrue (is_flash_of size blocks m.image)

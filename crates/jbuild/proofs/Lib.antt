@@ -1,5 +1,6 @@
 pub mod FrontLemmas
 pub mod EmitLemmas
 pub mod LengthLemmas
+pub mod BlocksLemmas
 mod PartLemmas
 mod ReadLemmas

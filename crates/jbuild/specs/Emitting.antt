@@ -14,7 +14,7 @@ use Rattle.jlog.specs.Headline.{index_of_image, resume_address, Survives}
 use Rattle.jlog.specs.Left.{front_of}
 use Rattle.jlog.specs.Resuming.{resumes_by}
 use Rattle.jlog.specs.Running.{log_at}
-use Rattle.jlog.specs.Session.{Runs, attempted}
+use Rattle.jlog.specs.Session.{Flash, Runs, attempted}
 use Rattle.jlog.specs.declared.fault.SessionFault.{SessionFault}
 use Rattle.jlog.specs.declared.fault.SessionFault.TheVariants as fault
 use Rattle.jlog.specs.declared.report.Place.{Place}
@@ -23,26 +23,39 @@ use Rattle.jlog.specs.declared.report.Place.{Place}
 abbrev pub front_before : Endian → ℕ → ℕ → List ℕ → List ℕ
 front_before e size blocks base = front_of base (resume_address e size blocks base)
 
+-- a flash of so many blocks of this size, that is written in this order, and in nodes of at most a
+-- page
+abbrev pub paged_flash : Page → Endian → ℕ → ℕ → Flash
+paged_flash page e size blocks =
+    record { order = e; size = size; blocks = blocks; page = page_size page }
+
+-- where writing goes on behind a base on a flash, and the index of the base
+abbrev pub resume_on : Flash → List ℕ → ℕ
+resume_on flash base = resume_address flash.order flash.size flash.blocks base
+
+abbrev pub index_on : Flash → List ℕ → Indexed
+index_on flash base = index_of_image flash.order flash.size base
+
 -- The base's bytes went out up to where writing goes on, and operations were run on it from there;
 -- so many were accepted, their nodes have these places, and this stopped them. What they did
 -- survives a stop of writing at any byte.
-pub record IsEmitted (page : Page) (e : Endian) (size blocks : ℕ) (base : List ℕ) (ops : List Op)
-    (accepted : ℕ) (places : List Place) (stopped : Option SessionFault) (sink : SinkChange)
-    : Type 0 where
+pub record IsEmitted (flash : Flash) (base : List ℕ) (ops : List Op) (accepted : ℕ)
+    (places : List Place) (stopped : Option SessionFault) (sink : SinkChange) : Type 0 where
   pub between : Option (List ℕ)
   pub end : ℕ
   pub index : Indexed
   pub broken : Bool
-  pub front : Appends sink.old between (front_before e size blocks base)
-  pub runs : Runs (record { order = e; size = size; blocks = blocks; page = page_size page })
+  pub front : Appends sink.old between
+      (front_before flash.order flash.size flash.blocks base)
+  pub runs : Runs flash
       (record {
-        log = log_at (resume_address e size blocks base) (index_of_image e size base) [];
+        log = log_at (resume_on flash base) (index_on flash base) [];
         broken = false;
       })
       ops accepted (record { log = log_at end index places; broken = broken })
       (record sink { old = between }) stopped
-  pub survives : Survives e size blocks base
-      (steps_of_first (page_size page) (index_of_image e size base) ops (attempted accepted broken))
+  pub survives : Survives flash.order flash.size flash.blocks base
+      (steps_of_first flash.page (index_on flash base) ops (attempted accepted broken))
 
 -- Nothing was run: only a beginning of the base's bytes went out, or all of them and then memory
 -- ran out; or the image is not gone on from, and nothing went out.

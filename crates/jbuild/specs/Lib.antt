@@ -4,3 +4,4 @@ pub mod Parts
 pub mod Emitting
 pub mod Accepted
 pub mod Length
+pub mod Blocks

@@ -1,11 +1,13 @@
 //! What goes out for a base and operations on it.
 
-ghost use Rattle.std.specs.Prelude.{◌≡◌, None, Err, IfOk, IfErr, OnOk, IsOk};
+ghost use Rattle.std.specs.Prelude.{◌≡◌, ◌≢◌, ◌<◌, [], None, Err, IfOk, IfErr, OnOk, OnErr, IsOk, length};
 ghost use Rattle.flashbase.specs.Sinks.{PutsTo, change_of};
 ghost use Rattle.jmount.specs.Mounts.{IsMountOf};
 ghost use Rattle.jlog.specs.Left.{front_of};
 ghost use Rattle.jlog.specs.Resuming.{resumes_by};
-ghost use Rattle.jbuild.specs.Emitting.{IsEmitted, IsNotEmitted};
+ghost use Rattle.jlog.specs.View.{flash_of_log, state_with};
+ghost use Rattle.jbuild.specs.Blocks.{IsFull, TellsRefused, TellsRefusedOn};
+ghost use Rattle.jbuild.specs.Emitting.{IsEmitted, IsNotEmitted, paged_flash};
 ghost use Rattle.jbuild.specs.Length.{TellsLength};
 
 use flashbase::{PutFault, Sink, put_all};
@@ -14,7 +16,16 @@ use jmount::Mounted;
 use jnode::Order;
 use jscan::Geometry;
 use jsteps::{Op, Page};
-use std::alloc::Global;
+use std::alloc::{AllocError, Global};
+
+/// What a run of operations on an image did.
+#[derive(Drop)]
+pub struct Emitted {
+    pub report: RunReport,
+    /// Where the run stopped at `Full`: the least number of blocks that hold the operation that was
+    /// refused, and nothing where the greatest flash does not hold it. Nothing where it did not.
+    pub blocks: Result<Option<u32>, AllocError>,
+}
 
 /// Puts a base's bytes up to an address, and erased flash for those that it lacks.
 fn put_front<S: Sink>(sink: &mut S, base: &[u8], from: usize) -> Result<(), PutFault>
@@ -27,10 +38,34 @@ fn put_front<S: Sink>(sink: &mut S, base: &[u8], from: usize) -> Result<(), PutF
     put_erased(sink, from - base.len())
 }
 
+/// The least number of blocks that hold the operation at which a run stopped for want of room, if
+/// it did and they can.
+fn blocks_for_refused<E: Order, S: Sink>(
+    alloc: Global,
+    session: &Session<'_, E, S>,
+    ops: &[Op<'_>],
+    report: &RunReport,
+) -> Result<Option<u32>, AllocError>
+    requires { report.now.stopped ≢ None → report.now.accepted < length ops.now }
+    ensures blocks { IfOk result (TellsRefused (flash_of_log session.now)
+        (state_with session.now []) ops.now report.now.accepted report.now.stopped) }
+    ensures memory { OnErr result (IsFull report.now.stopped) }
+{
+    match report.stopped {
+        Some(SessionFault::Full { .. }) => {
+            match session.blocks_for(alloc, &ops[report.accepted]) {
+                Ok(blocks) => Ok(blocks),
+                Err(_) => Err(AllocError),
+            }
+        }
+        _ => Ok(None),
+    }
+}
+
 /// Puts a mounted image's bytes up to where writing goes on, erased flash for those that it lacks,
 /// and then runs operations on it, with bytes cut where a page of this size of a file ends. Answers
-/// the sink and what the run did. It is in `E`'s order and of the geometry that the image was
-/// mounted with.
+/// the sink, what the run did, and how many blocks would hold an operation that was refused for want
+/// of room. It is in `E`'s order and of the geometry that the image was mounted with.
 ///
 /// # Errors
 /// Nothing was run, and the sink is handed back. `ReadOnly` and `Geometry` as
@@ -44,17 +79,24 @@ pub fn emit<E: Order, S: Sink>(
     page: Page,
     ops: &[Op<'_>],
     mut sink: S,
-) -> Result<(S, RunReport), (SessionFault, S)>
+) -> Result<(S, Emitted), (SessionFault, S)>
     requires { IsMountOf E.order geometry.block mounted.now }
     ensures resumes { OnOk result
         (IsOk (resumes_by page E.order geometry.block blocks mounted.now)) }
-    ensures emitted { IfOk result (λ done. IsEmitted page E.order geometry.block blocks
-        mounted.now.image ops.now done.1.accepted done.1.places.items done.1.stopped
+    ensures emitted { IfOk result (λ done. IsEmitted
+        (paged_flash page E.order geometry.block blocks) mounted.now.image ops.now
+        done.1.report.accepted done.1.report.places.items done.1.report.stopped
         (change_of S.Sink sink done.0)) }
     // The places end where what went out for all operations does.
-    ensures long { IfOk result (λ done. done.1.stopped ≡ None
-        → TellsLength page E.order geometry.block blocks mounted.now.image ops.now done.1.accepted
-        done.1.places.items) }
+    ensures long { IfOk result (λ done. done.1.report.stopped ≡ None
+        → TellsLength (paged_flash page E.order geometry.block blocks) mounted.now.image ops.now
+        done.1.report.accepted done.1.report.places.items) }
+    // What would hold the operation that was refused for want of room, from where the run ended.
+    ensures blocks { IfOk result (λ done. IfOk done.1.blocks (TellsRefusedOn
+        (paged_flash page E.order geometry.block blocks) mounted.now.image ops.now
+        done.1.report.accepted done.1.report.stopped)) }
+    ensures memory { IfOk result
+        (λ done. OnErr done.1.blocks (IsFull done.1.report.stopped)) }
     ensures refused { IfErr result (λ refused. IsNotEmitted page E.order geometry.block blocks
         mounted.now
         (change_of S.Sink sink refused.1)
@@ -81,5 +123,6 @@ pub fn emit<E: Order, S: Sink>(
         Err(refused) => return Err(refused),
     };
     let report = session.run(alloc, ops);
-    Ok((session.finish(), report))
+    let blocks = blocks_for_refused(alloc, &session, ops, &report);
+    Ok((session.finish(), Emitted { report, blocks }))
 }

@@ -3,12 +3,14 @@ use Rattle.jlog.specs.Resuming.{resumes_at, resumes_by}
 use Rattle.std.proofs.Common.{List, ℕ}
 use Rattle.std.specs.Io.KnownBytes.{Appends}
 use Rattle.jsteps.specs.Planning.{page_size}
-use Rattle.jlog.proofs.Parts.{RunsBy}
+use Rattle.jlog.proofs.Parts.{RunsBy, flash_by, state_by}
 use Rattle.jlog.specs.Left.{front_of}
 use Rattle.std.specs.Prelude.{Option, IsOk}
 use Rattle.jlog.specs.declared.fault.SessionFault.{SessionFault}
-use Rattle.jbuild.specs.Emitting.{IsEmitted}
+use Rattle.jbuild.specs.Emitting.{IsEmitted, paged_flash}
 use Rattle.jbuild.proofs.LengthLemmas.{goes_on_flash, line_tells_length}
+use Rattle.jbuild.proofs.BlocksLemmas.{if_told, stopped_within, tells_after}
+use Rattle.jbuild.specs.Blocks.{TellsRefused, TellsRefusedOn}
 use Rattle.jbuild.proofs.EmitLemmas.{emitted_by, puts_all, same_number}
 use Rattle.jbuild.proofs.emitting.emit.Goals as goal
 
@@ -41,7 +43,25 @@ returns-clause-long g c = λ all.
     let a = c.args in
     let r = c.run-report.result in
     let resumes : IsOk (resumes_by a.page e a.geometry.block a.blocks a.mounted.now) = search rules in
-    line_tells_length a.page e a.geometry.block a.blocks a.mounted.now.image a.ops.now r.accepted r.places.items
+    line_tells_length (paged_flash a.page e a.geometry.block a.blocks) a.mounted.now.image a.ops.now r.accepted r.places.items
     (record { old = g.S.Sink.taken a.sink; new = g.S.Sink.taken c.finish.result; before = g.S.Sink.failures a.sink; now = g.S.Sink.failures c.finish.result })
     (goes_on_flash a.page e a.geometry.block a.blocks a.mounted.now resumes)
-    (subst (λ (s : Option SessionFault). IsEmitted a.page e a.geometry.block a.blocks a.mounted.now.image a.ops.now r.accepted r.places.items s (record { old = g.S.Sink.taken a.sink; new = g.S.Sink.taken c.finish.result; before = g.S.Sink.failures a.sink; now = g.S.Sink.failures c.finish.result })) all (returns-clause-emitted g c))
+    (subst (λ (s : Option SessionFault). IsEmitted (paged_flash a.page e a.geometry.block a.blocks) a.mounted.now.image a.ops.now r.accepted r.places.items s (record { old = g.S.Sink.taken a.sink; new = g.S.Sink.taken c.finish.result; before = g.S.Sink.failures a.sink; now = g.S.Sink.failures c.finish.result })) all (returns-clause-emitted g c))
+
+pub blocks_for_refused-blocks-requires : goal.blocks_for_refused-blocks-requires
+blocks_for_refused-blocks-requires g c = stopped_within _ _ _ _ _ _ _ c.run-report.ensures.runs
+
+pub returns-clause-blocks : goal.returns-clause-blocks
+returns-clause-blocks g c =
+    let e = g.E.Order.order in
+    let a = c.args in
+    let s = c.in-Ok-resume_or_return.session in
+    let t = c.run-report.new.self in
+    let r = c.run-report.result in
+    let resumed = c.in-Ok-resume_or_return.ensures in
+    let ran = c.run-report.ensures in
+    let told = λ (blocks : Option ℕ). TellsRefused (flash_by (page_size t.page) e t.block t.blocks) (state_by t.cursor t.index t.broken []) a.ops.now r.accepted r.stopped blocks in
+    let on = λ (blocks : Option ℕ). TellsRefusedOn (paged_flash a.page e a.geometry.block a.blocks) a.mounted.now.image a.ops.now r.accepted r.stopped blocks in
+    if_told told on c.blocks_for_refused-blocks.result (λ blocks is. tells_after a.page s.page t.page e a.geometry.block s.block t.block a.blocks s.blocks t.blocks a.mounted.now.image s.base.now s.cursor s.index a.ops.now s.broken r.accepted t.cursor t.index t.broken
+    (g.S.Sink.taken s.sink) (g.S.Sink.taken t.sink) (g.S.Sink.failures s.sink) (g.S.Sink.failures t.sink) r.places.items r.stopped blocks
+    resumed.page resumed.block resumed.blocks ran.page ran.block ran.blocks resumed.base resumed.resumed resumed.whole ran.runs is) c.blocks_for_refused-blocks.ensures.blocks
