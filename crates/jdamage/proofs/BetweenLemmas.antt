@@ -1,17 +1,31 @@
 -- One more element between others: which is the one of highest version.
-use Rattle.std.proofs.Common.{◌≡◌, ℕ, ◌<◌, ◌≤◌, Bool, true, false, cond, List, [], ◌∷◌, ◌++◌, length, get_or, map, Option, Some, None, refl, ap, sym, ◌∙◌, subst, inl, inr, ⊎_elim, arith}
-use Rattle.std.specs.Prelude.{◌⊎◌, Contains, nat_lt, max, ◌==◌, is_some}
-use Rattle.std.proofs.lemmas.Bool.{ltb-true, ltb-false, eq-eqb, eqb-true, eqb-false, false≢true, true≢false}
+use Rattle.std.proofs.Common.{◌≡◌, ℕ, ◌<◌, ◌≤◌, Bool, true, false, cond, List, [], ◌∷◌, ◌++◌, length, get_or, Option, Some, None, refl, ap, sym, ◌∙◌, subst, inl, inr, ⊎_elim, arith}
+use Rattle.std.specs.Prelude.{◌⊎◌, Contains, nat_lt, ◌==◌}
+use Rattle.std.proofs.lemmas.Bool.{ltb-true, ltb-false, eqb-true, eqb-false, false≢true, true≢false}
 use Rattle.std.proofs.lemmas.Bool.Decides.{nat_tests}
-use Rattle.std.proofs.lemmas.Option.{same_Some}
 use Rattle.std.proofs.lemmas.Grind.{same_number_lists}
 use Rattle.std.proofs.lemmas.List.Elements.{Contains-append_left, Contains-append_right, Contains-append_cases}
 use Rattle.flashbase.specs.Lists.{newest, higher_of}
-use Rattle.flashbase.proofs.ListLemmas.{version_there, version-newest, greatest-cons, newest_is_newest, newest_of_none}
-use Rattle.flashbase.proofs.MemberLemmas.{Contains-none, Contains-cases}
+use Rattle.flashbase.proofs.ListLemmas.{version_there, newest_is_newest, newest_of_none}
+use Rattle.flashbase.proofs.MemberLemmas.{Contains-none, Contains-here, Contains-there, Contains-cases}
 use Rattle.jnode.specs.declared.node.Fill.{Fill}
 use Rattle.jnode.specs.declared.node.Fill.TheVariants as fill
 use Rattle.jnode.specs.declared.node.InodeNode.{InodeNode}
+
+-- an element of the list with it is that one, or is there without it
+pub cases_between : {X : Type 0} (a b : List X) (x y : X) → Contains (a ++ x ∷ b) y → (x ≡ y) ⊎ Contains (a ++ b) y
+cases_between a b x y there =
+    ⊎_elim
+    (λ early. inr (Contains-append_left a b y early))
+    (λ late. ⊎_elim (λ here. inl here) (λ after. inr (Contains-append_right a b y after)) (Contains-cases x b y late))
+    (Contains-append_cases a (x ∷ b) y there)
+
+pub in_between : {X : Type 0} (a b : List X) (x y : X) → Contains (a ++ b) y → Contains (a ++ x ∷ b) y
+in_between a b x y there =
+    ⊎_elim
+    (λ early. Contains-append_left a (x ∷ b) y early)
+    (λ late. Contains-append_right a (x ∷ b) y (Contains-there x b y late))
+    (Contains-append_cases a b y there)
 
 module _ {X : Type 0} (version : X → ℕ) (x : X) where
   -- with it nothing changes, or it is the newest: those before it are lower, and none is higher
@@ -75,6 +89,23 @@ module _ {X : Type 0} (version : X → ℕ) (x : X) where
           (λ (before : Contains front y). absurd (let less = lower y before in omega (arith, less, above, most)))
           (λ (after : Contains back y). is ∙ ap Some (sym (same y after (omega (arith, below, above, most)))) ∙ sym e)
           (Contains-append_cases front back y found.0)
+
+  -- and it is the newest where all others are lower
+  pub newest_between : (front back : List X) → ((y : X) → Contains (front ++ back) y → version y < version x) → newest version (front ++ x ∷ back) ≡ Some x
+  newest_between front back lower = by (newest version (front ++ x ∷ back)) refl
+    where
+      itself : Contains (front ++ x ∷ back) x
+      itself = Contains-append_right front (x ∷ back) x (Contains-here x back)
+
+      by : (new : Option X) → newest version (front ++ x ∷ back) ≡ new → newest version (front ++ x ∷ back) ≡ Some x
+      by None e = absurd (Contains-none x (subst (λ (xs : List X). Contains xs x) (newest_of_none (front ++ x ∷ back) version e) itself))
+      by (Some y) e =
+          let is = newest_is_newest (front ++ x ∷ back) version y e in
+          let above : version x ≤ version y = is.1 x itself in
+          ⊎_elim
+          (λ (here : x ≡ y). e ∙ ap Some (sym here))
+          (λ other. absurd (let less = lower y other in omega (arith, less, above)))
+          (cases_between front back x y is.0)
 
 -- ---- nodes that cannot be told apart are one
 

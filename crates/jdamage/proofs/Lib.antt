@@ -10,3 +10,5 @@ pub mod HiddenLemmas
 pub mod BetweenLemmas
 pub mod WithoutLemmas
 pub mod StateWithoutLemmas
+pub mod ImageWithoutLemmas
+pub mod WouldChangeLemmas

@@ -1,41 +1,27 @@
 -- Why a whole file system is the same without a node that hides nothing.
-use Rattle.std.proofs.Common.{◌≡◌, ℕ, ◌+◌, ◌<◌, ◌≤◌, zero, suc, Bool, true, false, cond, List, [], ◌∷◌, ◌++◌, length, map, Option, Some, refl, ap, sym, ◌∙◌, subst, inl, inr, ⊎_elim, arith}
-use Rattle.std.specs.Prelude.{◌⊎◌, Contains, filter, ◌==◌}
+use Rattle.std.proofs.Common.{◌≡◌, ℕ, ◌+◌, ◌<◌, ◌≤◌, Bool, true, false, cond, List, [], ◌∷◌, ◌++◌, length, map, Some, refl, ap, sym, ◌∙◌, subst, ⊎_elim, arith}
+use Rattle.std.specs.Prelude.{Contains, filter, ◌==◌}
 use Rattle.std.specs.List.{flat_map}
 use Rattle.std.proofs.lemmas.Bool.{eq-eqb, eqb-true}
 use Rattle.std.proofs.lemmas.Grind.{flat_map-append}
 use Rattle.std.proofs.lemmas.List.{map-append}
-use Rattle.std.proofs.lemmas.List.Elements.{filter-append, filter_map-append, Contains-append_left, Contains-append_right, Contains-append_cases}
+use Rattle.std.proofs.lemmas.List.Elements.{filter-append, filter_map-append}
 use Rattle.flashbase.specs.Lists.{greatest}
 use Rattle.flashbase.proofs.ListLemmas.{greatest_is_greatest}
-use Rattle.flashbase.proofs.MemberLemmas.{Contains-map, Contains-filter, Contains-flat_map, Contains-here, Contains-there, Contains-cases}
+use Rattle.flashbase.proofs.MemberLemmas.{Contains-map, Contains-filter, Contains-flat_map, Contains-here, Contains-there}
 use Rattle.jnode.specs.declared.node.InodeNode.{InodeNode}
 use Rattle.jnode.specs.declared.node.NodeRef.{NodeRef}
 use Rattle.jnode.specs.declared.node.NodeRef.TheVariants.{Inode}
 use Rattle.jname.specs.Live.{live_names}
 use Rattle.jmount.specs.Laws.{SameElements}
-use Rattle.jmount.specs.StateOf.{inode_in, entry_in, inodes, entries, object_from, object_of, objects_of, numbers_in, next_of, owner, version_of, top, tops_of, state_of}
+use Rattle.jmount.specs.StateOf.{inode_in, entry_in, inodes, entries, object_from, object_of, objects_of, numbers_in, next_of, owner, version_of, top, tops_of}
 use Rattle.jmount.proofs.ClashLemmas.{from_inodes}
 use Rattle.jmount.proofs.SameLemmas.{same_cons, tabled-same}
 use Rattle.jdamage.specs.Laws.{HidesNothingBetween, StateIsSameWithout}
+use Rattle.jdamage.proofs.BetweenLemmas.{cases_between, in_between}
 use Rattle.jdamage.proofs.WithoutLemmas.{IsNotOlder, newer_one, object_is_same_without}
 
 -- ---- one element more between others
-
--- an element of the list with it is that one, or is there without it
-cases_between : {X : Type 0} (a b : List X) (x y : X) → Contains (a ++ x ∷ b) y → (x ≡ y) ⊎ Contains (a ++ b) y
-cases_between a b x y there =
-    ⊎_elim
-    (λ early. inr (Contains-append_left a b y early))
-    (λ late. ⊎_elim (λ here. inl here) (λ after. inr (Contains-append_right a b y after)) (Contains-cases x b y late))
-    (Contains-append_cases a (x ∷ b) y there)
-
-pub in_between : {X : Type 0} (a b : List X) (x y : X) → Contains (a ++ b) y → Contains (a ++ x ∷ b) y
-in_between a b x y there =
-    ⊎_elim
-    (λ early. Contains-append_left a (x ∷ b) y early)
-    (λ late. Contains-append_right a (x ∷ b) y (Contains-there x b y late))
-    (Contains-append_cases a b y there)
 
 same_between : {X : Type 0} (a b : List X) (x : X) → Contains (a ++ b) x → SameElements (a ++ x ∷ b) (a ++ b)
 same_between a b x there y = (

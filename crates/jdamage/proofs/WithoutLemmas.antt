@@ -1,9 +1,8 @@
 -- Why an object is the same without a node that hides nothing.
-use Rattle.std.proofs.Common.{◌≡◌, ℕ, ◌+◌, ◌<◌, ◌≤◌, Bool, true, false, ◌&&◌, cond, List, [], ◌∷◌, ◌++◌, length, map, get_or, Option, Some, None, refl, ap, sym, ◌∙◌, subst, inl, inr, ⊎_elim, min, arith}
+use Rattle.std.proofs.Common.{◌≡◌, ℕ, ◌+◌, ◌<◌, ◌≤◌, Bool, true, false, ◌&&◌, cond, List, ◌∷◌, ◌++◌, length, map, get_or, Option, Some, None, refl, ap, sym, ◌∙◌, subst, ⊎_elim, min, arith}
 use Rattle.std.specs.Prelude.{Contains, filter, option_map, nat_lt, nat_le, ◌==◌, ◌||◌}
 use Rattle.std.specs.List.{list_any}
-use Rattle.std.proofs.lemmas.Bool.{and_parts, eq-eqb, eqb-true, leb-true, ltb-false, ltb-true, false≢true, true≢false}
-use Rattle.std.proofs.lemmas.Bool.Decides.{nat_tests}
+use Rattle.std.proofs.lemmas.Bool.{and_parts, eq-eqb, eqb-true, leb-true, ltb-true, false≢true}
 use Rattle.std.proofs.lemmas.Grind.{same_number_lists}
 use Rattle.std.proofs.lemmas.List.{map-append}
 use Rattle.std.proofs.lemmas.List.Elements.{filter-append, Contains-append_left, Contains-append_right, Contains-append_cases}
@@ -11,9 +10,10 @@ use Rattle.std.proofs.lemmas.List.Folds.{Any-from_list_any}
 use Rattle.flashbase.specs.Lists.{newest, each_below}
 use Rattle.flashbase.proofs.ListLemmas.{length-each_below, get_or-each_below}
 use Rattle.flashbase.proofs.MemberLemmas.{Contains-map, Contains-map_from, Contains-filter, Contains-filter_from, Contains-here, Contains-there}
+use Rattle.jnode.specs.Writing.{HoldsRange}
 use Rattle.jnode.specs.declared.node.InodeNode.{InodeNode}
 use Rattle.jfrag.specs.declared.piece.Piece.{Piece}
-use Rattle.jfrag.specs.Pieces.{covers, byte_of, end_of}
+use Rattle.jfrag.specs.Pieces.{covers, byte_of}
 use Rattle.jfrag.specs.Overlays.{visible, byte_at}
 use Rattle.jmount.specs.Shown.{shown}
 use Rattle.jmount.specs.StateOf.{versions_of, latest, piece_of, contents, object_by, object_from, object_of, or_root, with_bytes}
@@ -29,7 +29,7 @@ use Rattle.jdamage.proofs.CoverageLemmas.{lacks, not_below}
 -- ---- what the tests find
 
 -- a stretch that passes a test is that of a node
-found : (p : Stretch → Bool) (nodes : List InodeNode) → list_any p (map stretch_of nodes) ≡ true → (node : InodeNode) × Contains nodes node × (p (stretch_of node) ≡ true)
+pub found : (p : Stretch → Bool) (nodes : List InodeNode) → list_any p (map stretch_of nodes) ≡ true → (node : InodeNode) × Contains nodes node × (p (stretch_of node) ≡ true)
 found p nodes some = by (Any-from_list_any p (map stretch_of nodes) some)
   where
     by : (k : ℕ) × (s : Stretch) × (k < length (map stretch_of nodes)) × (get_or (map stretch_of nodes) k s ≡ s) × (p s ≡ true) → (node : InodeNode) × Contains nodes node × (p (stretch_of node) ≡ true)
@@ -42,17 +42,20 @@ pub record IsNotOlder (lost node : InodeNode) : Type 0 where
   pub number : node.ino ≡ lost.ino
   pub high : lost.version ≤ node.version
 
-not_older : (lost node : InodeNode) → is_not_older (stretch_of lost) (stretch_of node) ≡ true → IsNotOlder lost node
+pub not_older : (lost node : InodeNode) → is_not_older (stretch_of lost) (stretch_of node) ≡ true → IsNotOlder lost node
 not_older lost node is =
     let parts = and_parts (node.ino == lost.ino) (nat_le lost.version node.version) is in
     record { number = eqb-true node.ino lost.ino parts.0; high = leb-true lost.version node.version parts.1 }
 
 -- a node covers the places of its stretch
+pub covers_range : (node : InodeNode) → HoldsRange node.fill node.dsize → (place : ℕ) → covers place (piece_of node) ≡ has_place place (stretch_of node)
+covers_range node holds place = ap (λ (end : ℕ). nat_le node.offset place && nat_lt place end) (piece_is_range node holds)
+
 covers_stretch : (nodes : List InodeNode) (node : InodeNode) → HoldRanges nodes → Contains nodes node → (place : ℕ) → covers place (piece_of node) ≡ has_place place (stretch_of node)
-covers_stretch nodes node ranges there place = ap (λ (end : ℕ). nat_le node.offset place && nat_lt place end) (piece_is_range node (ranges node there))
+covers_stretch nodes node ranges there place = covers_range node (ranges node there) place
 
 -- each place of a range that is replaced up to an end
-replaced_at : (others : List Stretch) (lost : Stretch) (end place : ℕ) → is_replaced_below others lost end ≡ true → lost.from ≤ place → place < end
+pub replaced_at : (others : List Stretch) (lost : Stretch) (end place : ℕ) → is_replaced_below others lost end ≡ true → lost.from ≤ place → place < end
     → list_any (λ s. is_not_older lost s && has_place place s) others ≡ true
 unfolding is_replaced_below is_replaced
 replaced_at others lost end place all from less = by (is_replaced others lost place) refl
@@ -68,6 +71,20 @@ each_same n f g same =
 
 -- ---- the versions of its object
 
+abbrev pub shown_at : ℕ → List InodeNode → List Piece
+shown_at place nodes = filter (covers place) (map piece_of nodes)
+
+pub shown-append : (place : ℕ) (a b : List InodeNode) → shown_at place (a ++ b) ≡ shown_at place a ++ shown_at place b
+shown-append place a b = ap (filter (covers place)) (map-append piece_of a b) ∙ filter-append (covers place) (map piece_of a) (map piece_of b)
+
+abbrev pub piece_version : Piece → ℕ
+piece_version piece = piece.version
+
+pub split_versions : (front back : List InodeNode) (lost : InodeNode) → versions_of (front ++ lost ∷ back) lost.ino ≡ versions_of front lost.ino ++ lost ∷ versions_of back lost.ino
+split_versions front back lost =
+    filter-append (λ node. lost.ino == node.ino) front (lost ∷ back)
+    ∙ ap (λ (b : Bool). versions_of front lost.ino ++ cond b (lost ∷ versions_of back lost.ino) (versions_of back lost.ino)) (eq-eqb lost.ino lost.ino refl)
+
 module _ (front back : List InodeNode) (lost : InodeNode) (h : HidesNothingBetween front back lost) where
   abbrev others : List InodeNode
   others = front ++ back
@@ -82,9 +99,7 @@ module _ (front back : List InodeNode) (lost : InodeNode) (h : HidesNothingBetwe
   split_others = filter-append (λ node. lost.ino == node.ino) front back
 
   split_all : versions_of (front ++ lost ∷ back) lost.ino ≡ before ++ lost ∷ after
-  split_all =
-      filter-append (λ node. lost.ino == node.ino) front (lost ∷ back)
-      ∙ ap (λ (b : Bool). before ++ cond b (lost ∷ after) after) (eq-eqb lost.ino lost.ino refl)
+  split_all = split_versions front back lost
 
   in_all : (node : InodeNode) → Contains others node → Contains (front ++ lost ∷ back) node
   in_all node there =
@@ -124,28 +139,19 @@ module _ (front back : List InodeNode) (lost : InodeNode) (h : HidesNothingBetwe
 
   -- ---- bytes
 
-  abbrev shown_at : ℕ → List InodeNode → List Piece
-  shown_at place nodes = filter (covers place) (map piece_of nodes)
-
-  shown-append : (place : ℕ) (a b : List InodeNode) → shown_at place (a ++ b) ≡ shown_at place a ++ shown_at place b
-  shown-append place a b = ap (filter (covers place)) (map-append piece_of a b) ∙ filter-append (covers place) (map piece_of a) (map piece_of b)
-
-  abbrev version : Piece → ℕ
-  version piece = piece.version
-
   same_piece : (place : ℕ) (piece : Piece) → Contains (shown_at place after) piece → piece.version ≡ lost.version → piece ≡ piece_of lost
   same_piece place piece there same =
       let covering = Contains-filter_from (covers place) (map piece_of after) piece there in
       let node = Contains-map_from piece_of after piece covering.0 in
-      sym node.2 ∙ ap piece_of (same_after node.0 node.1 (ap version node.2 ∙ same))
+      sym node.2 ∙ ap piece_of (same_after node.0 node.1 (ap piece_version node.2 ∙ same))
 
   -- the piece of highest version that covers a place is the same, where the place is within the size
-  same_at : (place : ℕ) → place < size_made others lost.ino → newest version (shown_at place (before ++ lost ∷ after)) ≡ newest version (shown_at place (before ++ after))
+  same_at : (place : ℕ) → place < size_made others lost.ino → newest piece_version (shown_at place (before ++ lost ∷ after)) ≡ newest piece_version (shown_at place (before ++ after))
   same_at place within =
-      ap (newest version) (shown-append place before (lost ∷ after)) ∙ by (covers place (piece_of lost)) refl ∙ sym (ap (newest version) (shown-append place before after))
+      ap (newest piece_version) (shown-append place before (lost ∷ after)) ∙ by (covers place (piece_of lost)) refl ∙ sym (ap (newest piece_version) (shown-append place before after))
     where
-      by : (b : Bool) → covers place (piece_of lost) ≡ b → newest version (shown_at place before ++ cond (covers place (piece_of lost)) (piece_of lost ∷ shown_at place after) (shown_at place after)) ≡ newest version (shown_at place before ++ shown_at place after)
-      by false e = ap (λ (b : Bool). newest version (shown_at place before ++ cond b (piece_of lost ∷ shown_at place after) (shown_at place after))) e
+      by : (b : Bool) → covers place (piece_of lost) ≡ b → newest piece_version (shown_at place before ++ cond (covers place (piece_of lost)) (piece_of lost ∷ shown_at place after) (shown_at place after)) ≡ newest piece_version (shown_at place before ++ shown_at place after)
+      by false e = ap (λ (b : Bool). newest piece_version (shown_at place before ++ cond b (piece_of lost ∷ shown_at place after) (shown_at place after))) e
       by true e =
           let over : has_place place (stretch_of lost) ≡ true = sym (covers_stretch (front ++ lost ∷ back) lost h.ranges itself place) ∙ e in
           let parts = and_parts (nat_le lost.offset place) (nat_lt place (lost.offset + lost.dsize)) over in
@@ -159,8 +165,8 @@ module _ (front back : List InodeNode) (lost : InodeNode) (h : HidesNothingBetwe
           let covering : covers place (piece_of one.0) ≡ true = covers_stretch others one.0 of_others one.1 place ∙ tests.1 in
           let there : Contains (shown_at place (before ++ after)) (piece_of one.0) =
           Contains-filter (covers place) (map piece_of (before ++ after)) (piece_of one.0) covering (Contains-map piece_of (before ++ after) one.0 (among one.0 one.1 newer)) in
-          ap (λ (b : Bool). newest version (shown_at place before ++ cond b (piece_of lost ∷ shown_at place after) (shown_at place after))) e
-          ∙ one_more_between version (piece_of lost) (shown_at place before) (shown_at place after) (piece_of one.0) (same_piece place) (subst (λ (ps : List Piece). Contains ps (piece_of one.0)) (shown-append place before after) there) newer.high
+          ap (λ (b : Bool). newest piece_version (shown_at place before ++ cond b (piece_of lost ∷ shown_at place after) (shown_at place after))) e
+          ∙ one_more_between piece_version (piece_of lost) (shown_at place before) (shown_at place after) (piece_of one.0) (same_piece place) (subst (λ (ps : List Piece). Contains ps (piece_of one.0)) (shown-append place before after) there) newer.high
 
   same_contents : (size : ℕ) → size ≤ size_made others lost.ino → contents (before ++ lost ∷ after) size ≡ contents (before ++ after) size
   same_contents size most =

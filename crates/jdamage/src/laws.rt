@@ -1,6 +1,6 @@
 //! Laws of what is told. Each function's contract is a law, and its body is empty.
 
-ghost use Rattle.jdamage.specs.Laws.{ObjectIsSameWithout, SoundHasNoLines, StateIsSameWithout};
+ghost use Rattle.jdamage.specs.Laws.{ImageIsSameWithout, ObjectIsSameWithout, ObjectWouldChange, SoundHasNoLines, StateIsSameWithout};
 
 /// Of an image without damaged nodes, whose names all lead to objects, nothing is told but the
 /// totals, and these are 0.
@@ -13,4 +13,11 @@ pub fn sound_has_no_lines()
 pub fn same_without()
     ensures object { ObjectIsSameWithout }
     ensures state { StateIsSameWithout }
+    ensures image { ImageIsSameWithout }
+{}
+
+/// And a node of a version of its own that does not hide nothing may be missed: one of the same
+/// object, version and range would have changed the object.
+pub fn would_change()
+    ensures { ObjectWouldChange }
 {}
