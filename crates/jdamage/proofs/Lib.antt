@@ -7,3 +7,8 @@ pub mod NowhereLemmas
 pub mod WayLemmas
 pub mod SweepLemmas
 pub mod HiddenLemmas
+pub mod BetweenLemmas
+pub mod WithoutLemmas
+pub mod StateWithoutLemmas
+pub mod ImageWithoutLemmas
+pub mod WouldChangeLemmas

@@ -1,9 +1,23 @@
 //! Laws of what is told. Each function's contract is a law, and its body is empty.
 
-ghost use Rattle.jdamage.specs.Laws.{SoundHasNoLines};
+ghost use Rattle.jdamage.specs.Laws.{ImageIsSameWithout, ObjectIsSameWithout, ObjectWouldChange, SoundHasNoLines, StateIsSameWithout};
 
 /// Of an image without damaged nodes, whose names all lead to objects, nothing is told but the
 /// totals, and these are 0.
 pub fn sound_has_no_lines()
     ensures { SoundHasNoLines }
+{}
+
+/// A node that hides nothing beside others is not missed: the object that it is of is the same
+/// whether it stands between them or not, and so is the whole file system, whatever it said.
+pub fn same_without()
+    ensures object { ObjectIsSameWithout }
+    ensures state { StateIsSameWithout }
+    ensures image { ImageIsSameWithout }
+{}
+
+/// And a node of a version of its own that does not hide nothing may be missed: one of the same
+/// object, version and range would have changed the object.
+pub fn would_change()
+    ensures { ObjectWouldChange }
 {}
