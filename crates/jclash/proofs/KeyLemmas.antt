@@ -1,6 +1,6 @@
 -- What is known of the nodes above an address.
-use Rattle.std.proofs.Common.{◌≡◌, ◌≢◌, ℕ, ◌<◌, Bool, true, false, cond, List, ◌∷◌, refl, sym, ap, ap₂, subst, ◌∙◌, arith, Option, None, Some, inl, inr, ⊎_elim}
-use Rattle.std.specs.Prelude.{Contains, ◌⊎◌}
+use Rattle.std.proofs.Common.{◌≡◌, ◌≢◌, ℕ, ◌<◌, true, cond, List, ◌∷◌, refl, sym, ap, ap₂, subst, ◌∙◌, arith, Option, None, Some, ⊎_elim}
+use Rattle.std.specs.Prelude.{Contains}
 use Rattle.std.specs.Option.{option_or}
 use Rattle.std.specs.Cow.{cow_slice_items}
 use Rattle.std.specs.declared.cmp.Ordering.{Ordering}
@@ -13,8 +13,6 @@ use Rattle.std.proofs.lemmas.Map.Lookups.{exact_unsigned, exact_bytes}
 use Rattle.std.proofs.lemmas.Cmp.{nat_cmp_total, nat_list_cmp_total, tied_itself}
 use Rattle.jnode.specs.declared.node.NodeRef.{NodeRef}
 use Rattle.jnode.specs.declared.node.NodeRef.TheVariants.{Entry, Inode}
-use Rattle.jnode.specs.declared.node.Dirent.{Dirent}
-use Rattle.jnode.specs.declared.node.InodeNode.{InodeNode}
 use Rattle.jmount.specs.Clash.{NodesClash}
 use Rattle.jclash.specs.Parting.{AreByAddress, NoneClashesWith, IsHighestClash, IsClashAmong}
 use Rattle.jclash.specs.Keys.{NodeKey, IsKeyOf, node_key_cmp, TellsClash, KnowsNodes, KnowsOneMore}

@@ -1,6 +1,6 @@
 -- What stays of nodes of which some clash.
-use Rattle.std.proofs.Common.{◌≡◌, ◌≢◌, ℕ, zero, suc, drop, slice_index_or, ◌+◌, ◌-◌, ◌<◌, ◌≤◌, List, [], ◌∷◌, ◌++◌, map, length, refl, sym, ap, ap₂, subst, ◌∙◌, arith, Option, None, Some, inl, inr, ⊎_elim}
-use Rattle.std.specs.Prelude.{Contains, ◌⊎◌, reverse}
+use Rattle.std.proofs.Common.{◌≡◌, ℕ, zero, suc, drop, slice_index_or, ◌+◌, ◌-◌, ◌<◌, ◌≤◌, List, [], ◌∷◌, ◌++◌, length, refl, sym, ap, ap₂, subst, ◌∙◌, arith, Option, None, Some, inl, inr, ⊎_elim}
+use Rattle.std.specs.Prelude.{Contains, reverse}
 use Rattle.std.proofs.lemmas.List.{drop_more, reverse-append}
 use Rattle.flashbase.proofs.MemberLemmas.{Contains-none, Contains-here, Contains-there, Contains-cases}
 use Rattle.jnode.specs.declared.node.NodeRef.{NodeRef}
@@ -8,7 +8,7 @@ use Rattle.jnode.specs.declared.node.NodeRef.TheVariants.{Entry, Inode}
 use Rattle.jmount.specs.Clash.{NodesClash}
 use Rattle.jmount.proofs.ClashLemmas.{clashes_sym}
 use Rattle.jclash.specs.Parting.{AreByAddress, NoneClashesWith, IsHighestClash, IsClashAmong, Parts, PutsBehind}
-use Rattle.jclash.specs.Laws.{StayingDoNotClash, AllStayWithoutClash, OneParting, StayingAreOfNodes, NoneIsLost}
+use Rattle.jclash.specs.Laws.{StayingDoNotClash, AllStayWithoutClash, OneParting, NoneIsLost}
 use Rattle.jclash.specs.declared.parting.LeftOut.{LeftOut}
 
 -- ---- clashes

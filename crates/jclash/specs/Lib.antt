@@ -1,3 +1,4 @@
 pub mod Parting
+pub mod Lowest
 pub mod Keys
 pub mod Laws

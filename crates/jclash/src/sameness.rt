@@ -16,7 +16,7 @@ pub(crate) fn is_same(a: &NodeRef<'_>, b: &NodeRef<'_>) -> bool
     }
 }
 
-fn is_same_entry(a: &Dirent<'_>, b: &Dirent<'_>) -> bool
+pub(crate) fn is_same_entry(a: &Dirent<'_>, b: &Dirent<'_>) -> bool
     ensures { IsTrue result ↔ (a.now ≡ b.now) }
 {
     a.pino == b.pino
@@ -27,7 +27,7 @@ fn is_same_entry(a: &Dirent<'_>, b: &Dirent<'_>) -> bool
         && is_same_part(&a.name, &b.name)
 }
 
-fn is_same_inode(a: &InodeNode<'_>, b: &InodeNode<'_>) -> bool
+pub(crate) fn is_same_inode(a: &InodeNode<'_>, b: &InodeNode<'_>) -> bool
     ensures { IsTrue result ↔ (a.now ≡ b.now) }
 {
     a.ino == b.ino
@@ -54,7 +54,7 @@ fn is_same_fill(a: &Fill<'_>, b: &Fill<'_>) -> bool
     }
 }
 
-fn is_same_part(a: &Part<'_>, b: &Part<'_>) -> bool
+pub(crate) fn is_same_part(a: &Part<'_>, b: &Part<'_>) -> bool
     ensures { IsTrue result ↔ (a.now ≡ b.now) }
 {
     if a.len() != b.len() {

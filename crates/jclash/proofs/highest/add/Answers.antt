@@ -1,4 +1,4 @@
-use Rattle.std.proofs.Common.{rules, ◌≡◌, ℕ, Option, subst, sym}
+use Rattle.std.proofs.Common.{rules, ◌≡◌, Option, subst}
 use Rattle.std.specs.BTreeMap.{get}
 use Rattle.jclash.specs.Keys.{KnowsOneMore, node_key_cmp}
 use Rattle.jclash.specs.declared.highest.Highest.{Highest}

@@ -1,4 +1,4 @@
-use Rattle.std.proofs.Common.{ℕ, ◌≤◌, length, drop}
+use Rattle.std.proofs.Common.{◌≤◌, length, drop}
 use Rattle.std.specs.Prelude.{reverse}
 use Rattle.jclash.specs.Keys.{KnowsNodes}
 use Rattle.jclash.specs.Parting.{Parts}
