@@ -24,9 +24,7 @@ HEAD = re.compile(
 FUNCTION = re.compile(r"^ *pub fn (\w+)(?:<.*?>)?\((.*?)\)(?: ->|\n| \{|$)", re.M | re.S)
 
 # How many there are in a crate at most, of what is to have none.
-LIMITS = {
-    "jbuild": {"arguments": 1},
-}
+LIMITS = {}
 
 
 def text_of(path):

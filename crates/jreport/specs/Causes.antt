@@ -1,5 +1,5 @@
 -- Why a session was refused, or stopped, as far as it is known.
-use Rattle.std.specs.Prelude.{ℕ, ◌*◌, ◌%◌, ◌==◌, nat_lt, if◌then◌else◌, List, [], Option, Some, None, codes}
+use Rattle.std.specs.Prelude.{ℕ, ◌*◌, ◌%◌, ◌==◌, nat_lt, if◌then◌else◌, List, [], ◌++◌, Option, Some, None, codes, decimal}
 use Rattle.jscan.specs.Image.{greatest_image}
 use Rattle.jlog.specs.Resuming.{page_fits}
 use Rattle.jlog.specs.declared.fault.SessionFault.{SessionFault}
@@ -28,12 +28,18 @@ abbrev pub limit_cause : Option Limit → Cause
 limit_cause (Some limit) = causes.Limit limit
 limit_cause None = causes.Unknown
 
+abbrev pub blocks_cause : Option ℕ → Cause
+blocks_cause (Some blocks) = causes.Blocks blocks
+blocks_cause None = causes.Unknown
+
 -- Of a sink that failed the reason is the host's; of a flash that is not written, the first limit
--- that it does not keep.
-abbrev pub cause_of : Plan → SessionFault → Reason → Cause
-cause_of plan session.Sink reason = causes.Host reason
-cause_of plan session.Geometry reason = limit_cause (first_limit plan)
-cause_of plan _ reason = causes.Unknown
+-- that it does not keep; of a flash that is full, the blocks that the operation needs, where these
+-- are known.
+abbrev pub cause_of : Plan → SessionFault → Reason → Option ℕ → Cause
+cause_of plan session.Sink reason blocks = causes.Host reason
+cause_of plan session.Geometry reason blocks = limit_cause (first_limit plan)
+cause_of plan (session.Full needed free) reason blocks = blocks_cause blocks
+cause_of plan _ reason blocks = causes.Unknown
 
 -- what is said of a limit
 unfoldable pub limit_note : Limit → List ℕ
@@ -50,3 +56,5 @@ unfoldable pub cause_note : Cause → List ℕ
 cause_note causes.Unknown = []
 cause_note (causes.Host reason) = host_text reason
 cause_note (causes.Limit limit) = limit_note limit
+cause_note (causes.Blocks blocks) =
+    codes "the operation fits into a flash of " ++ decimal blocks ++ codes " blocks"

@@ -167,14 +167,20 @@ fn limit_note(limit: Limit) -> &'static [u8]
 
 /// Why a session was refused, or stopped.
 #[tactic(auto, unfolding(crate::specs::Causes::cause_note))]
-fn cause_note(cause: Cause) -> &'static [u8]
-    ensures text { result.now ≡ cause_note cause }
-    ensures short { length result.now ≤ 100 }
+fn push_cause(line: &mut LineBuffer, cause: Cause)
+    requires { line.old ≡ [] }
+    ensures text { line.new ≡ cause_note cause }
+    ensures short { length line.new ≤ 100 }
 {
     match cause {
-        Cause::Unknown => b"",
-        Cause::Host(reason) => host_text(reason),
-        Cause::Limit(limit) => limit_note(limit),
+        Cause::Unknown => {}
+        Cause::Host(reason) => line.push_text(host_text(reason)),
+        Cause::Limit(limit) => line.push_text(limit_note(limit)),
+        Cause::Blocks(blocks) => {
+            line.push_text(b"the operation fits into a flash of ");
+            line.push_decimal(u64::from(blocks));
+            line.push_text(b" blocks");
+        }
     }
 }
 
@@ -203,7 +209,7 @@ fn push_note(line: &mut LineBuffer, fault: &ProgramFault<'_>)
             line.push_text(b"--block takes a multiple of 4 from 4096 to 4194304");
         }
         ProgramFault::File(file) => push_file_note(line, file.reason),
-        ProgramFault::Session { cause, .. } => line.push_text(cause_note(cause)),
+        ProgramFault::Session { cause, .. } => push_cause(line, cause),
         _ => {}
     }
 }

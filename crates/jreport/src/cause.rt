@@ -35,6 +35,8 @@ pub enum Cause {
     Host(Reason),
     /// A flash that is written does not keep this.
     Limit(Limit),
+    /// The operation fits into a flash of so many blocks, and of no fewer.
+    Blocks(u32),
 }
 
 /// A flash that is to be written, and how many bytes the image on it has.
@@ -79,14 +81,18 @@ pub fn first_limit(plan: Plan) -> Option<Limit>
 }
 
 /// Why a session was refused, or stopped by this fault; `reason` is that of the file that is
-/// written.
-pub fn cause_of(plan: Plan, fault: SessionFault, reason: Reason) -> Cause
-    ensures { result ≡ cause_of plan fault reason }
+/// written, and `blocks` the least number of blocks that hold the operation, where that is known.
+pub fn cause_of(plan: Plan, fault: SessionFault, reason: Reason, blocks: Option<u32>) -> Cause
+    ensures { result ≡ cause_of plan fault reason blocks }
 {
     match fault {
         SessionFault::Sink => Cause::Host(reason),
         SessionFault::Geometry => match first_limit(plan) {
             Some(limit) => Cause::Limit(limit),
+            None => Cause::Unknown,
+        },
+        SessionFault::Full { .. } => match blocks {
+            Some(blocks) => Cause::Blocks(blocks),
             None => Cause::Unknown,
         },
         _ => Cause::Unknown,
