@@ -1,9 +1,12 @@
-//! Tests of `jclash` through its public call: rows of nodes, with those that stay and those that
-//! are left out by the rule, and not from what the call answers.
+//! Tests of `jclash` through its public calls: rows of nodes, with those that stay and those that
+//! are left out by the rule, and images with the other node of each clash, and not from what the
+//! calls answer.
 #![tactic(auto)]
 
 #[cfg(test)]
 mod checks;
+#[cfg(test)]
+mod others;
 #[cfg(test)]
 mod parts;
 #[cfg(test)]

@@ -39,7 +39,7 @@ fn entry(pino: u32, version: u32, ino: u32, name: Part<'static>) -> NodeRef<'sta
     })
 }
 
-fn made(node: Node) -> NodeRef<'static> {
+pub(crate) fn made(node: Node) -> NodeRef<'static> {
     match node {
         Node::Inode(ino, version, uid, data) => NodeRef::Inode(InodeNode {
             ino,

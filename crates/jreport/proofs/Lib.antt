@@ -9,6 +9,7 @@ pub mod PartPutLemmas
 pub mod WholeImageLemmas
 pub mod PathTextLemmas
 pub mod PutLemmas
+pub mod RefusalLemmas
 pub mod StreamLemmas
 pub mod ExtentLemmas
 pub mod VerdictLemmas

@@ -230,6 +230,7 @@ line_failed s w n name i names set program.NotRegular old new before now read pu
 line_failed s w n name i names set (program.NoSpace folder) old new before now read put = absurd put
 line_failed s w n name i names set (program.Data addr) old new before now read put = absurd put
 line_failed s w n name i names set (program.TooLong addr) old new before now read put = absurd put
+line_failed s w n name i names set (program.Clash addr other) old new before now read put = absurd put
 
 pub step_failed : (s : State) (w n : Walk) (old new : Option (List ℕ)) (before now : ℕ) (r : Result Bool ProgramFault) (fault : ProgramFault)
     → IsErrAnd r (λ e. e ≡ fault) → PutsStep s w n (sink_change old new before now) (Err fault) → PutsStep s w n (sink_change old new before now) r
@@ -328,6 +329,7 @@ first_failed T s item empty set program.NotRegular old new before now none put =
 first_failed T s item empty set (program.NoSpace folder) old new before now none put = absurd put
 first_failed T s item empty set (program.Data addr) old new before now none put = absurd put
 first_failed T s item empty set (program.TooLong addr) old new before now none put = absurd put
+first_failed T s item empty set (program.Clash addr other) old new before now none put = absurd put
 
 pub steps_on : (s : State) (item : Item) (w n : Walk) (a b c : Option (List ℕ)) (before now : ℕ) → Reaches s item w a b → PutsStep s w n (sink_change b c before now) (Ok true) → Reaches s item n a c
 steps_on s item w n a b c before now far put = (
@@ -363,6 +365,7 @@ stopped T s item w n program.NotRegular a b c first before now far same put = ab
 stopped T s item w n (program.NoSpace folder) a b c first before now far same put = absurd put
 stopped T s item w n (program.Data addr) a b c first before now far same put = absurd put
 stopped T s item w n (program.TooLong addr) a b c first before now far same put = absurd put
+stopped T s item w n (program.Clash addr other) a b c first before now far same put = absurd put
 
 pub tree_failed : {T : Type 0} (s : State) (item : Item) (old new : Option (List ℕ)) (before now : ℕ) (r : Result T ProgramFault) (fault : ProgramFault)
     → IsErrAnd r (λ e. e ≡ fault) → PutsFrom {T = T} s item (sink_change old new before now) (Err fault) → PutsFrom s item (sink_change old new before now) r

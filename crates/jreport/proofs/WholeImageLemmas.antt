@@ -24,6 +24,7 @@ use Rattle.jreport.specs.Content.{content_of, PutsContent}
 use Rattle.jreport.specs.Faults.{fault_of_report}
 use Rattle.jreport.specs.WholeImage.{AnswersNoted, IsFaultOfLoad, OfSomeImage, OnMount, PutsCheck, PutsFile, PutsListing, ReadsWhole, list_request}
 use Rattle.jreport.specs.Puts.{PutsReport}
+use Rattle.jreport.specs.Refusal.{IsRefusalTold}
 use Rattle.jreport.specs.Report.{count_in_image, scan_text}
 use Rattle.jreport.specs.TreeText.{Item, PutsFrom, PutsTreeAt}
 use Rattle.jreport.specs.Verdict.{PutsVerdict}
@@ -31,6 +32,7 @@ use Rattle.jreport.specs.declared.faults.ProgramFault.{ProgramFault}
 use Rattle.jreport.specs.declared.faults.ProgramFault.TheVariants as program
 use Rattle.jreport.specs.declared.report_fault.ReportFault.{ReportFault}
 use Rattle.jreport.specs.declared.report_fault.ReportFault.TheVariants as report
+use Rattle.jreport.proofs.RefusalLemmas.{refusal_cases}
 use Rattle.jreport.proofs.SinkLemmas.{sink_change}
 
 -- ---- what was read
@@ -72,9 +74,11 @@ read_whole old new before now r read end short same = (end, short, same)
 
 -- ---- a mount
 
-pub mount_is_read : {T : Type 0} (f : MountFault) (r : Result T ProgramFault) → IsErrAnd r (λ x. x ≡ program.Mount f) → IsRead r
-mount_is_read f (Ok x) is = absurd is
-mount_is_read f (Err x) is = subst (λ (y : ProgramFault). IsFaultOfLoad y → ⊥) (sym is) (λ none. none)
+pub mount_is_read : {T : Type 0} (e : Endian) (size : ℕ) (image : List ℕ) (f : ProgramFault) (r : Result T ProgramFault) → IsErrAnd r (λ x. x ≡ f) → IsRefusalTold e size image f → IsRead r
+mount_is_read e size image f (Ok x) is told = absurd is
+mount_is_read e size image f (Err x) is told =
+    subst (λ (y : ProgramFault). IsFaultOfLoad y → ⊥) (sym is)
+    (refusal_cases (λ (y : ProgramFault). IsFaultOfLoad y → ⊥) e size image f (λ g here none. none) (λ addr other here none. none) told)
 
 pub unread_mount : {T : Type 0} (e : Endian) (size : ℕ) (image : List ℕ) (f : LoadFault) (a : Option (List ℕ)) (n : ℕ) (puts : Mount → Type 0) (r : Result T ProgramFault)
     → IsErrAnd r (λ x. x ≡ program.Load f) → OnMount e size image (sink_change a a n n) puts r
@@ -83,21 +87,22 @@ unread_mount {T} e size image f a n puts (Err x) is =
     subst (λ (y : ProgramFault). OnMount {T = T} e size image (sink_change a a n n) puts (Err y)) (sym is) (refl, refl)
 
 -- an image that does not mount
-pub mount_failed : {T : Type 0} (e : Endian) (size : ℕ) (items present : List ℕ) (f : MountFault) (a : Option (List ℕ)) (n : ℕ) (puts : Mount → Type 0) (r : Result T ProgramFault)
-    → IsErrAnd r (λ x. x ≡ program.Mount f) → present ≡ items → Answers e size present (Err f)
-    → OnMount e size items (sink_change a a n n) puts r
-mount_failed e size items present f a n puts (Ok x) is same answers = absurd is
-mount_failed {T} e size items present f a n puts (Err x) is same answers =
-    subst (λ (y : ProgramFault). OnMount {T = T} e size items (sink_change a a n n) puts (Err y)) (sym is)
-    (subst (λ (image : List ℕ). Answers e size image (Err f)) same answers, refl, refl)
+pub mount_failed : {T : Type 0} (e : Endian) (size : ℕ) (image : List ℕ) (f : ProgramFault) (a : Option (List ℕ)) (n : ℕ) (puts : Mount → Type 0) (r : Result T ProgramFault)
+    → IsErrAnd r (λ x. x ≡ f) → IsRefusalTold e size image f → OnMount e size image (sink_change a a n n) puts r
+mount_failed e size image f a n puts (Ok x) is told = absurd is
+mount_failed {T} e size image f a n puts (Err x) is told =
+    let P = λ (y : ProgramFault). OnMount {T = T} e size image (sink_change a a n n) puts (Err y) in
+    subst P (sym is) (refusal_cases P e size image f (λ g here. (here, refl, refl)) (λ addr other here. (here, refl, refl)) told)
 
 -- an image that mounts, and a call that says nothing of faults of a load or a mount
 on_mounted : {T : Type 0} (e : Endian) (size : ℕ) (image : List ℕ) (m : Mount) (a b : Option (List ℕ)) (before now : ℕ) (puts : Mount → Result T ProgramFault → Type 0) (r : Result T ProgramFault)
     → ((f : LoadFault) → puts m (Err (program.Load f)) → ⊥) → ((f : MountFault) → puts m (Err (program.Mount f)) → ⊥)
+    → ((addr other : ℕ) → puts m (Err (program.Clash addr other)) → ⊥)
     → Answers e size image (Ok m) → puts m r → OnMount e size image (sink_change a b before now) (λ x. puts x r) r
-on_mounted e size image m a b before now puts (Err (program.Load f)) no_load no_mount answers put = absurd (no_load f put)
-on_mounted e size image m a b before now puts (Err (program.Mount f)) no_load no_mount answers put = absurd (no_mount f put)
-on_mounted e size image m a b before now puts r no_load no_mount answers put = (m, answers, put)
+on_mounted e size image m a b before now puts (Err (program.Load f)) no_load no_mount no_clash answers put = absurd (no_load f put)
+on_mounted e size image m a b before now puts (Err (program.Mount f)) no_load no_mount no_clash answers put = absurd (no_mount f put)
+on_mounted e size image m a b before now puts (Err (program.Clash addr other)) no_load no_mount no_clash answers put = absurd (no_clash addr other put)
+on_mounted e size image m a b before now puts r no_load no_mount no_clash answers put = (m, answers, put)
 
 -- ---- `check`
 
@@ -193,6 +198,7 @@ verdict_ends e size asked image a b c before mid now findings program.NotRegular
 verdict_ends e size asked image a b c before mid now findings (program.NoSpace folder) report put = absurd put
 verdict_ends e size asked image a b c before mid now findings (program.Data addr) report put = absurd put
 verdict_ends e size asked image a b c before mid now findings (program.TooLong addr) report put = absurd put
+verdict_ends e size asked image a b c before mid now findings (program.Clash addr other) report put = absurd put
 
 pub verdict_failed : (e : Endian) (size : ℕ) (asked : Bool) (items present again : List ℕ) (a b c : Option (List ℕ)) (before mid now findings : ℕ) (f : ProgramFault) (r : Result Bool ProgramFault)
     → IsErrAnd r (λ x. x ≡ f) → present ≡ items → again ≡ items
@@ -237,7 +243,7 @@ pub file_put : (e : Endian) (size : ℕ) (path items present : List ℕ) (m : Mo
     → PutsFile e size items path (sink_change a b before now) r
 file_put e size path items present m a b before now r same answers put noted =
     on_mounted e size items m a b before now (λ (x : Mount) (s : Result ℕ ProgramFault). PutsContent (content_of x.state path) (sink_change a b before now) s × AnswersNoted x s) r
-    (λ f none. none.0.0) (λ f none. none.0.0)
+    (λ f none. none.0.0) (λ f none. none.0.0) (λ addr other none. none.0.0)
     (subst (λ (image : List ℕ). Answers e size image (Ok m)) same answers) (put, noted)
 
 -- a fault that is passed on
@@ -277,6 +283,7 @@ lines_passed_on X Y s item a b before now program.NotRegular p = p
 lines_passed_on X Y s item a b before now (program.NoSpace folder) p = p
 lines_passed_on X Y s item a b before now (program.Data addr) p = p
 lines_passed_on X Y s item a b before now (program.TooLong addr) p = p
+lines_passed_on X Y s item a b before now (program.Clash addr other) p = p
 
 -- the same of a tree, or of a part of it
 passed_on : (X Y : Type 0) (s : State) (path : Option (List ℕ)) (a b : Option (List ℕ)) (before now : ℕ) (f : ProgramFault)
@@ -295,6 +302,7 @@ passed_on X Y s (Some path) a b before now program.NotRegular p = (p.0, p.1, lin
 passed_on X Y s (Some path) a b before now (program.NoSpace folder) p = (p.0, p.1, lines_passed_on X Y s p.0 a b before now (program.NoSpace folder) p.2)
 passed_on X Y s (Some path) a b before now (program.Data addr) p = (p.0, p.1, lines_passed_on X Y s p.0 a b before now (program.Data addr) p.2)
 passed_on X Y s (Some path) a b before now (program.TooLong addr) p = (p.0, p.1, lines_passed_on X Y s p.0 a b before now (program.TooLong addr) p.2)
+passed_on X Y s (Some path) a b before now (program.Clash addr other) p = (p.0, p.1, lines_passed_on X Y s p.0 a b before now (program.Clash addr other) p.2)
 
 -- an answer of another kind
 pub tree_done : (X : Type 0) (s : State) (path : Option (List ℕ)) (a b : Option (List ℕ)) (before now : ℕ) (x : X) (n : ℕ)
@@ -313,12 +321,18 @@ not_mounting : (X : Type 0) (s : State) (path : Option (List ℕ)) (a b : Option
 not_mounting X s None a b before now f p = p
 not_mounting X s (Some path) a b before now f p = p.2
 
+not_clashing : (X : Type 0) (s : State) (path : Option (List ℕ)) (a b : Option (List ℕ)) (before now addr other : ℕ)
+    → PutsTreeAt {T = X} s path (sink_change a b before now) (Err (program.Clash addr other)) → ⊥
+not_clashing X s None a b before now addr other p = p
+not_clashing X s (Some path) a b before now addr other p = p.2
+
 pub tree_put : (e : Endian) (size : ℕ) (path : Option (List ℕ)) (items present : List ℕ) (m : Mount) (a b : Option (List ℕ)) (before now : ℕ) (r : Result ℕ ProgramFault)
     → present ≡ items → Answers e size present (Ok m) → PutsTreeAt m.state path (sink_change a b before now) r → AnswersNoted m r
     → PutsListing (list_request e size path) items (sink_change a b before now) r
 tree_put e size path items present m a b before now r same answers put noted =
     on_mounted e size items m a b before now (λ (x : Mount) (s : Result ℕ ProgramFault). PutsTreeAt x.state path (sink_change a b before now) s × AnswersNoted x s) r
     (λ f none. not_loading ℕ m.state path a b before now f none.0) (λ f none. not_mounting ℕ m.state path a b before now f none.0)
+    (λ addr other none. not_clashing ℕ m.state path a b before now addr other none.0)
     (subst (λ (image : List ℕ). Answers e size image (Ok m)) same answers) (put, noted)
 
 -- a fault that is passed on

@@ -7,7 +7,7 @@ use Rattle.jlisting.specs.declared.rule.WordRule.TheVariants as word
 use Rattle.jmount.specs.declared.fault.MountFault.{MountFault}
 use Rattle.jmount.specs.declared.fault.MountFault.TheVariants as mount
 use Rattle.jscan.specs.declared.geometry.ScanFault.TheVariants as scan
-use Rattle.jline.specs.Words.{in_line}
+use Rattle.jline.specs.Words.{hex, in_line}
 use Rattle.jreport.specs.Causes.{cause_note}
 use Rattle.jreport.specs.Faults.{fault_line_of}
 use Rattle.jreport.specs.Reasons.{file_note}
@@ -58,6 +58,11 @@ unfoldable pub clash_note : List ℕ
 clash_note = codes "two nodes differ; "
     ++ codes "decompress --clashes higher keeps that of the higher address"
 
+-- that the nodes at these two addresses clash
+unfoldable pub pair_note : ℕ → ℕ → List ℕ
+pair_note lower higher = codes "the nodes at " ++ hex 8 lower ++ codes " and " ++ hex 8 higher
+    ++ codes " differ; " ++ codes "decompress --clashes higher keeps that of the highest address"
+
 -- that no erase block has this size
 unfoldable pub block_note : List ℕ
 block_note = codes "--block takes a multiple of 4 from 4096 to 4194304"
@@ -81,6 +86,7 @@ unfoldable pub note_of : ProgramFault → List ℕ
 note_of (program.Listing bad) = rule_note bad.rule
 note_of (program.Scan scan.BlockSize) = block_note
 note_of (program.Mount fault) = mount_note fault
+note_of (program.Clash addr other) = pair_note other addr
 note_of (program.File file) = file_note file.reason
 note_of (program.Session fault line cause) = cause_note cause
 note_of _ = []

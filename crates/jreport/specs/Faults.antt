@@ -97,6 +97,7 @@ unfoldable pub fault_text_of : ProgramFault → List ℕ
 fault_text_of (program.Load fault) = load_text fault
 fault_text_of (program.Scan fault) = scan_fault_text fault
 fault_text_of (program.Mount fault) = mount_text fault
+fault_text_of (program.Clash addr other) = mount_text (mount.Clash addr)
 fault_text_of (program.File file) = codes "P1 File " ++ file.name.now
 fault_text_of (program.Listing bad) = codes "P2 Listing" ++ line_text bad.line
 fault_text_of (program.Session fault line cause) = session_text fault ++ line_text_of line

@@ -11,6 +11,7 @@ pub mod Notes
 pub mod Paths
 pub mod Puts
 pub mod Reasons
+pub mod Refusal
 pub mod Report
 pub mod Stream
 pub mod TreeLaws

@@ -13,6 +13,7 @@ use Rattle.jscan.specs.Image.{greatest_image}
 use Rattle.jscan.specs.declared.geometry.ScanFault.TheVariants as scan
 use Rattle.jreport.specs.Content.{content_of, PutsContent}
 use Rattle.jreport.specs.Notes.{noted}
+use Rattle.jreport.specs.Refusal.{IsRefusalTold}
 use Rattle.jreport.specs.Report.{count_in_image, scan_text}
 use Rattle.jreport.specs.TreeText.{PutsTreeAt}
 use Rattle.jreport.specs.Verdict.{IsVerdict}
@@ -93,7 +94,11 @@ abbrev pub OnMount : {T : Type 0} → Endian → ℕ → List ℕ → SinkChange
 OnMount e size image sink puts (Err (program.Load fault)) =
     (sink.new ≡ sink.old) × (sink.now ≡ sink.before)
 OnMount e size image sink puts (Err (program.Mount fault)) =
-    Answers e size image (Err fault) × (sink.new ≡ sink.old) × (sink.now ≡ sink.before)
+    IsRefusalTold e size image (program.Mount fault) × (sink.new ≡ sink.old)
+    × (sink.now ≡ sink.before)
+OnMount e size image sink puts (Err (program.Clash addr other)) =
+    IsRefusalTold e size image (program.Clash addr other) × (sink.new ≡ sink.old)
+    × (sink.now ≡ sink.before)
 OnMount e size image sink puts _ = (m : Mount) × Answers e size image (Ok m) × puts m
 
 -- the answer is the number of findings that a reader of files is told of

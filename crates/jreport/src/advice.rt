@@ -3,7 +3,7 @@
 ghost use Rattle.std.specs.Prelude.{◌≡◌, ◌≤◌, ◌++◌, [], codes, length};
 ghost use Rattle.flashbase.specs.Sinks.{PutsTo};
 ghost use Rattle.jline.specs.Words.{in_line};
-ghost use Rattle.jreport.specs.Advice.{advice_of, fault_lines_of, is_read_method, mount_note, named_in, note_of, rule_note, word_note};
+ghost use Rattle.jreport.specs.Advice.{advice_of, fault_lines_of, is_read_method, mount_note, named_in, note_of, pair_note, rule_note, word_note};
 ghost use Rattle.jreport.specs.Causes.{cause_note, limit_note};
 ghost use Rattle.jreport.specs.Reasons.{file_note, host_text};
 
@@ -113,6 +113,21 @@ fn push_mount_note(line: &mut LineBuffer, fault: MountFault)
     }
 }
 
+/// What is said of two nodes that clash.
+#[tactic(auto, unfolding(crate::specs::Advice::pair_note))]
+fn push_pair_note(line: &mut LineBuffer, lower: u32, higher: u32)
+    requires { line.old ≡ [] }
+    ensures text { line.new ≡ pair_note lower higher }
+    ensures short { length line.new ≤ 200 }
+{
+    line.push_text(b"the nodes at ");
+    line.push_hex(8, u64::from(lower));
+    line.push_text(b" and ");
+    line.push_hex(8, u64::from(higher));
+    line.push_text(b" differ; ");
+    line.push_text(b"decompress --clashes higher keeps that of the highest address");
+}
+
 /// Why the host refuses a file.
 #[tactic(auto, unfolding(crate::specs::Reasons::host_text))]
 fn host_text(reason: Reason) -> &'static [u8]
@@ -205,6 +220,7 @@ fn push_note(line: &mut LineBuffer, fault: &ProgramFault<'_>)
     match *fault {
         ProgramFault::Listing(bad) => push_rule(line, bad.rule),
         ProgramFault::Mount(fault) => push_mount_note(line, fault),
+        ProgramFault::Clash { addr, other } => push_pair_note(line, other, addr),
         ProgramFault::Scan(ScanFault::BlockSize) => {
             line.push_text(b"--block takes a multiple of 4 from 4096 to 4194304");
         }

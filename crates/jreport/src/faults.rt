@@ -27,6 +27,12 @@ pub enum ProgramFault<'a> {
     Scan(ScanFault),
     /// The image does not mount.
     Mount(MountFault),
+    /// The image does not mount: the node at the first address clashes with the one at the other,
+    /// which is lower.
+    Clash {
+        addr: u32,
+        other: u32,
+    },
     /// This file can't be opened or made.
     File(Unopened<'a>),
     /// A line of the listing means nothing.
@@ -299,6 +305,7 @@ fn push_fault<'a>(line: &mut LineBuffer, fault: &ProgramFault<'a>) -> &'a str
         ProgramFault::Load(fault) => push_load(line, fault),
         ProgramFault::Scan(fault) => push_scan(line, fault),
         ProgramFault::Mount(fault) => push_mount(line, fault),
+        ProgramFault::Clash { addr, .. } => push_mount(line, MountFault::Clash { addr }),
         ProgramFault::File(file) => {
             line.push_text(b"P1 File ");
             return file.name;

@@ -1,15 +1,16 @@
 //! What is reported of an image: its report, the verdict on its mount, the listing of its tree, and
 //! the content of its files.
 //!
-//! It is built on `jline` (lines of text), `jscan` (the extents of an image) and `jmount` (the file
-//! system that its nodes make); faults of `jlog` and `jlisting` are among those that it spells. Its
-//! promise to the program: what goes to a sink is the text of the bytes that were read, and a fault
-//! says why no more of it did.
+//! It is built on `jline` (lines of text), `jscan` (the extents of an image), `jmount` (the file
+//! system that its nodes make) and `jclash` (the other node of a clash); faults of `jlog` and
+//! `jlisting` are among those that it spells. Its promise to the program: what goes to a sink is the
+//! text of the bytes that were read, and a fault says why no more of it did.
 //!
 //! `specs/Report.antt` says what the report of an image is, `specs/Verdict.antt` what is said of
 //! its mount, `specs/TreeText.antt` what the listing is, `specs/Content.antt` which bytes a path
-//! names, `specs/Notes.antt` what is told of findings beside them, `specs/Faults.antt` how faults
-//! are spelled, and `specs/Advice.antt` what is noted after them. `specs/Puts.antt` (of an image in
+//! names, `specs/Notes.antt` what is told of findings beside them, `specs/Refusal.antt` which fault
+//! says that an image does not mount, `specs/Faults.antt` how faults are spelled, and
+//! `specs/Advice.antt` what is noted after them. `specs/Puts.antt` (of an image in
 //! memory), `specs/Stream.antt` (block by block) and `specs/WholeImage.antt` (read as a whole) say
 //! what the calls do. `report_examples` and `fault_examples` have worked examples, and `tree_laws`
 //! laws of the listing.
@@ -29,6 +30,7 @@ mod notes;
 pub mod path_laws;
 mod paths;
 mod reason;
+mod refusal;
 mod report;
 pub mod report_examples;
 mod report_fault;
@@ -50,6 +52,7 @@ pub use crate::listing::{part_lines, tree_lines};
 pub use crate::notes::{note_line, noted};
 pub use crate::paths::path_word;
 pub use crate::reason::{Reason, Unopened};
+pub use crate::refusal::mount_or_tell;
 pub use crate::report::{Lines, put_report, scan_lines};
 pub use crate::report_fault::ReportFault;
 pub use crate::stream::stream_lines;

@@ -9,10 +9,10 @@ use crate::faults::ProgramFault;
 use crate::files::content;
 use crate::listing::lines_at;
 use crate::notes::noted;
+use crate::refusal::mount_or_tell;
 use crate::report::report_and_scan;
 use crate::verdict::scanned_verdict;
 use flashbase::{Sink, Source, load};
-use jmount::mount;
 use jnode::Order;
 use jscan::{GREATEST_IMAGE, Geometry, PartialScan, ScanFault};
 use std::alloc::Global;
@@ -71,7 +71,7 @@ pub fn image_file<E: Order, T: Sink>(
         (change_of T.Sink sink.old sink.new) result }
     ensures read { IfErr result (λ fault. IsFaultOfLoad fault → ⊥) }
 {
-    let mounted = mount::<E>(alloc, image, geometry)?;
+    let mounted = mount_or_tell::<E>(alloc, image, geometry)?;
     content(&mounted, path, sink)?;
     Ok(noted(&mounted))
 }
@@ -90,7 +90,7 @@ pub fn image_tree<E: Order, T: Sink>(
         (change_of T.Sink sink.old sink.new) result }
     ensures read { IfErr result (λ fault. IsFaultOfLoad fault → ⊥) }
 {
-    let tree = mount::<E>(alloc, image, geometry)?;
+    let tree = mount_or_tell::<E>(alloc, image, geometry)?;
     lines_at(alloc, &tree, path, sink)?;
     Ok(noted(&tree))
 }

@@ -14,7 +14,7 @@ use jsteps::{OpFault, Page};
 use std::alloc::Global;
 use std::test::Fail;
 
-const FAULTS: [(ProgramFault<'static>, &str); 25] = [
+const FAULTS: [(ProgramFault<'static>, &str); 26] = [
     (ProgramFault::Load(LoadFault::Device), "L1 Device"),
     (ProgramFault::Load(LoadFault::TooLarge), "L2 TooLarge"),
     (ProgramFault::Load(LoadFault::OutOfMemory), "L3 OutOfMemory"),
@@ -55,6 +55,13 @@ const FAULTS: [(ProgramFault<'static>, &str); 25] = [
     (
         ProgramFault::Mount(MountFault::Clash { addr: 0x50 }),
         "M5 Clash at 00000050",
+    ),
+    (
+        ProgramFault::Clash {
+            addr: 0x9C,
+            other: 0x50,
+        },
+        "M5 Clash at 0000009c",
     ),
     (ProgramFault::Mount(MountFault::RootKind), "M6 RootKind"),
     (
@@ -262,6 +269,12 @@ const BLOCK_NOTE: &str = "--block takes a multiple of 4 from 4096 to 4194304";
 const CLASH_NOTE: &str =
     "two nodes differ; decompress --clashes higher keeps that of the higher address";
 
+const PAIR_NOTE: &str = "the nodes at 00000050 and 0000009c differ; \
+    decompress --clashes higher keeps that of the highest address";
+
+const FAR_PAIR_NOTE: &str = "the nodes at 00000000 and ffffffff differ; \
+    decompress --clashes higher keeps that of the highest address";
+
 /// Whether after the line of a fault comes this note, or none where it is empty.
 fn is_noted(alloc: Global, fault: &ProgramFault<'_>, wanted: &str) -> Result<bool, &'static str> {
     let note = note_after(alloc, fault)?;
@@ -270,15 +283,29 @@ fn is_noted(alloc: Global, fault: &ProgramFault<'_>, wanted: &str) -> Result<boo
     }
     let rest = note.strip_suffix(b"\n".as_slice());
     let rest = rest.and_then(|rest| rest.strip_prefix(b"jffs2_image: note: ".as_slice()));
-    Ok(note.len() <= 106 && rest == Some(wanted.as_bytes()))
+    Ok(note.len() <= 126 && rest == Some(wanted.as_bytes()))
 }
 
-const NOTES: [(ProgramFault<'static>, &str); 8] = [
+const NOTES: [(ProgramFault<'static>, &str); 10] = [
     (ProgramFault::Scan(ScanFault::BlockSize), BLOCK_NOTE),
     (ProgramFault::Mount(MountFault::BlockSize), BLOCK_NOTE),
     (
         ProgramFault::Mount(MountFault::Clash { addr: 0x50 }),
         CLASH_NOTE,
+    ),
+    (
+        ProgramFault::Clash {
+            addr: 0x9C,
+            other: 0x50,
+        },
+        PAIR_NOTE,
+    ),
+    (
+        ProgramFault::Clash {
+            addr: u32::MAX,
+            other: 0,
+        },
+        FAR_PAIR_NOTE,
     ),
     (ProgramFault::Mount(MountFault::TooLarge), ""),
     (ProgramFault::Mount(MountFault::RootKind), ""),

@@ -179,9 +179,10 @@ type Row = (
     &'static [u8],
 );
 
-const CLASHES: Result<u64, ProgramFault<'static>> = Err(ProgramFault::Mount(MountFault::Clash {
+const CLASHES: Result<u64, ProgramFault<'static>> = Err(ProgramFault::Clash {
     addr: 0x44,
-}));
+    other: 0,
+});
 
 const NO_ROOT: Result<u64, ProgramFault<'static>> = Err(ProgramFault::Mount(MountFault::RootKind));
 
