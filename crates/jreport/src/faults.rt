@@ -29,6 +29,8 @@ pub enum ProgramFault<'a> {
     Mount(MountFault),
     /// This file can't be opened or made.
     File(Unopened<'a>),
+    /// This file was opened, and failed before its end was read.
+    NotRead(Unopened<'a>),
     /// A line of the listing means nothing.
     Listing(BadLine),
     /// Nothing was written, or writing stopped, at the operation of a line of the listing if it
@@ -297,6 +299,7 @@ fn push_fault<'a>(line: &mut LineBuffer, fault: &ProgramFault<'a>) -> &'a str
 {
     match *fault {
         ProgramFault::Load(fault) => push_load(line, fault),
+        ProgramFault::NotRead(_) => push_load(line, LoadFault::Device),
         ProgramFault::Scan(fault) => push_scan(line, fault),
         ProgramFault::Mount(fault) => push_mount(line, fault),
         ProgramFault::File(file) => {
