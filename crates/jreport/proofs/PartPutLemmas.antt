@@ -44,6 +44,7 @@ part_put s path item a b before now (Err (program.Load f)) at put = absurd put
 part_put s path item a b before now (Err (program.Scan f)) at put = absurd put
 part_put s path item a b before now (Err (program.Mount f)) at put = absurd put
 part_put s path item a b before now (Err (program.File f)) at put = absurd put
+part_put s path item a b before now (Err (program.NotRead f)) at put = absurd put
 part_put s path item a b before now (Err (program.Listing line)) at put = absurd put
 part_put s path item a b before now (Err (program.Session fault line cause)) at put = absurd put
 part_put s path item a b before now (Err (program.Path f)) at put = absurd put

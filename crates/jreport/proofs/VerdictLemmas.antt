@@ -59,6 +59,7 @@ verdict_of_mounted e size image asked m old new before now (Err (program.Load f)
 verdict_of_mounted e size image asked m old new before now (Err (program.Scan f)) answers put = absurd put
 verdict_of_mounted e size image asked m old new before now (Err (program.Mount f)) answers put = absurd put
 verdict_of_mounted e size image asked m old new before now (Err (program.File f)) answers put = absurd put
+verdict_of_mounted e size image asked m old new before now (Err (program.NotRead f)) answers put = absurd put
 verdict_of_mounted e size image asked m old new before now (Err (program.Listing line)) answers put = absurd put
 verdict_of_mounted e size image asked m old new before now (Err (program.Session fault line cause)) answers put = absurd put
 verdict_of_mounted e size image asked m old new before now (Err (program.Path f)) answers put = absurd put

@@ -10,7 +10,7 @@ use Rattle.jscan.specs.declared.geometry.ScanFault.TheVariants as scan
 use Rattle.jline.specs.Words.{hex, in_line}
 use Rattle.jreport.specs.Causes.{cause_note}
 use Rattle.jreport.specs.Faults.{fault_line_of}
-use Rattle.jreport.specs.Reasons.{file_note}
+use Rattle.jreport.specs.Reasons.{file_note, unread_note}
 use Rattle.jreport.specs.declared.faults.ProgramFault.{ProgramFault}
 use Rattle.jreport.specs.declared.faults.ProgramFault.TheVariants as program
 
@@ -79,6 +79,7 @@ mount_note _ = []
 -- the file that a note is on, if it is on one
 unfoldable pub named_in : ProgramFault → List ℕ
 named_in (program.File file) = file.name.now
+named_in (program.NotRead file) = file.name.now
 named_in _ = []
 
 -- what is said of a fault beside its line, if anything is
@@ -88,6 +89,7 @@ note_of (program.Scan scan.BlockSize) = block_note
 note_of (program.Mount fault) = mount_note fault
 note_of (program.Clash addr other) = pair_note other addr
 note_of (program.File file) = file_note file.reason
+note_of (program.NotRead file) = unread_note file.reason
 note_of (program.Session fault line cause) = cause_note cause
 note_of _ = []
 

@@ -95,6 +95,7 @@ line_text_of (Some n) = line_text n
 
 unfoldable pub fault_text_of : ProgramFault → List ℕ
 fault_text_of (program.Load fault) = load_text fault
+fault_text_of (program.NotRead file) = load_text load.Device
 fault_text_of (program.Scan fault) = scan_fault_text fault
 fault_text_of (program.Mount fault) = mount_text fault
 fault_text_of (program.Clash addr other) = mount_text (mount.Clash addr)

@@ -41,3 +41,10 @@ host_text reason.Other = []
 abbrev pub file_note : Reason → List ℕ
 file_note why =
     if length (host_text why) == 0 then [] else codes ": " ++ host_text why
+
+-- the same of a file that was opened, and failed before its end was read; that is said where
+-- nothing else is
+abbrev pub unread_note : Reason → List ℕ
+unread_note why =
+    if length (host_text why) == 0 then codes ": was not read to its end" else
+    codes ": " ++ host_text why

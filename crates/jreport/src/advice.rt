@@ -5,7 +5,7 @@ ghost use Rattle.flashbase.specs.Sinks.{PutsTo};
 ghost use Rattle.jline.specs.Words.{in_line};
 ghost use Rattle.jreport.specs.Advice.{advice_of, fault_lines_of, is_read_method, mount_note, named_in, note_of, pair_note, rule_note, word_note};
 ghost use Rattle.jreport.specs.Causes.{cause_note, limit_note};
-ghost use Rattle.jreport.specs.Reasons.{file_note, host_text};
+ghost use Rattle.jreport.specs.Reasons.{file_note, host_text, unread_note};
 
 use crate::cause::{Cause, Limit};
 use crate::faults::{ProgramFault, fault_line};
@@ -163,6 +163,21 @@ fn push_file_note(line: &mut LineBuffer, reason: Reason)
     }
 }
 
+/// The same of a file that was opened, and failed before its end was read.
+fn push_unread_note(line: &mut LineBuffer, reason: Reason)
+    requires { line.old ≡ [] }
+    ensures text { line.new ≡ unread_note reason }
+    ensures short { length line.new ≤ 200 }
+{
+    let text = host_text(reason);
+    if text.is_empty() {
+        line.push_text(b": was not read to its end");
+    } else {
+        line.push_text(b": ");
+        line.push_text(text);
+    }
+}
+
 /// What a flash that is written does not keep.
 #[tactic(auto, unfolding(crate::specs::Causes::limit_note))]
 fn limit_note(limit: Limit) -> &'static [u8]
@@ -205,7 +220,7 @@ fn named_in<'a>(fault: &ProgramFault<'a>) -> &'a str
     ensures { result.now ≡ named_in fault.now }
 {
     match *fault {
-        ProgramFault::File(file) => file.name,
+        ProgramFault::File(file) | ProgramFault::NotRead(file) => file.name,
         _ => "",
     }
 }
@@ -225,6 +240,7 @@ fn push_note(line: &mut LineBuffer, fault: &ProgramFault<'_>)
             line.push_text(b"--block takes a multiple of 4 from 4096 to 4194304");
         }
         ProgramFault::File(file) => push_file_note(line, file.reason),
+        ProgramFault::NotRead(file) => push_unread_note(line, file.reason),
         ProgramFault::Session { cause, .. } => push_cause(line, cause),
         _ => {}
     }

@@ -35,6 +35,8 @@ pub enum ProgramFault<'a> {
     },
     /// This file can't be opened or made.
     File(Unopened<'a>),
+    /// This file was opened, and failed before its end was read.
+    NotRead(Unopened<'a>),
     /// A line of the listing means nothing.
     Listing(BadLine),
     /// Nothing was written, or writing stopped, at the operation of a line of the listing if it
@@ -303,6 +305,7 @@ fn push_fault<'a>(line: &mut LineBuffer, fault: &ProgramFault<'a>) -> &'a str
 {
     match *fault {
         ProgramFault::Load(fault) => push_load(line, fault),
+        ProgramFault::NotRead(_) => push_load(line, LoadFault::Device),
         ProgramFault::Scan(fault) => push_scan(line, fault),
         ProgramFault::Mount(fault) => push_mount(line, fault),
         ProgramFault::Clash { addr, .. } => push_mount(line, MountFault::Clash { addr }),

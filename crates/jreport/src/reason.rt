@@ -24,7 +24,7 @@ pub enum Reason {
     Other,
 }
 
-/// A file that can't be opened or made, by its name, and why.
+/// A file that can't be opened, made or read, by its name, and why.
 #[derive(Clone, Copy, Debug, PartialEq, Eq)]
 pub struct Unopened<'a> {
     pub name: &'a str,
@@ -36,7 +36,14 @@ impl Reason {
     pub fn of(error: &io::Error) -> Reason
         ensures { result ≡ reason_of_kind (error_kind error.now) }
     {
-        match error.kind() {
+        Reason::of_kind(error.kind())
+    }
+
+    /// The reason that an error of this kind has.
+    pub fn of_kind(kind: ErrorKind) -> Reason
+        ensures { result ≡ reason_of_kind kind }
+    {
+        match kind {
             ErrorKind::NotFound => Reason::NotFound,
             ErrorKind::PermissionDenied => Reason::NoPermission,
             ErrorKind::IsADirectory => Reason::IsDirectory,

@@ -16,6 +16,13 @@ use std::test::Fail;
 
 const FAULTS: [(ProgramFault<'static>, &str); 26] = [
     (ProgramFault::Load(LoadFault::Device), "L1 Device"),
+    (
+        ProgramFault::NotRead(Unopened {
+            name: "a.img",
+            reason: Reason::IsDirectory,
+        }),
+        "L1 Device",
+    ),
     (ProgramFault::Load(LoadFault::TooLarge), "L2 TooLarge"),
     (ProgramFault::Load(LoadFault::OutOfMemory), "L3 OutOfMemory"),
     (ProgramFault::Scan(ScanFault::BlockSize), "C1 BlockSize"),
@@ -286,7 +293,10 @@ fn is_noted(alloc: Global, fault: &ProgramFault<'_>, wanted: &str) -> Result<boo
     Ok(note.len() <= 126 && rest == Some(wanted.as_bytes()))
 }
 
-const NOTES: [(ProgramFault<'static>, &str); 10] = [
+const NOTES: [(ProgramFault<'static>, &str); 13] = [
+    (ProgramFault::Load(LoadFault::Device), ""),
+    (ProgramFault::Load(LoadFault::TooLarge), ""),
+    (ProgramFault::Load(LoadFault::OutOfMemory), ""),
     (ProgramFault::Scan(ScanFault::BlockSize), BLOCK_NOTE),
     (ProgramFault::Mount(MountFault::BlockSize), BLOCK_NOTE),
     (
@@ -337,6 +347,14 @@ const REASONS: [(&str, Reason, &str); 12] = [
     ("", Reason::Busy, ": in use"),
 ];
 
+/// Files that were opened and failed, and what is noted.
+const UNREAD: [(&str, Reason, &str); 4] = [
+    ("note", Reason::Other, "note: was not read to its end"),
+    ("", Reason::Other, ": was not read to its end"),
+    ("d\n", Reason::IsDirectory, "d\\x0a: is a directory"),
+    ("e", Reason::NoPermission, "e: no permission"),
+];
+
 /// Why a session did not write, and what is noted.
 const CAUSES: [(Cause, &str); 10] = [
     (Cause::Unknown, ""),
@@ -376,6 +394,10 @@ const CAUSES: [(Cause, &str); 10] = [
 fn notes_with_a_reason(rt: HostRuntime) -> Result<(), Fail> {
     for (name, reason, wanted) in REASONS {
         let fault = ProgramFault::from(Unopened { name, reason });
+        expect_at(&rt, is_noted(rt.alloc(), &fault, wanted)?, wanted);
+    }
+    for (name, reason, wanted) in UNREAD {
+        let fault = ProgramFault::NotRead(Unopened { name, reason });
         expect_at(&rt, is_noted(rt.alloc(), &fault, wanted)?, wanted);
     }
     for (cause, wanted) in CAUSES {
