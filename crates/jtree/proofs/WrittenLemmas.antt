@@ -38,7 +38,7 @@ use Rattle.jlog.proofs.IntactLemmas.{has_room, output_is_long}
 use Rattle.jlog.proofs.PlaceLemmas.{times_words}
 use Rattle.jlog.proofs.ResumeLemmas.{resumes_within}
 use Rattle.jlog.proofs.RoomLemmas.{end_is_within}
-use Rattle.jbuild.specs.Emitting.{IsEmitted, front_before}
+use Rattle.jbuild.specs.Emitting.{IsEmitted, front_before, paged_flash}
 use Rattle.jbuild.specs.Operations.{ops_in}
 use Rattle.jfolder.specs.Actions.{FitsListing}
 use Rattle.jfolder.specs.Text.{listing_text}
@@ -77,7 +77,7 @@ goes_on page e size blocks m ok =
 
 put_out : (page : Page) (e : Endian) (size blocks accepted before now : ℕ) (places : List Place) (image : List ℕ) (files : Files) (root : Attributes) (items : List Item) (lines : List Line)
     → FitsListing root items → IsTree items → lines_of (listing_text root items) ≡ Ok lines
-    → Goes page size blocks [] → IsEmitted page e size blocks [] (ops_in e files lines) accepted places None (record { old = Some []; new = Some image; before = before; now = now })
+    → Goes page size blocks [] → IsEmitted (paged_flash page e size blocks) [] (ops_in e files lines) accepted places None (record { old = Some []; new = Some image; before = before; now = now })
     → (s : State) × MountsAs e size image s × HoldsTree files root items s
 put_out page e size blocks accepted before now places image files root items lines fits tree read goes emitted =
     let p : ℕ = page_size page in
@@ -125,4 +125,4 @@ pub put_out_holds_tree : PutOutHoldsTree
 put_out_holds_tree page e size blocks image files root items lines fits tree read out =
     let goes = subst (Goes page size blocks) out.mounts.0 (goes_on page e size blocks out.mount out.resumes) in
     put_out page e size blocks out.accepted out.before out.now out.places image files root items lines fits tree read goes
-    (subst (λ (base : List ℕ). IsEmitted page e size blocks base (ops_in e files lines) out.accepted out.places None (record { old = Some []; new = Some image; before = out.before; now = out.now })) out.mounts.0 out.emitted)
+    (subst (λ (base : List ℕ). IsEmitted (paged_flash page e size blocks) base (ops_in e files lines) out.accepted out.places None (record { old = Some []; new = Some image; before = out.before; now = out.now })) out.mounts.0 out.emitted)

@@ -9,7 +9,7 @@ use Rattle.jlisting.specs.Listing.{lines_of}
 use Rattle.jlisting.specs.declared.line.Line.{Line}
 use Rattle.jlog.specs.Resuming.{resumes_by}
 use Rattle.jlog.specs.declared.report.Place.{Place}
-use Rattle.jbuild.specs.Emitting.{IsEmitted}
+use Rattle.jbuild.specs.Emitting.{IsEmitted, paged_flash}
 use Rattle.jbuild.specs.Operations.{ops_in}
 use Rattle.jfolder.specs.Actions.{FitsListing}
 use Rattle.jfolder.specs.Text.{listing_text}
@@ -30,7 +30,8 @@ pub record IsPutOut (page : Page) (e : Endian) (size blocks : ℕ) (files : File
   pub now : ℕ
   pub mounts : Answers e size [] (Ok mount)
   pub resumes : IsOk (resumes_by page e size blocks mount)
-  pub emitted : IsEmitted page e size blocks mount.image (ops_in e files lines) accepted places None
+  pub emitted : IsEmitted (paged_flash page e size blocks) mount.image (ops_in e files lines)
+      accepted places None
       (record { old = Some []; new = Some image; before = before; now = now })
 
 -- What the sink then has is an image that mounts, as a file system that holds the tree and nothing
