@@ -14,7 +14,7 @@ use crate::progress::Progress;
 use jextract::{Attributes, Folder, FolderFault, Owner};
 use std::alloc::AllocError;
 use std::fs::{DirBuilder, FileTimes, OpenFile, OpenOptions, Permissions};
-use std::io::Eprint;
+use std::io::{Eprint, ErrorKind};
 use std::os::unix::fs::{DirBuilderExt, OpenOptionsExt, PermissionsExt, lchown, symlink};
 use std::rt::{Clock, Files};
 use std::time::{Duration, UNIX_EPOCH};
@@ -32,6 +32,8 @@ pub struct FilledFolder<'r, R: Files + AllocGlobal + Clock + Eprint> {
     root: String,
     failures: u64,
     full: u64,
+    /// The kind of the host's last error.
+    kind: ErrorKind,
     progress: Progress<'r, R>,
 }
 
@@ -102,6 +104,7 @@ impl<'r, R: Files + AllocGlobal + Clock + Eprint> FilledFolder<'r, R> {
             root: String::from_str(rt.alloc(), path)?,
             failures: 0,
             full: 0,
+            kind: ErrorKind::Other,
             progress: Progress::new(rt, tells),
         })
     }
@@ -129,6 +132,7 @@ impl<'r, R: Files + AllocGlobal + Clock + Eprint> FilledFolder<'r, R> {
             Ok(made) => Ok(made),
             Err(error) => {
                 let fault = fault_of(&error);
+                self.kind = error.kind();
                 self.count(fault);
                 Err(fault)
             }
@@ -178,6 +182,11 @@ impl<'r, R: Files + AllocGlobal + Clock + Eprint> FilledFolder<'r, R> {
         set_owner(self.rt, path.as_str(), attributes)?;
         let directory = fs::open(self.rt, path.as_str())?;
         set_open(&directory, attributes)
+    }
+
+    /// The kind of the last error of the host; `Other` where there was none.
+    pub fn kind(&self) -> ErrorKind {
+        self.kind
     }
 
     /// Takes away what was told of how far it is.

@@ -30,6 +30,8 @@ pub struct ReadFolder<'r, R: Files + AllocGlobal + Clock + Eprint> {
     root: String,
     /// The device and the number of the regular file that standard output is, if it is one.
     output: Option<(u64, u64)>,
+    /// The kind of the host's last error.
+    kind: ErrorKind,
     progress: Progress<'r, R>,
 }
 
@@ -152,6 +154,7 @@ impl<'r, R: Files + AllocGlobal + Clock + Eprint> ReadFolder<'r, R> {
             rt,
             root: String::from_str(rt.alloc(), path)?,
             output: output_file(rt),
+            kind: ErrorKind::Other,
             progress: Progress::new(rt, tells),
         })
     }
@@ -176,6 +179,21 @@ impl<'r, R: Files + AllocGlobal + Clock + Eprint> ReadFolder<'r, R> {
         Ok(looked_of(metadata))
     }
 
+    /// What a call of the host comes to; the kind of an error is noted.
+    fn answered<T: Drop>(&mut self, done: io::Result<T>) -> Result<T, FolderFault>
+        ensures answer { result ≡ answer_of done }
+    {
+        if let Err(error) = &done {
+            self.kind = error.kind();
+        }
+        answered(done)
+    }
+
+    /// The kind of the last error of the host; `Other` where there was none.
+    pub fn kind(&self) -> ErrorKind {
+        self.kind
+    }
+
     /// Takes away what was told of how far it is.
     pub fn finish(&mut self) {
         self.progress.finish();
@@ -189,18 +207,18 @@ impl<'r, R: Files + AllocGlobal + Clock + Eprint> HostFolder for ReadFolder<'r, 
     fn look(&mut self, path: &str) -> Result<Looked, FolderFault> {
         self.progress.step();
         let path = self.joined(path)?;
-        let metadata = answered(fs::symlink_metadata(self.rt, path.as_str()))?;
+        let metadata = self.answered(fs::symlink_metadata(self.rt, path.as_str()))?;
         self.told(&metadata)
     }
 
     fn names(&mut self, path: &str) -> Result<Names, FolderFault> {
         let path = self.joined(path)?;
-        answered(names_in(self.rt, path.as_str()))
+        self.answered(names_in(self.rt, path.as_str()))
     }
 
     fn target(&mut self, path: &str) -> Result<String, FolderFault> {
         let path = self.joined(path)?;
-        let target = answered(fs::read_link(self.rt, path.as_str()))?;
+        let target = self.answered(fs::read_link(self.rt, path.as_str()))?;
         Ok(target.into_string())
     }
 
@@ -210,7 +228,7 @@ impl<'r, R: Files + AllocGlobal + Clock + Eprint> HostFolder for ReadFolder<'r, 
 
     fn open(&mut self, path: &str) -> Result<(), FolderFault> {
         let path = self.joined(path)?;
-        let _file = answered(fs::open(self.rt, path.as_str()))?;
+        let _file = self.answered(fs::open(self.rt, path.as_str()))?;
         Ok(())
     }
 }
