@@ -273,6 +273,7 @@ END
 # ---- Faults: nothing is made, and what was there stays
 
 unopened_none=$(unopened none)
+unread_folder=$(unread folder)
 
 # refused FAULT WORD..: `decompress` and each command with --decompress, of an image by these words
 refused() {
@@ -288,7 +289,7 @@ refused() {
     run append --decompress --blocks 64 "$@" create none.img; want 1 "" "$fault"; unmade none.img
 }
 refused "${unopened_none#jffs2_image: }" none
-refused "L1 Device" folder
+refused "${unread_folder#jffs2_image: }" folder
 refused "L2 TooLarge" /dev/zero
 for value in 0 4095 4097 4194308 4294967295; do
     refused "M1 BlockSize$block_note" --block $value good

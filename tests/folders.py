@@ -102,8 +102,15 @@ def there_and_back():
     again, once = run("listing", "--time", "1", "plain/little"), run("listing", "--time", "1", "plain/tree")
     verdict("its listing is the same", again.out.replace(b"plain/little/", b"plain/tree/") == once.out, again)
     done = run("extract", "plain/little.img", "plain/little")
-    verdict("a folder that is there is not filled", done == Done(1, b"", b"jffs2_image: P1 File plain/little\n"), done)
+    verdict("a folder that is there is not filled", done == Done(1, b"", b"jffs2_image: P1 File plain/little\njffs2_image: note: plain/little: exists\n"), done)
     verdict("and stays as it is", seen("plain/little") == seen("plain/tree"))
+
+
+def not_listed(name, why):
+    """What is said of a folder that is not read: the system's reason too, where it has one."""
+    reason = {"no such folder": "no such file", "plain/tree.txt/folder": "a part of the path is no directory"}.get(name)
+    note = f"jffs2_image: note: {name}: {reason}\n" if reason else ""
+    return f"not listed: {why}\njffs2_image: P1 File {name}\n{note}".encode()
 
 
 def with_settings():
@@ -117,9 +124,9 @@ def with_settings():
         done = run("listing", *words, "plain/tree")
         verdict(f"wrong settings {words}", done.status == 2 and done.out == b"", done)
     os.symlink("plain/tree", "way")
-    for name, why in (("no such folder", "the host refused it"), ("plain/tree.txt", "no directory"), ("way", "a symlink, which is not followed")):
+    for name, why in (("no such folder", "the host refused it"), ("plain/tree.txt/folder", "the host refused it"), ("plain/tree.txt", "no directory"), ("way", "a symlink, which is not followed")):
         done = run("listing", name)
-        verdict(f"no folder: {name}", done == Done(1, b"", f"not listed: {why}\njffs2_image: P1 File {name}\n".encode()), done)
+        verdict(f"no folder: {name}", done == Done(1, b"", not_listed(name, why)), done)
 
 
 def read(path):
@@ -145,9 +152,9 @@ def packed():
                 done = run("pack", *words, *flags, *blocks, "plain/tree", "packed.img")
                 verdict(f"packed, {words} {flags} {blocks}", done == wanted and read("packed.img") == read("by_hand.img"), done)
     os.remove("packed.img")
-    for name, why in (("no such folder", "the host refused it"), ("plain/tree.txt", "no directory"), ("way", "a symlink, which is not followed")):
+    for name, why in (("no such folder", "the host refused it"), ("plain/tree.txt/folder", "the host refused it"), ("plain/tree.txt", "no directory"), ("way", "a symlink, which is not followed")):
         done = run("pack", name, "packed.img")
-        wanted = Done(1, b"", f"not listed: {why}\njffs2_image: P1 File {name}\n".encode())
+        wanted = Done(1, b"", not_listed(name, why))
         verdict(f"nothing is packed of {name}", done == wanted and not os.path.exists("packed.img"), done)
     for flags in (["--block", "4100"], ["--block", "1"], ["--block", "0"], ["--block", "4294967295"], ["--block", "4096"], ["--blocks", "0"], ["--blocks", "4097"]):
         blocks = [] if "--blocks" in flags else ["--blocks", "1"]
@@ -361,9 +368,17 @@ def in_the_way():
     """The new folder is made by the program, or nothing is."""
     write("one.img", files((b"a", 0o100644, b"a")))
     os.symlink("elsewhere", "dangle")
-    for about, name in (("a dangling symlink", "dangle"), ("a file", "one.img"), ("no folder above", "no/such"), ("no name", "")):
+    rows = (
+        ("a dangling symlink", "dangle", "exists"),
+        ("a file", "one.img", "exists"),
+        ("a folder below a file", "one.img/new", "a part of the path is no directory"),
+        ("no folder above", "no/such", "no such file"),
+        ("no name", "", "no such file"),
+        ("a long name", "x" * 256, "no file can have this name"),
+    )
+    for about, name, why in rows:
         done = run("extract", "one.img", name)
-        verdict(f"{about} is no new folder", done == Done(1, b"", f"jffs2_image: P1 File {name}\n".encode()), done)
+        verdict(f"{about} is no new folder", done == Done(1, b"", f"jffs2_image: P1 File {name}\njffs2_image: note: {name}: {why}\n".encode()), done)
     verdict("nothing is made through a symlink", not os.path.exists("elsewhere"))
     done = run("extract", "no such image", "new")
     verdict("no image, no folder", done == Done(1, b"", b"jffs2_image: P1 File no such image\njffs2_image: note: no such image: no such file\n") and not os.path.exists("new"), done)
@@ -643,7 +658,7 @@ def paths_of_no_part():
         ("part.img", "new", "/d/", "P3 Path BadPath"),
         ("part.img", "new", "/d/../d", "P3 Path BadPath"),
         ("part.img", "there", "/none", "P3 Path NotFound"),
-        ("part.img", "there", "/d", "P1 File there"),
+        ("part.img", "there", "/d", "P1 File there\njffs2_image: note: there: exists"),
         ("none.img", "new", "/d\\q", "P3 Path BadPath"),
         ("none.img", "new", "d", "P1 File none.img\njffs2_image: note: none.img: no such file"),
         ("clash.img", "new", "/d\\x4", "P3 Path BadPath"),

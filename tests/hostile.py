@@ -378,7 +378,8 @@ def readings(name):
 def on_devices():
     """Devices, and names that lead nowhere, in place of files."""
     # The first byte of the second one cannot be read.
-    for device, told in (("/dev/zero", "L2 TooLarge"), ("/proc/self/mem", "L1 Device")):
+    unread = "L1 Device\njffs2_image: note: /proc/self/mem: was not read to its end"
+    for device, told in (("/dev/zero", "L2 TooLarge"), ("/proc/self/mem", unread)):
         for words in readings(device):
             done, made = tried(words)
             verdict(f"{words}", (done, made) == (fault(told), None), done)

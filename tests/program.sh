@@ -111,7 +111,7 @@ run check --scan ""; want 1 "" "$(unopened '')"
 run check --scan "two words"; want 1 "" "$(unopened 'two words')"
 run check --scan $'two\nlines\x7f\t'; want 1 "" $'jffs2_image: P1 File two\\\\x0alines\\\\x7f\\\\x09\njffs2_image: note: two\\\\x0alines\\\\x7f\\\\x09: no such file'
 run cat $'\e[2J' /a; want 1 "" $'jffs2_image: P1 File \\\\x1b[[]2J\njffs2_image: note: \\\\x1b[[]2J: no such file'
-run check --scan folder; want 1 "" "jffs2_image: L1 Device"
+run check --scan folder; want 1 "" "$(unread folder)"
 run check --scan --block 4096 longer
 want 0 $'block 0\n00000000 erased 4096\nblock 1\n00001000 erased 4096\ntotal blocks 2 entries 0 inodes 0 findings 0' ""
 run check --scan --block 4194304 longer; want 0 $'block 0\n00000000 erased 4194304\ntotal blocks 1 entries 0 inodes 0 findings 0' ""
@@ -151,7 +151,7 @@ run check --block 4096 "$sample"; want 3 "*findings 0*mount ok*dangling pino 1 i
 run check --endian big --block 4096 "$sample"; want 3 "*findings 4*mount ok" ""
 run check --block 4095 block; want 1 "" "jffs2_image: C1 BlockSize$block_note"
 run check none; want 1 "" "$(unopened none)"
-run check folder; want 1 "" "jffs2_image: L1 Device"
+run check folder; want 1 "" "$(unread folder)"
 
 # Files
 run cat block; want 2 "" "error: *<PATH>*Usage: *"
@@ -161,7 +161,7 @@ run cat block /a; want 1 "" "jffs2_image: P3 Path NotFound"
 run cat block /a/b; want 1 "" "jffs2_image: P3 Path NotFound"
 run cat --block 4096 "$sample" /a; want 1 "" "jffs2_image: P3 Path NotFound"
 run cat none /; want 1 "" "$(unopened none)"
-run cat folder /; want 1 "" "jffs2_image: L1 Device"
+run cat folder /; want 1 "" "$(unread folder)"
 run cat --block 4095 block /; want 1 "" "jffs2_image: M1 BlockSize$block_note"
 # The word of the path is judged before the image is opened.
 for path in '/\' '/\x1' '/\X11' '/\xg1' '/\\'; do
@@ -245,7 +245,7 @@ for value in 0 4092 4095 4097 4194308 4294967295; do
     run cat --block $value block /a; want 1 "" "jffs2_image: M1 BlockSize$block_note"
 done
 run ls none; want 1 "" "$(unopened none)"
-run ls folder; want 1 "" "jffs2_image: L1 Device"
+run ls folder; want 1 "" "$(unread folder)"
 run ls larger; want 1 "" "jffs2_image: L2 TooLarge"
 line="the tree of an image of 256 MiB in 64 MiB of memory"
 (ulimit -v 65536; "$program" ls greatest > out 2> err); got=$?; want 1 "" "jffs2_image: L3 OutOfMemory"
@@ -260,7 +260,7 @@ run info block block; want 2 "" "$wrong"
 run info --block 8192 block; want 2 "" "error: unexpected argument '--block' found*Usage: *"
 run info --endian big block; want 2 "" "error: unexpected argument '--endian' found*Usage: *"
 run info none; want 1 "" "$(unopened none)"
-run info folder; want 1 "" "jffs2_image: L1 Device"
+run info folder; want 1 "" "$(unread folder)"
 for image in larger /dev/zero; do
     run info $image; want 1 "" "jffs2_image: L2 TooLarge"
 done
@@ -312,7 +312,7 @@ run diff --decompress "$tree" "$tree"; want 2 "" "error: unexpected argument '--
 run diff --block x "$tree" "$tree"; want 2 "" "error: invalid value 'x' for '--block <N>': *"
 run diff none none2; want 1 "" "$(unopened none)"
 run diff "$tree" none2; want 1 "" "$(unopened none2)"
-run diff folder none2; want 1 "" "jffs2_image: L1 Device"
+run diff folder none2; want 1 "" "$(unread folder)"
 run diff "$tree" larger; want 1 "" "jffs2_image: L2 TooLarge"
 run diff --block 4097 "$tree" "$tree"; want 1 "" "jffs2_image: M1 BlockSize$block_note"
 run diff --block 8192 "$tree" "$top/tests/data/default.img"; want 1 "" "jffs2_image: M4 Compressed at *"
@@ -468,7 +468,7 @@ rm built
 lines listing 'create 0644 /a' 'create 0644 /b' 'part /a 0 none'
 run build --blocks 1 listing built; want 1 "" "$(unopened none)"; unmade built
 lines listing 'part /a 0 folder'
-run build --blocks 1 listing built; want 1 "" "jffs2_image: L1 Device"; unmade built
+run build --blocks 1 listing built; want 1 "" "$(unread folder)"; unmade built
 lines listing 'part /a 0 larger'
 run build --blocks 1 listing built; want 1 "" "jffs2_image: L2 TooLarge"; unmade built
 
@@ -487,7 +487,7 @@ rm built
 lines listing 'create 0644 /a' 'file 0644 /b no\x20such'
 run build --blocks 1 listing built; want 1 "" "$(unopened 'no such')"; unmade built
 lines listing 'file 0644 /a folder'
-run build --blocks 1 listing built; want 1 "" "jffs2_image: L1 Device"; unmade built
+run build --blocks 1 listing built; want 1 "" "$(unread folder)"; unmade built
 lines listing 'file 0644 /a larger'
 run build --blocks 1 listing built; want 1 "" "jffs2_image: L2 TooLarge"; unmade built
 
@@ -654,7 +654,12 @@ rm built
 
 # Files that cannot be opened, read or made
 run build --blocks 1 none built; want 1 "" "$(unopened none)"; unmade built
-run build --blocks 1 folder built; want 1 "" "jffs2_image: L1 Device"; unmade built
+run build --blocks 1 /proc/self/mem built; want 1 "" "$(unread /proc/self/mem 'was not read to its end')"; unmade built
+lines listing 'create 0644 /b' 'file 0644 /a two\x20folders\x0a'
+mkdir $'two folders\n'
+run build --blocks 1 listing built; want 1 "" "$(unread 'two folders\\\\x0a')"; unmade built
+rmdir $'two folders\n'
+run build --blocks 1 folder built; want 1 "" "$(unread folder)"; unmade built
 run build --blocks 1 larger built; want 1 "" "jffs2_image: L2 TooLarge"; unmade built
 run build --blocks 1 create_a nowhere/built; want 1 "" "$(unopened nowhere/built)"
 run build --blocks 1 create_a folder; want 1 "" "$(unopened folder 'is a directory')"
@@ -686,11 +691,15 @@ got=$?; want 1 "" $'jffs2_image: S4 Sink\njffs2_image: note: the file grows too 
 head -c 1024 image > piece; same built piece
 rm built
 
-# A file that may not be read
+# A file and a folder that may not be read
+not_listed=$'not listed: the host refused it\n'
 cp made_little closed
 chmod 000 closed
 if [[ $(id -u) != 0 ]]; then
     run ls closed; want 1 "" "$(unopened closed 'no permission')"
+    mkdir -m 000 closed_folder
+    run listing closed_folder; want 1 "" "$not_listed$(unopened closed_folder 'no permission')"
+    run extract sound closed_folder/new; want 1 "" "$(unopened closed_folder/new 'no permission')"
 elif command -v setpriv > /dev/null; then
     chmod 755 "$folder"
     cp "$program" reader; chmod 755 reader
@@ -698,6 +707,16 @@ elif command -v setpriv > /dev/null; then
     if setpriv --reuid nobody --clear-groups ./reader --version > out 2> err; then
         setpriv --reuid nobody --clear-groups ./reader ls closed > out 2> err
         got=$?; want 1 "" "$(unopened closed 'no permission')"
+        line="folders that may not be read or filled"
+        mkdir -m 700 closed_folder
+        setpriv --reuid nobody --clear-groups ./reader listing closed_folder > out 2> err
+        got=$?; want 1 "" "$not_listed$(unopened closed_folder 'no permission')"
+        setpriv --reuid nobody --clear-groups ./reader pack closed_folder none > out 2> err
+        got=$?; want 1 "" "$not_listed$(unopened closed_folder 'no permission')"
+        setpriv --reuid nobody --clear-groups ./reader extract sound closed_folder/new > out 2> err
+        got=$?; want 1 "" "$(unopened closed_folder/new 'no permission')"
+        setpriv --reuid nobody --clear-groups ./reader extract sound new > out 2> err
+        got=$?; want 1 "" "$(unopened new 'no permission')"
     fi
     rm reader
 fi
@@ -891,7 +910,7 @@ run append --block 4096 --blocks 2 made_little create_a built; want 1 "" "jffs2_
 run append --block 4097 --blocks 2 made_little create_a built; want 1 "" "jffs2_image: M1 BlockSize$block_note"; unmade built
 run append --blocks 2 none absent built; want 1 "" "$(unopened none)"; unmade built
 run append --blocks 2 made_little none built; want 1 "" "$(unopened none)"; unmade built
-run append --blocks 2 folder create_b built; want 1 "" "jffs2_image: L1 Device"; unmade built
+run append --blocks 2 folder create_b built; want 1 "" "$(unread folder)"; unmade built
 for file in larger /dev/zero; do
     run append --blocks 2 $file create_b built; want 1 "" "jffs2_image: L2 TooLarge"; unmade built
     run append --blocks 2 made_little $file built; want 1 "" "jffs2_image: L2 TooLarge"; unmade built
@@ -1052,7 +1071,7 @@ lines listing "create 0644 /a" "part /a 0 none"
 run cuts --blocks 1 listing; want 1 "" "$(unopened none)"
 run cuts --blocks 1 none; want 1 "" "$(unopened none)"
 run cuts --blocks 1 --on none listing; want 1 "" "$(unopened none)"
-run cuts --blocks 1 --on folder listing; want 1 "" "jffs2_image: L1 Device"
+run cuts --blocks 1 --on folder listing; want 1 "" "$(unread folder)"
 run cuts listing; want 2 "" "error: *--blocks*"
 run cuts --blocks 1 listing out; want 2 "" "error: unexpected argument 'out' found*"
 run cuts --blocks 1 --page 512 listing; want 2 "" "error: invalid value '512' for '--page <N>': *"

@@ -111,7 +111,7 @@ same "files that were extracted" "${found//.0000000000/}" "\
 644 30 1 1000000000 /etc/passwd
 644 10 1 1000000000 /var/log/boot log"
 same "symlink that was extracted" "$(readlink tree/var/name)" "../etc/hostname"
-gives 1 "jffs2_image: P1 File tree" extract --block 8192 data/tree.img tree
+gives 1 $'jffs2_image: P1 File tree\njffs2_image: note: tree: exists' extract --block 8192 data/tree.img tree
 jffs2_image listing --owner 0 0 --time 1000000000 tree > tree.txt
 same "listing of a folder" "$(cat tree.txt)" "\
 time 1000000000

@@ -82,6 +82,11 @@ unopened() {
     printf 'jffs2_image: P1 File %s\njffs2_image: note: %s: %s' "$1" "$1" "${2:-no such file}"
 }
 
+# unread NAME WHY: what standard error says of a file that was opened, and failed
+unread() {
+    printf 'jffs2_image: L1 Device\njffs2_image: note: %s: %s' "$1" "${2:-is a directory}"
+}
+
 # noted N: what standard error says
 noted() {
     local word=findings

@@ -216,6 +216,7 @@ spot_failed times s t w n name i j names left right (program.Load f) old new bef
 spot_failed times s t w n name i j names left right (program.Scan f) old new before now read put = absurd put
 spot_failed times s t w n name i j names left right (program.Mount f) old new before now read put = absurd put
 spot_failed times s t w n name i j names left right (program.File f) old new before now read put = absurd put
+spot_failed times s t w n name i j names left right (program.NotRead f) old new before now read put = absurd put
 spot_failed times s t w n name i j names left right (program.Listing line) old new before now read put = absurd put
 spot_failed times s t w n name i j names left right (program.Session f line cause) old new before now read put = absurd put
 spot_failed times s t w n name i j names left right (program.Path f) old new before now read put = absurd put
@@ -311,6 +312,7 @@ roots_failed times s t a b c d (program.Load f) old new before now none nothing 
 roots_failed times s t a b c d (program.Scan f) old new before now none nothing put = absurd put
 roots_failed times s t a b c d (program.Mount f) old new before now none nothing put = absurd put
 roots_failed times s t a b c d (program.File f) old new before now none nothing put = absurd put
+roots_failed times s t a b c d (program.NotRead f) old new before now none nothing put = absurd put
 roots_failed times s t a b c d (program.Listing line) old new before now none nothing put = absurd put
 roots_failed times s t a b c d (program.Session f line cause) old new before now none nothing put = absurd put
 roots_failed times s t a b c d (program.Path f) old new before now none nothing put = absurd put
@@ -360,6 +362,7 @@ pair_stopped times s t w n (program.Load f) a b c count first before now far sam
 pair_stopped times s t w n (program.Scan f) a b c count first before now far same put = absurd put
 pair_stopped times s t w n (program.Mount f) a b c count first before now far same put = absurd put
 pair_stopped times s t w n (program.File f) a b c count first before now far same put = absurd put
+pair_stopped times s t w n (program.NotRead f) a b c count first before now far same put = absurd put
 pair_stopped times s t w n (program.Listing line) a b c count first before now far same put = absurd put
 pair_stopped times s t w n (program.Session f line cause) a b c count first before now far same put = absurd put
 pair_stopped times s t w n (program.Path f) a b c count first before now far same put = absurd put

@@ -123,6 +123,7 @@ apart_not_written held e size output image old n stay left (program.Load f) is p
 apart_not_written held e size output image old n stay left (program.Scan f) is parts not = absurd not
 apart_not_written held e size output image old n stay left (program.Mount f) is parts not = absurd not
 apart_not_written held e size output image old n stay left (program.File name) is parts not = (inr (is, (stay, left, parts, not)), refl, refl)
+apart_not_written held e size output image old n stay left (program.NotRead name) is parts not = absurd not
 apart_not_written held e size output image old n stay left (program.Listing k) is parts not = absurd not
 apart_not_written held e size output image old n stay left (program.Session f line cause) is parts not = (inr (is, (stay, left, parts, not)), refl, refl)
 apart_not_written held e size output image old n stay left (program.Path f) is parts not = absurd not

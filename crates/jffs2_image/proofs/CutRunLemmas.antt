@@ -40,6 +40,7 @@ told_fault told e flash base text sink (Err other) f is due new now = inr (f, ap
 pub part_due : (told : List ℕ → Option (List ℕ)) (e : Endian) (size : ℕ) (base text : List ℕ) (lines : List Line) (f : ProgramFault)
     → lines_of text ≡ Ok lines → IsPartUnread told lines f → IsLinesFault told e size base text f
 part_due told e size base text lines (program.File name) read unread = (lines, read, unread)
+part_due told e size base text lines (program.NotRead name) read unread = (lines, read, unread)
 part_due told e size base text lines (program.Load f) read unread = (lines, read, unread)
 part_due told e size base text lines program.OutOfMemory read unread = tt
 part_due told e size base text lines (program.Scan f) read unread = absurd unread
@@ -55,7 +56,8 @@ part_due told e size base text lines (program.TooLong at) read unread = absurd u
 
 pub part_blames : (told : List ℕ → Option (List ℕ)) (lines : List Line) (before now : ℕ) (f : ProgramFault) → IsPartUnread told lines f → IsReadFault before now f → BlamesReading before now (Err f)
 part_blames told lines before now (program.File name) unread read = read
-part_blames told lines before now (program.Load load.Device) unread read = read
+part_blames told lines before now (program.NotRead name) unread read = read
+part_blames told lines before now (program.Load load.Device) unread read = absurd unread
 part_blames told lines before now (program.Load load.TooLarge) unread read = tt
 part_blames told lines before now (program.Load load.OutOfMemory) unread read = tt
 part_blames told lines before now program.OutOfMemory unread read = tt
@@ -72,7 +74,8 @@ part_blames told lines before now (program.TooLong at) unread read = absurd unre
 
 pub file_blames : (name : List ℕ) (told : Option (List ℕ)) (before now : ℕ) (f : ProgramFault) → IsUnreadFile name told f → IsReadFault before now f → BlamesReading before now (Err f)
 file_blames name told before now (program.File other) unread read = read
-file_blames name told before now (program.Load load.Device) unread read = read
+file_blames name told before now (program.NotRead other) unread read = read
+file_blames name told before now (program.Load load.Device) unread read = absurd unread
 file_blames name told before now (program.Load load.TooLarge) unread read = tt
 file_blames name told before now (program.Load load.OutOfMemory) unread read = tt
 file_blames name told before now program.OutOfMemory unread read = absurd unread

@@ -1,6 +1,6 @@
 -- What commands do of images that are decompressed.
 use Rattle.std.proofs.Common.{◌≡◌, ℕ, Bool, true, false, List, Option, Some, None, Result, Ok, Err, inl, inr, refl, sym, ap, ◌∙◌, subst}
-use Rattle.std.specs.Prelude.{◌⊎◌, IfOk, IfSome, IsErrOf}
+use Rattle.std.specs.Prelude.{◌⊎◌, IfOk, IsErrOf}
 use Rattle.flashbase.specs.declared.source.LoadFault.TheVariants as load
 use Rattle.jnode.specs.declared.order.Endian.{Endian}
 use Rattle.jscan.specs.declared.geometry.ScanFault.TheVariants as scan
@@ -13,11 +13,11 @@ use Rattle.jcommand.specs.Parsed.{ListParsed, CatParsed, AppendParsed, Decompres
 use Rattle.jcommand.specs.declared.parsed.Options.{Options}
 use Rattle.jreport.specs.FoundIn.{found_in}
 use Rattle.jreport.specs.Paths.{path_of}
-use Rattle.jreport.specs.WholeImage.{OfSomeImage, PutsFile, PutsListing, list_request}
+use Rattle.jreport.specs.WholeImage.{PutsFile, PutsListing, list_request}
 use Rattle.jreport.specs.declared.faults.ProgramFault.{ProgramFault}
 use Rattle.jreport.specs.declared.faults.ProgramFault.TheVariants as program
 use Rattle.jffs2_image.specs.Decompressing.{DecompressesFile, IsNotConverted, IsNotWritten, fault_of_conversion, with_findings}
-use Rattle.jffs2_image.specs.Host.{AreLoaded, AreOf, Blames, BlamesDecompress, GivesFile, IsReadFault, IsRefusedBefore, ReadsFile}
+use Rattle.jffs2_image.specs.Host.{AreLoaded, Blames, BlamesDecompress, IsReadFault, IsRefusedBefore, ReadsFile}
 use Rattle.jffs2_image.specs.Runs.{Meets, RunsListed}
 use Rattle.jffs2_image.specs.Writes.{Held, IsNotedIn, IsUnreadFile, image_form}
 use Rattle.jffs2_image.proofs.WritingLemmas.{not_scanned}
@@ -97,6 +97,7 @@ not_written held e size output image made old n (program.Load f) is not = absurd
 not_written held e size output image made old n (program.Scan f) is not = absurd not
 not_written held e size output image made old n (program.Mount f) is not = absurd not
 not_written held e size output image made old n (program.File name) is not = (inr (made, is, not), refl, refl)
+not_written held e size output image made old n (program.NotRead name) is not = absurd not
 not_written held e size output image made old n (program.Listing k) is not = absurd not
 not_written held e size output image made old n (program.Session f line cause) is not = (inr (made, is, not), refl, refl)
 not_written held e size output image made old n (program.Path f) is not = absurd not
@@ -119,7 +120,7 @@ fault_or other (Ok x) = other
 fault_or other (Err f) = f
 
 -- one answer, one fault
-one_fault : {f g : ProgramFault} → IsErrOf {T = ℕ} {E = ProgramFault} (Err f) g → f ≡ g
+pub one_fault : {f g : ProgramFault} → IsErrOf {T = ℕ} {E = ProgramFault} (Err f) g → f ≡ g
 one_fault {f} is = ap (fault_or f) is
 
 -- `ls`: its file is not read, or nothing is made of it, or the tree of what is made goes out
@@ -156,6 +157,7 @@ part_unread told held e options name word path old n f is not = by f not
     by : (f : ProgramFault) → IsUnreadFile name (told name) f → Meets told held e (ListParsed options true name (Some word)) (sink_change old old n n) (Err f)
     by (program.Load f) not = record { block_size = λ wrong. cc; told_of = λ wrong. tt; put = inr (program.Load f, refl, (not, rw is refl), refl, refl) }
     by (program.File file) not = record { block_size = λ wrong. cc; told_of = λ wrong. tt; put = inr (program.File file, refl, (not, rw is refl), refl, refl) }
+    by (program.NotRead file) not = record { block_size = λ wrong. cc; told_of = λ wrong. tt; put = inr (program.NotRead file, refl, (not, rw is refl), refl, refl) }
     by (program.Scan f) not = absurd not
     by (program.Mount f) not = absurd not
     by (program.Listing k) not = absurd not
@@ -186,24 +188,6 @@ part_done told held e options name word path image made old new before now done 
   put = inl (image, of.0, (path, path_is, inl (made, done, is, puts, refl)));
 }
 
--- the same of the image as it is
-given : (told rest : Option (List ℕ)) (image : List ℕ) → GivesFile told rest → IfSome rest (λ bytes. image ≡ bytes) → AreOf told image
-given None rest image gives is = tt
-given (Some known) None image gives is = absurd (cc)
-given (Some known) (Some bytes) image gives is = let same : bytes ≡ known = cc in is ∙ same
-
-pub part_listed : (told : List ℕ → Option (List ℕ)) (held : Held) (e : Endian) (options : Options) (name word path : List ℕ) (rest : Option (List ℕ)) (d : Bool) (old new : Option (List ℕ)) (before now : ℕ) (answer : Result ℕ ProgramFault)
-    → d ≡ false → path_of word ≡ Some path → GivesFile (told name) rest
-    → OfSomeImage rest (λ image. PutsListing (list_request e options.geometry.block (Some path)) image (sink_change old new before now) answer)
-    → Meets told held e (ListParsed options d name (Some word)) (sink_change old new before now) answer
-part_listed told held e options name word path rest d old new before now answer plain is gives puts =
-    let meets : Meets told held e (ListParsed options false name (Some word)) (sink_change old new before now) answer = record {
-      block_size = λ wrong. absurd ((subst (PutsListing (list_request e options.geometry.block (Some path)) puts.0 (sink_change old new before now)) wrong puts.2).2.0.2);
-      told_of = λ wrong. tt;
-      put = inl (puts.0, given (told name) rest puts.0 gives puts.1, (path, is, puts.2));
-    } in
-    subst (λ (b : Bool). Meets told held e (ListParsed options b name (Some word)) (sink_change old new before now) answer) (sym plain) meets
-
 -- `cat`, of a path
 pub cat_unread : (told : List ℕ → Option (List ℕ)) (held : Held) (e : Endian) (options : Options) (name word path : List ℕ) (old : Option (List ℕ)) (n : ℕ) (f : ProgramFault)
     → path_of word ≡ Some path → IsUnreadFile name (told name) f → Meets told held e (CatParsed options true name word) (sink_change old old n n) (Err f)
@@ -212,6 +196,7 @@ cat_unread told held e options name word path old n f is not = by f not
     by : (f : ProgramFault) → IsUnreadFile name (told name) f → Meets told held e (CatParsed options true name word) (sink_change old old n n) (Err f)
     by (program.Load f) not = record { block_size = λ wrong. cc; told_of = λ wrong. tt; put = inr (program.Load f, refl, (not, rw is refl), refl, refl) }
     by (program.File file) not = record { block_size = λ wrong. cc; told_of = λ wrong. tt; put = inr (program.File file, refl, (not, rw is refl), refl, refl) }
+    by (program.NotRead file) not = record { block_size = λ wrong. cc; told_of = λ wrong. tt; put = inr (program.NotRead file, refl, (not, rw is refl), refl, refl) }
     by (program.Scan f) not = absurd not
     by (program.Mount f) not = absurd not
     by (program.Listing k) not = absurd not
@@ -306,12 +291,13 @@ decompress_done told held e options name output image old new before now done of
 -- ---- who is to blame
 
 pub reads_fault : (T : Type 0) (told : Option (List ℕ)) (before now : ℕ) (f : ProgramFault) → ReadsFile {T = T} told before now (Err f) → IsReadFault before now f
-reads_fault T told before now (program.Load load.Device) reads = reads
+reads_fault T told before now (program.Load load.Device) reads = tt
 reads_fault T told before now (program.Load load.TooLarge) reads = tt
 reads_fault T told before now (program.Load load.OutOfMemory) reads = tt
 reads_fault T told before now (program.Scan f) reads = tt
 reads_fault T told before now (program.Mount f) reads = tt
 reads_fault T told before now (program.File name) reads = reads
+reads_fault T told before now (program.NotRead name) reads = reads
 reads_fault T told before now (program.Listing k) reads = tt
 reads_fault T told before now (program.Session f line cause) reads = tt
 reads_fault T told before now (program.Path f) reads = tt
@@ -330,6 +316,7 @@ reads_any T told before now (program.Load load.OutOfMemory) reads = reads
 reads_any T told before now (program.Scan f) reads = reads
 reads_any T told before now (program.Mount f) reads = reads
 reads_any T told before now (program.File name) reads = reads
+reads_any T told before now (program.NotRead name) reads = reads
 reads_any T told before now (program.Listing k) reads = reads
 reads_any T told before now (program.Session f line cause) reads = reads
 reads_any T told before now (program.Path f) reads = reads
@@ -347,6 +334,7 @@ decompress_any T u v rb rn mb mn (program.Load load.OutOfMemory) blames = blames
 decompress_any T u v rb rn mb mn (program.Scan f) blames = blames
 decompress_any T u v rb rn mb mn (program.Mount f) blames = blames
 decompress_any T u v rb rn mb mn (program.File name) blames = blames
+decompress_any T u v rb rn mb mn (program.NotRead name) blames = blames
 decompress_any T u v rb rn mb mn (program.Listing k) blames = blames
 decompress_any T u v rb rn mb mn (program.Session session.ReadOnly line cause) blames = blames
 decompress_any T u v rb rn mb mn (program.Session session.Geometry line cause) blames = blames

@@ -46,6 +46,7 @@ make_fault page e size blocks m output from u v same before now (program.Load f)
 make_fault page e size blocks m output from u v same before now (program.Scan f) on not made left = absurd not
 make_fault page e size blocks m output from u v same before now (program.Mount f) on not made left = absurd not
 make_fault page e size blocks m output from u v same before now (program.File name) on not made left = made
+make_fault page e size blocks m output from u v same before now (program.NotRead name) on not made left = absurd not
 make_fault page e size blocks m output from u v same before now (program.Listing k) on not made left = absurd not
 make_fault page e size blocks m output from u v same before now (program.Session session.ReadOnly None cause) on (inl is, why) made left = cc
 make_fault page e size blocks m output from u v same before now (program.Session session.ReadOnly None cause) on (inr is, why) made left = absurd (is.1)
@@ -102,6 +103,7 @@ lines_blame u v rb rn mb mn (Err (program.Load f)) read made = absurd made
 lines_blame u v rb rn mb mn (Err (program.Scan f)) read made = tt
 lines_blame u v rb rn mb mn (Err (program.Mount f)) read made = made
 lines_blame u v rb rn mb mn (Err (program.File name)) read made = inr made
+lines_blame u v rb rn mb mn (Err (program.NotRead name)) read made = absurd made
 lines_blame u v rb rn mb mn (Err (program.Listing k)) read made = absurd made
 lines_blame u v rb rn mb mn (Err (program.Session session.ReadOnly line cause)) read made = made
 lines_blame u v rb rn mb mn (Err (program.Session session.Geometry line cause)) read made = made
@@ -120,12 +122,13 @@ lines_blame u v rb rn mb mn (Err program.OutOfMemory) read made = made
 
 -- a file that a line names was not read
 pub parts_blame : (T : Type 0) (u v : Type 0) (rb rn mb mn : ℕ) (told : List ℕ → Option (List ℕ)) (lines : List Line) (f : ProgramFault) → u → IsPartUnread told lines f → IsReadFault rb rn f → Blames {T = T} u v rb rn mb mn (Err f)
-parts_blame T u v rb rn mb mn told lines (program.Load load.Device) still not read = (still, read)
+parts_blame T u v rb rn mb mn told lines (program.Load load.Device) still not read = absurd not
 parts_blame T u v rb rn mb mn told lines (program.Load load.TooLarge) still not read = still
 parts_blame T u v rb rn mb mn told lines (program.Load load.OutOfMemory) still not read = still
 parts_blame T u v rb rn mb mn told lines (program.Scan f) still not read = absurd not
 parts_blame T u v rb rn mb mn told lines (program.Mount f) still not read = absurd not
 parts_blame T u v rb rn mb mn told lines (program.File name) still not read = inl (still, read)
+parts_blame T u v rb rn mb mn told lines (program.NotRead name) still not read = (still, read)
 parts_blame T u v rb rn mb mn told lines (program.Listing k) still not read = absurd not
 parts_blame T u v rb rn mb mn told lines (program.Session f line cause) still not read = absurd not
 parts_blame T u v rb rn mb mn told lines (program.Path f) still not read = absurd not
@@ -138,12 +141,13 @@ parts_blame T u v rb rn mb mn told lines program.OutOfMemory still not read = in
 
 -- a file that the words name was not read
 pub file_blame : (T : Type 0) (u v : Type 0) (rb rn mb mn : ℕ) (name : List ℕ) (told : Option (List ℕ)) (f : ProgramFault) → u → IsUnreadFile name told f → IsReadFault rb rn f → Blames {T = T} u v rb rn mb mn (Err f)
-file_blame T u v rb rn mb mn name told (program.Load load.Device) still not read = (still, read)
+file_blame T u v rb rn mb mn name told (program.Load load.Device) still not read = absurd not
 file_blame T u v rb rn mb mn name told (program.Load load.TooLarge) still not read = still
 file_blame T u v rb rn mb mn name told (program.Load load.OutOfMemory) still not read = still
 file_blame T u v rb rn mb mn name told (program.Scan f) still not read = absurd not
 file_blame T u v rb rn mb mn name told (program.Mount f) still not read = absurd not
 file_blame T u v rb rn mb mn name told (program.File other) still not read = inl (still, read)
+file_blame T u v rb rn mb mn name told (program.NotRead other) still not read = (still, read)
 file_blame T u v rb rn mb mn name told (program.Listing k) still not read = absurd not
 file_blame T u v rb rn mb mn name told (program.Session f line cause) still not read = absurd not
 file_blame T u v rb rn mb mn name told (program.Path f) still not read = absurd not
@@ -162,6 +166,7 @@ any_blame T u v rb rn mb mn (program.Load load.OutOfMemory) w = w
 any_blame T u v rb rn mb mn (program.Scan f) w = w
 any_blame T u v rb rn mb mn (program.Mount f) w = w
 any_blame T u v rb rn mb mn (program.File name) w = w
+any_blame T u v rb rn mb mn (program.NotRead name) w = w
 any_blame T u v rb rn mb mn (program.Listing k) w = w
 any_blame T u v rb rn mb mn (program.Session session.ReadOnly line cause) w = w
 any_blame T u v rb rn mb mn (program.Session session.Geometry line cause) w = w
@@ -313,6 +318,7 @@ files_not_made told held page e size blocks output base text lines parts m old n
     by (program.Scan f) not cut = tt
     by (program.Mount f) not cut = absurd not
     by (program.File name) not cut = cut
+    by (program.NotRead name) not cut = absurd not
     by (program.Listing k) not cut = tt
     by (program.Session session.Sink None cause) not cut = cut_short told held page e size blocks base text lines parts m same are read cut
     by (program.Session session.OutOfMemory None cause) not cut = (all_of_text told lines parts text are read, subst (λ (image : List ℕ). HoldsFront held (image_form page e size blocks) image) same cut)

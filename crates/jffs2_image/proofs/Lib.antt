@@ -8,6 +8,7 @@ pub mod DecompressingLemmas
 pub mod DiffLemmas
 pub mod WritingLemmas
 pub mod HostLemmas
+mod LookingLemmas
 pub mod RunLemmas
 pub mod CutRunLemmas
 pub mod CompressingLemmas

@@ -46,6 +46,7 @@ not_made held page e size blocks output base text m (program.Load f) old n same 
 not_made held page e size blocks output base text m (program.Scan f) old n same mounts not = absurd not
 not_made held page e size blocks output base text m (program.Mount f) old n same mounts not = absurd not
 not_made held page e size blocks output base text m (program.File name) old n same mounts not = (inl not, refl, refl)
+not_made held page e size blocks output base text m (program.NotRead name) old n same mounts not = absurd not
 not_made held page e size blocks output base text m (program.Listing k) old n same mounts not = absurd not
 not_made held page e size blocks output base text m (program.Session f None cause) old n same mounts not =
     ((inl (refl, (m, mounts, not.0)), subst (λ (image : List ℕ). IsCause page size blocks image f cause) same not.1), refl, refl)

@@ -2,7 +2,6 @@
 use Rattle.std.specs.Prelude.{◌≡◌, ◌⊎◌, ℕ, Bool, List, [], map, Option, Some, None, Result, Ok, Err}
 use Rattle.flashbase.specs.Device.{next_count}
 use Rattle.flashbase.specs.Sinks.{SinkChange}
-use Rattle.flashbase.specs.declared.source.LoadFault.TheVariants as load
 use Rattle.jnode.specs.declared.order.Endian.{Endian}
 use Rattle.jmount.specs.Mount.{Mount}
 use Rattle.jmount.specs.Mounts.{Answers}
@@ -62,6 +61,8 @@ abbrev pub IsLinesFault : (List ℕ → Option (List ℕ)) → Endian → ℕ �
 IsLinesFault told e size base text (program.Listing bad) = IsBadLine text bad
 IsLinesFault told e size base text (program.File file) =
     (lines : List Line) × (lines_of text ≡ Ok lines) × IsNamedByLine lines file.name.now
+IsLinesFault told e size base text (program.NotRead file) =
+    (lines : List Line) × (lines_of text ≡ Ok lines) × IsNamedByLine lines file.name.now
 IsLinesFault told e size base text (program.Load fault) =
     (lines : List Line) × (lines_of text ≡ Ok lines) × IsPartUnread told lines (program.Load fault)
 IsLinesFault told e size base text (program.Mount fault) =
@@ -111,7 +112,7 @@ TellsFiles told e flash on listing sink answer =
 -- comes after all reading none has.
 abbrev pub BlamesReading : ℕ → ℕ → Result ℕ ProgramFault → Type 0
 BlamesReading before now (Err (program.File name)) = now ≡ next_count before
-BlamesReading before now (Err (program.Load load.Device)) = now ≡ next_count before
+BlamesReading before now (Err (program.NotRead name)) = now ≡ next_count before
 BlamesReading before now (Err (program.Load fault)) = Unit {0}
 BlamesReading before now (Err program.OutOfMemory) = Unit {0}
 BlamesReading before now _ = now ≡ before

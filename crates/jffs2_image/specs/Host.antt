@@ -43,7 +43,7 @@ CountsFile before now (Err (file.Load load.OutOfMemory)) = now ≡ before
 -- the same of the program's own faults
 abbrev pub IsReadFault : ℕ → ℕ → ProgramFault → Type 0
 IsReadFault before now (program.File name) = now ≡ next_count before
-IsReadFault before now (program.Load load.Device) = now ≡ next_count before
+IsReadFault before now (program.NotRead name) = now ≡ next_count before
 IsReadFault before now _ = Unit {0}
 
 -- a source gives the bytes of the file, where the host tells them
@@ -205,6 +205,7 @@ BlamesMaker untouched makes before now (Err (program.Session session.Sink line c
     HasFailed before now × makes
 BlamesMaker untouched makes before now (Err (program.Session fault line cause)) = makes
 BlamesMaker untouched makes before now (Err (program.File name)) = now ≡ next_count before
+BlamesMaker untouched makes before now (Err (program.NotRead name)) = ⊥
 BlamesMaker untouched makes before now (Err (program.Load fault)) = ⊥
 BlamesMaker untouched makes before now (Err (program.Data addr)) = ⊥
 BlamesMaker untouched makes before now (Err (program.TooLong addr)) = ⊥
@@ -233,7 +234,7 @@ Blames untouched makes read_before read_now made_before made_now
     (Err (program.Session fault line cause)) = makes
 Blames untouched makes read_before read_now made_before made_now (Err (program.File name)) =
     (untouched × (read_now ≡ next_count read_before)) ⊎ (made_now ≡ next_count made_before)
-Blames untouched makes read_before read_now made_before made_now (Err (program.Load load.Device)) =
+Blames untouched makes read_before read_now made_before made_now (Err (program.NotRead name)) =
     untouched × (read_now ≡ next_count read_before)
 Blames untouched makes read_before read_now made_before made_now (Err (program.Load fault)) =
     untouched
@@ -248,7 +249,7 @@ Blames untouched makes read_before read_now made_before made_now (Err _) = Unit 
 -- or fails while it is read, and only then; it is too large only where it is.
 abbrev pub ReadsFile : {T : Type 0} → Option (List ℕ) → ℕ → ℕ → Result T ProgramFault → Type 0
 ReadsFile told before now (Err (program.File name)) = now ≡ next_count before
-ReadsFile told before now (Err (program.Load load.Device)) = now ≡ next_count before
+ReadsFile told before now (Err (program.NotRead name)) = now ≡ next_count before
 ReadsFile told before now (Err (program.Load load.TooLarge)) = IsTooLong told × (now ≡ before)
 ReadsFile told before now _ = now ≡ before
 
@@ -270,7 +271,7 @@ BlamesDecompress untouched makes read_before read_now made_before made_now
     (Err (program.File name)) =
     (untouched × (read_now ≡ next_count read_before)) ⊎ (made_now ≡ next_count made_before)
 BlamesDecompress untouched makes read_before read_now made_before made_now
-    (Err (program.Load load.Device)) = untouched × (read_now ≡ next_count read_before)
+    (Err (program.NotRead name)) = untouched × (read_now ≡ next_count read_before)
 BlamesDecompress untouched makes read_before read_now made_before made_now
     (Err (program.Session session.Sink line cause)) = HasFailed made_before made_now × makes
 BlamesDecompress untouched makes read_before read_now made_before made_now

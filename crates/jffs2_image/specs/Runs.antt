@@ -3,6 +3,7 @@ use Rattle.std.specs.Prelude.{◌≡◌, ◌⊎◌, ◌==◌, ℕ, Bool, true, f
 use Rattle.std.specs.Io.KnownBytes.{Appends, Keeps}
 use Rattle.flashbase.specs.Device.{PutsPart, next_count}
 use Rattle.flashbase.specs.Sinks.{SinkChange}
+use Rattle.flashbase.specs.declared.source.LoadFault.TheVariants as load
 use Rattle.jnode.specs.declared.order.Endian.{Endian}
 use Rattle.jscan.specs.Image.{is_block_size}
 use Rattle.jscan.specs.declared.geometry.ScanFault.TheVariants as scan
@@ -51,6 +52,11 @@ PutsJudged e size asked image sink (Ok n) =
     (found : Bool) × (n ≡ number_found found) × PutsCheck e size image asked sink (Ok found)
 PutsJudged e size asked image sink (Err fault) = PutsCheck e size image asked sink (Err fault)
 
+-- the answer of `check` as that number
+abbrev pub found_answer : Result Bool ProgramFault → Result ℕ ProgramFault
+found_answer (Ok found) = Ok (number_found found)
+found_answer (Err fault) = Err fault
+
 -- the image of a request is the file of the name that it gives, where the host tells its bytes;
 -- `build` has none
 abbrev pub IsImageOf : (List ℕ → Option (List ℕ)) → Parsed → List ℕ → Type 0
@@ -72,23 +78,48 @@ RunsListed told held form listing output image sink answer =
     × WritesImage held form output image text sink answer
     × RunsFiles told held form image text sink.old sink.new answer
 
+-- the file of this name failed while it was read, for a reason of the host
+abbrev pub IsNotRead : List ℕ → ProgramFault → Type 0
+IsNotRead name (program.NotRead file) = file.name.now ≡ name
+IsNotRead name _ = ⊥
+
+-- what a call comes to that answers so of a source, where the source is the file of this name
+abbrev pub NamesUnread : List ℕ → Result ℕ ProgramFault → Result ℕ ProgramFault → Type 0
+NamesUnread name (Err (program.Load load.Device)) result = IsErrAnd result (IsNotRead name)
+NamesUnread name answer result = result ≡ answer
+
+-- a call on the file of this name puts what one puts that reads a source with these bytes
+abbrev pub PutsNamed : List ℕ → (List ℕ → SinkChange → Result ℕ ProgramFault → Type 0) → List ℕ
+    → SinkChange → Result ℕ ProgramFault → Type 0
+PutsNamed name Puts image sink result =
+    (answer : Result ℕ ProgramFault) × NamesUnread name answer result × Puts image sink answer
+
+-- the same where the image may be one to decompress, which is held in memory first
+abbrev pub PutsRead : Bool → List ℕ → Endian → ℕ
+    → (List ℕ → SinkChange → Result ℕ ProgramFault → Type 0) → List ℕ → SinkChange
+    → Result ℕ ProgramFault → Type 0
+PutsRead false name e size Puts = PutsNamed name Puts
+PutsRead true name e size Puts = PutsTaken true e size Puts
+
 -- What is put of an image, or why no more of it is; with `--decompress`, of what `decompress` makes
 -- of it. The answer of
 -- `build` is no finding, and that of `append` the number of findings of its base.
 abbrev pub PutsAnswer : (List ℕ → Option (List ℕ)) → Held → Endian → Parsed → List ℕ → SinkChange
     → Result ℕ ProgramFault → Type 0
-PutsAnswer told held e (ScanParsed options name) = PutsStream e options.geometry.block
-PutsAnswer told held e (CheckParsed options shape name) = PutsJudged e options.geometry.block shape
+PutsAnswer told held e (ScanParsed options name) =
+    PutsNamed name (PutsStream e options.geometry.block)
+PutsAnswer told held e (CheckParsed options shape name) =
+    PutsNamed name (PutsJudged e options.geometry.block shape)
 PutsAnswer told held e (ListParsed options decompress name None) =
-    PutsTaken decompress e options.geometry.block
+    PutsRead decompress name e options.geometry.block
     (PutsListing (list_request e options.geometry.block None))
 PutsAnswer told held e (ListParsed options decompress name (Some word)) =
     λ image sink answer. (path : List ℕ) × (path_of word ≡ Some path)
-    × PutsTaken decompress e options.geometry.block
+    × PutsRead decompress name e options.geometry.block
     (PutsListing (list_request e options.geometry.block (Some path))) image sink answer
 PutsAnswer told held e (CatParsed options decompress name word) =
     λ image sink answer. (path : List ℕ) × (path_of word ≡ Some path)
-    × PutsTaken decompress e options.geometry.block
+    × PutsRead decompress name e options.geometry.block
     (λ bytes. PutsFile e options.geometry.block bytes path) image sink answer
 PutsAnswer told held e (BuildParsed options blocks page listing output) =
     λ image sink answer.

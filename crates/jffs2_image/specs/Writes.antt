@@ -63,7 +63,7 @@ IsTooLong told = IfSome told (λ bytes. greatest_image < length bytes)
 -- end.
 abbrev pub IsUnreadFile : List ℕ → Option (List ℕ) → ProgramFault → Type 0
 IsUnreadFile name told (program.File file) = file.name.now ≡ name
-IsUnreadFile name told (program.Load load.Device) = Unit {0}
+IsUnreadFile name told (program.NotRead file) = file.name.now ≡ name
 IsUnreadFile name told (program.Load load.TooLarge) = IsTooLong told
 IsUnreadFile name told (program.Load load.OutOfMemory) = Unit {0}
 IsUnreadFile name told _ = ⊥
@@ -75,7 +75,7 @@ IsNamedByLine lines name = Any (λ line. file_of line.action ≡ Some name) line
 -- a file that a line names can't be read, or there is no memory for it
 abbrev pub IsPartUnread : (List ℕ → Option (List ℕ)) → List Line → ProgramFault → Type 0
 IsPartUnread told lines (program.File file) = IsNamedByLine lines file.name.now
-IsPartUnread told lines (program.Load load.Device) = Unit {0}
+IsPartUnread told lines (program.NotRead file) = IsNamedByLine lines file.name.now
 IsPartUnread told lines (program.Load load.TooLarge) =
     (name : List ℕ) × IsNamedByLine lines name × IsTooLong (told name)
 IsPartUnread told lines (program.Load load.OutOfMemory) = Unit {0}
@@ -257,6 +257,8 @@ abbrev pub IsWriteFault : Held → ImageForm → List ℕ → List ℕ → List 
 IsWriteFault held form output base text (program.Listing bad) = IsBadLine text bad
 IsWriteFault held form output base text (program.File file) = (file.name.now ≡ output)
     ⊎ ((lines : List Line) × (lines_of text ≡ Ok lines) × IsNamedByLine lines file.name.now)
+IsWriteFault held form output base text (program.NotRead file) =
+    (lines : List Line) × (lines_of text ≡ Ok lines) × IsNamedByLine lines file.name.now
 IsWriteFault held form output base text (program.Load fault) =
     (lines : List Line) × (lines_of text ≡ Ok lines)
 IsWriteFault held form output base text (program.Mount fault) =

@@ -36,11 +36,17 @@ pub struct Extracted {
     pub attributes: u64,
 }
 
+/// A folder of the host that says why it refused.
+pub trait Refusing {
+    /// Why the last call failed that did, as far as the host tells.
+    fn reason(&self) -> Reason;
+}
+
 /// Gives folders of the host by their names, and takes them back.
 pub trait Folders {
-    type Filled: Folder;
+    type Filled: Folder + Refusing;
 
-    type Read: HostFolder + Drop;
+    type Read: HostFolder + Refusing + Drop;
 
     /// What was made in the folder of each name, in order, where it is told.
     ghost made: { Self → List ℕ → Option (List Made) };
@@ -75,22 +81,12 @@ pub trait Folders {
         ensures { made self.new ≡ made self.old };
 }
 
-/// A folder that can't be opened or made; why is not told.
-fn unopened(name: &str) -> Unopened<'_>
-    ensures { result.name.now ≡ name.now }
-{
-    Unopened {
-        name,
-        reason: Reason::Other,
-    }
-}
-
-/// What an extraction into the folder of a name gives up for.
-fn extract_fault(fault: ExtractFault, name: &str) -> ProgramFault<'_>
+/// What an extraction into the folder of a name gives up for; `reason` is why the folder refused.
+fn extract_fault(fault: ExtractFault, name: &str, reason: Reason) -> ProgramFault<'_>
     ensures { IsExtractFault name.now fault result }
 {
     match fault {
-        ExtractFault::Folder => ProgramFault::File(unopened(name)),
+        ExtractFault::Folder => ProgramFault::File(Unopened { name, reason }),
         ExtractFault::Notes => ProgramFault::Output,
         ExtractFault::NoSpace => ProgramFault::NoSpace(name),
         ExtractFault::OutOfMemory => ProgramFault::OutOfMemory,
@@ -98,7 +94,7 @@ fn extract_fault(fault: ExtractFault, name: &str) -> ProgramFault<'_>
 }
 
 /// The part of a mounted image that a path names is made in a folder.
-fn extract_at<'a, X: Folder, N: Sink>(
+fn extract_at<'a, X: Folder + Refusing, N: Sink>(
     alloc: Global,
     mounted: &Mounted<'_>,
     asked: Extraction<'a>,
@@ -118,12 +114,12 @@ fn extract_at<'a, X: Folder, N: Sink>(
     };
     match extract_part(alloc, mounted, &part, asked.owners, folder, notes) {
         Ok(totals) => Ok(totals),
-        Err(fault) => Err(extract_fault(fault, asked.folder)),
+        Err(fault) => Err(extract_fault(fault, asked.folder, folder.reason())),
     }
 }
 
 /// The tree of a mounted image, or the part of it that a path names, is made in a folder.
-fn extract_tree<'a, X: Folder, N: Sink>(
+fn extract_tree<'a, X: Folder + Refusing, N: Sink>(
     alloc: Global,
     mounted: &Mounted<'_>,
     asked: Extraction<'a>,
@@ -141,12 +137,12 @@ fn extract_tree<'a, X: Folder, N: Sink>(
     }
     match extract(alloc, mounted, asked.owners, folder, notes) {
         Ok(totals) => Ok(totals),
-        Err(fault) => Err(extract_fault(fault, asked.folder)),
+        Err(fault) => Err(extract_fault(fault, asked.folder, folder.reason())),
     }
 }
 
 /// The same of the bytes of an image.
-fn extract_bytes<'a, E: Order, X: Folder, N: Sink>(
+fn extract_bytes<'a, E: Order, X: Folder + Refusing, N: Sink>(
     alloc: Global,
     image: &[u8],
     asked: Extraction<'a>,
@@ -174,7 +170,7 @@ fn extract_bytes<'a, E: Order, X: Folder, N: Sink>(
 }
 
 /// The same of what `decompress` makes of the image, with what was found in the image itself.
-fn extract_decompressed<'a, E: Order, X: Folder, N: Sink>(
+fn extract_decompressed<'a, E: Order, X: Folder + Refusing, N: Sink>(
     alloc: Global,
     image: &[u8],
     asked: Extraction<'a>,
@@ -202,7 +198,7 @@ fn extract_decompressed<'a, E: Order, X: Folder, N: Sink>(
 }
 
 /// The same of the file that is asked for.
-fn extract_image<'a, E: Order, L: Loader, X: Folder, N: Sink>(
+fn extract_image<'a, E: Order, L: Loader, X: Folder + Refusing, N: Sink>(
     alloc: Global,
     loader: &mut L,
     asked: Extraction<'a>,
@@ -229,7 +225,7 @@ fn extract_image<'a, E: Order, L: Loader, X: Folder, N: Sink>(
 }
 
 /// The same in the byte order that is asked for.
-fn extract_in_order<'a, L: Loader, X: Folder, N: Sink>(
+fn extract_in_order<'a, L: Loader, X: Folder + Refusing, N: Sink>(
     alloc: Global,
     loader: &mut L,
     asked: Extraction<'a>,
@@ -305,12 +301,12 @@ fn fill_asked<'a, L: Loader, D: Folders, N: Sink>(
     fill(alloc, loader, folders, asked, Some(path.as_slice()), notes)
 }
 
-/// What a reading of the folder of a name gives up for.
-pub(crate) fn read_fault(fault: ReadFault, name: &str) -> ProgramFault<'_>
+/// What a reading of the folder of a name gives up for; `reason` is why the folder refused.
+pub(crate) fn read_fault(fault: ReadFault, name: &str, reason: Reason) -> ProgramFault<'_>
     ensures { IsReadingFault name.now fault result }
 {
     match fault {
-        ReadFault::Folder(_) => ProgramFault::File(unopened(name)),
+        ReadFault::Folder(_) => ProgramFault::File(Unopened { name, reason }),
         ReadFault::Notes => ProgramFault::Output,
         ReadFault::OutOfMemory => ProgramFault::OutOfMemory,
     }
@@ -325,7 +321,7 @@ pub(crate) fn put_read<T: Sink>(read: &jfolder::Folder, sink: &mut T) -> Result<
 }
 
 /// `listing`: the listing that builds a folder is put. Answers how many objects were left out.
-pub fn list_folder<'a, H: HostFolder, T: Sink, N: Sink>(
+pub fn list_folder<'a, H: HostFolder + Refusing, T: Sink, N: Sink>(
     alloc: Global,
     options: jfolder::Options,
     name: &'a str,
@@ -338,7 +334,7 @@ pub fn list_folder<'a, H: HostFolder, T: Sink, N: Sink>(
 {
     let read = match read_folder(alloc, folder, &options, notes) {
         Ok(read) => read,
-        Err(fault) => return Err(read_fault(fault, name)),
+        Err(fault) => return Err(read_fault(fault, name, folder.reason())),
     };
     match put_read(&read, sink) {
         Ok(()) => Ok(read.left_out),
@@ -410,7 +406,7 @@ pub(crate) fn settings_of(owner: Option<Owner>, time: Option<u32>) -> jfolder::O
 }
 
 /// `listing` to the last byte.
-fn list_whole<'a, H: HostFolder, T: Output, N: Sink>(
+fn list_whole<'a, H: HostFolder + Refusing, T: Output, N: Sink>(
     alloc: Global,
     options: jfolder::Options,
     name: &'a str,

@@ -7,7 +7,8 @@ ghost use Rattle.jffs2_image.specs.Host.{AreAllLoaded, AreOf, CountsFile, Counts
 use crate::filling::{Filling, fill_output};
 use crate::kept::KeptFiles;
 use crate::output::{BufferedOutput, Output};
-use flashbase::{DeviceFault, FromReader, LoadFault, Source};
+use crate::source::FileSource;
+use flashbase::{DeviceFault, LoadFault, Source};
 use jbuild::Parts;
 use jreport::Reason;
 use std::alloc::{AllocError, Global};
@@ -62,6 +63,9 @@ pub trait Loader {
     fn close(&mut self, opened: Self::Opened)
         ensures count { failures self.new ≡ Self.Opened.failures opened }
         ensures stays { (other : List ℕ) → told self.new other ≡ told self.old other };
+
+    /// Why the file that was read last failed, as far as the host tells.
+    fn reason(&self) -> Reason;
 }
 
 /// Why a file was not made.
@@ -177,6 +181,8 @@ fn load_by_piece<S: Source>(
 pub struct FileLoader<'r, R: Files + AllocGlobal> {
     rt: &'r R,
     failures: u64,
+    /// Why the file that was closed last failed.
+    reason: Reason,
     piece: Vec<u8>,
     /// The files that were read before.
     kept: &'r Cell<Option<KeptFiles>>,
@@ -189,6 +195,7 @@ impl<'r, R: Files + AllocGlobal> FileLoader<'r, R> {
         FileLoader {
             rt,
             failures: 0,
+            reason: Reason::Other,
             piece: Vec::new(rt.alloc()),
             kept,
         }
@@ -196,7 +203,7 @@ impl<'r, R: Files + AllocGlobal> FileLoader<'r, R> {
 }
 
 impl<'r, R: Files + AllocGlobal> Loader for FileLoader<'r, R> {
-    type Opened = FromReader<R::File>;
+    type Opened = FileSource<R::File>;
 
     ghost told = { λ _ _. None };
 
@@ -222,9 +229,9 @@ impl<'r, R: Files + AllocGlobal> Loader for FileLoader<'r, R> {
         }
     }
 
-    fn open(&mut self, name: &str) -> Result<FromReader<R::File>, Reason> {
+    fn open(&mut self, name: &str) -> Result<FileSource<R::File>, Reason> {
         match fs::open(self.rt, name) {
-            Ok(file) => Ok(FromReader::counting_from(file, self.failures)),
+            Ok(file) => Ok(FileSource::counting_from(file, self.failures)),
             Err(error) => {
                 self.failures = self.failures.wrapping_add(1);
                 Err(Reason::of(&error))
@@ -232,8 +239,13 @@ impl<'r, R: Files + AllocGlobal> Loader for FileLoader<'r, R> {
         }
     }
 
-    fn close(&mut self, opened: FromReader<R::File>) {
+    fn close(&mut self, opened: FileSource<R::File>) {
         self.failures = opened.failures();
+        self.reason = opened.reason();
+    }
+
+    fn reason(&self) -> Reason {
+        self.reason
     }
 }
 

@@ -3,10 +3,12 @@
 ghost use Rattle.jfolder.specs.Known.{nothing};
 
 use crate::first::FirstBytes;
+use crate::folders::Refusing;
 use crate::host::{FileLoader, Loader};
 use crate::kept::KeptFiles;
 use jfolder::{FolderFault, HostFolder, Looked, Names};
 use jhost::ReadFolder;
+use jreport::Reason;
 use std::alloc::Global;
 use std::io::Eprint;
 use std::rt::{Clock, Files};
@@ -94,6 +96,12 @@ impl<'r, R: Files + AllocGlobal + Clock + Eprint> KeepingFolder<'r, R> {
             Some(keeper) => Some(keeper.files),
             None => None,
         }
+    }
+}
+
+impl<'r, R: Files + AllocGlobal + Clock + Eprint> Refusing for KeepingFolder<'r, R> {
+    fn reason(&self) -> Reason {
+        Reason::of_kind(self.folder.kind())
     }
 }
 

@@ -5,17 +5,17 @@ ghost use Rattle.std.specs.Prelude.{◌≡◌, true, IfErr, IfOk, None, Some, op
 ghost use Rattle.flashbase.specs.Device.{CountsErr};
 ghost use Rattle.jcommand.specs.Parsed.{ScanParsed, CheckParsed, ListParsed, CatParsed};
 ghost use Rattle.jffs2_image.specs.Host.{GivesFile, ReadsFile};
-ghost use Rattle.jffs2_image.specs.Runs.{Meets};
+ghost use Rattle.jffs2_image.specs.Runs.{NamesUnread, Meets, found_answer};
 ghost use Rattle.flashbase.specs.Sinks.{change_of};
 
 use crate::decompressing::take_file;
 use crate::host::Loader;
-use flashbase::Sink;
+use flashbase::{LoadFault, Sink};
 use jcommand::Options;
 use jnode::Order;
 use jreport::{
-    ProgramFault, Unopened, check_lines, file_bytes, image_file, image_tree, list_lines, path_word,
-    stream_lines,
+    ProgramFault, Reason, Unopened, check_lines, file_bytes, image_file, image_tree, list_lines,
+    path_word, stream_lines,
 };
 use std::alloc::Global;
 
@@ -33,6 +33,34 @@ fn open<'a, L: Loader>(loader: &mut L, image: &'a str) -> Result<L::Opened, Unop
             name: image,
             reason,
         }),
+    }
+}
+
+/// What a call answers that reads the file of an image. Where the file failed, its name is told,
+/// and the reason of that.
+fn named<'a>(
+    answer: Result<u64, ProgramFault<'static>>,
+    image: &'a str,
+    reason: Reason,
+) -> Result<u64, ProgramFault<'a>>
+    ensures { NamesUnread image.entry.now answer result }
+{
+    match answer {
+        Err(ProgramFault::Load(LoadFault::Device)) => Err(ProgramFault::NotRead(Unopened {
+            name: image,
+            reason,
+        })),
+        other => other,
+    }
+}
+
+/// Whether `check` found anything, as a number.
+fn found_number(answer: Result<bool, ProgramFault<'static>>) -> Result<u64, ProgramFault<'static>>
+    ensures { result ≡ found_answer answer }
+{
+    match answer {
+        Ok(found) => Ok(u64::from(found)),
+        Err(fault) => Err(fault),
     }
 }
 
@@ -54,7 +82,7 @@ pub(crate) fn scan<'a, E: Order, L: Loader, T: Sink>(
     if let Some(source) = read {
         loader.close(source);
     }
-    answer
+    named(answer, image, loader.reason())
 }
 
 /// `check`: answers whether anything was found, as a number.
@@ -74,7 +102,7 @@ pub(crate) fn check<'a, E: Order, L: Loader, T: Sink>(
     let mut source = open(loader, image)?;
     let answer = check_lines::<E, _, _>(alloc, &mut source, options.geometry, shape, sink);
     loader.close(source);
-    Ok(u64::from(answer?))
+    named(found_number(answer), image, loader.reason())
 }
 
 /// `ls --decompress`: answers how many findings of the image that was read to note.
@@ -120,7 +148,7 @@ fn list_whole<'a, E: Order, L: Loader, T: Sink>(
     let mut source = open(loader, image)?;
     let answer = list_lines::<E, _, _>(alloc, &mut source, options.geometry, None, sink);
     loader.close(source);
-    answer
+    named(answer, image, loader.reason())
 }
 
 /// `ls --decompress` of a path, whose word is judged before the image is opened.
@@ -174,7 +202,7 @@ fn list_part<'a, E: Order, L: Loader, T: Sink>(
     let part = Some(path.as_slice());
     let answer = list_lines::<E, _, _>(alloc, &mut source, options.geometry, part, sink);
     loader.close(source);
-    answer
+    named(answer, image, loader.reason())
 }
 
 /// `ls`: answers how many findings to note.
@@ -251,5 +279,5 @@ pub(crate) fn cat<'a, E: Order, L: Loader, T: Sink>(
     let mut source = open(loader, image)?;
     let answer = file_bytes::<E, _, _>(alloc, &mut source, options.geometry, &path, sink);
     loader.close(source);
-    answer
+    named(answer, image, loader.reason())
 }

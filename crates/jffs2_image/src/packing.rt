@@ -9,7 +9,7 @@ ghost use Rattle.flashbase.specs.Sinks.{change_of};
 ghost use Rattle.jffs2_image.specs.Tasks.{passage, reads};
 ghost use Rattle.jffs2_image.specs.Placing.{telling, writes};
 
-use crate::folders::{Folders, put_read, read_fault, settings_of};
+use crate::folders::{Folders, Refusing, put_read, read_fault, settings_of};
 use crate::host::{Loader, Maker};
 use crate::output::Output;
 use crate::program::report_fault;
@@ -70,7 +70,7 @@ fn target_of(asked: Packing<'_>) -> Target<'_>
 }
 
 /// The listing of the folder of a name, in memory.
-fn read_listing<'a, H: HostFolder, N: Sink>(
+fn read_listing<'a, H: HostFolder + Refusing, N: Sink>(
     alloc: Global,
     options: jfolder::Options,
     name: &'a str,
@@ -82,7 +82,7 @@ fn read_listing<'a, H: HostFolder, N: Sink>(
 {
     let read = match read_folder(alloc, folder, &options, notes) {
         Ok(read) => read,
-        Err(fault) => return Err(read_fault(fault, name)),
+        Err(fault) => return Err(read_fault(fault, name, folder.reason())),
     };
     let mut held = Held::new(alloc);
     match put_read(&read, &mut held) {

@@ -2,11 +2,12 @@
 ghost use Rattle.std.specs.Prelude.{◌↔◌, IsTrue, IsFalse, None};
 ghost use Rattle.jfolder.specs.Known.{nothing};
 
-use crate::folders::Folders;
+use crate::folders::{Folders, Refusing};
 use crate::host::FileLoader;
 use crate::keeping::{Keeper, KeepingFolder};
 use crate::kept::KeptFiles;
 use jhost::{FilledFolder, ReadFolder};
+use jreport::Reason;
 use std::alloc::AllocError;
 use std::cell::Cell;
 use std::io::Eprint;
@@ -35,6 +36,12 @@ impl<'r, R: Files + AllocGlobal + Clock + Eprint> SystemFolders<'r, R> {
             is_terminal,
             kept,
         }
+    }
+}
+
+impl<'r, R: Files + AllocGlobal + Clock + Eprint> Refusing for FilledFolder<'r, R> {
+    fn reason(&self) -> Reason {
+        Reason::of_kind(self.kind())
     }
 }
 

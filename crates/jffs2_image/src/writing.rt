@@ -61,6 +61,10 @@ pub fn load_file<'a, L: Loader>(loader: &mut L, name: &'a str) -> Result<Vec<u8>
     match loader.load(name, GREATEST_IMAGE) {
         Ok(bytes) => Ok(bytes),
         Err(FileFault::NotOpened(reason)) => Err(ProgramFault::File(Unopened { name, reason })),
+        Err(FileFault::Load(LoadFault::Device)) => {
+            let reason = loader.reason();
+            Err(ProgramFault::NotRead(Unopened { name, reason }))
+        }
         Err(FileFault::Load(fault)) => Err(ProgramFault::Load(fault)),
     }
 }
@@ -95,7 +99,7 @@ fn read_part<L: Loader>(
 }
 
 /// The files that a listing names, each of which is read once; one that was read before is not read
-/// again. The name of one that can't be opened is kept in `unread`.
+/// again. The name of one that can't be opened, or that failed, is kept in `unread`.
 pub fn load_parts<'a, L: Loader>(
     alloc: Global,
     loader: &mut L,
@@ -118,6 +122,12 @@ pub fn load_parts<'a, L: Loader>(
                         *unread = file.to_string(alloc)?;
                         let name = unread.as_str();
                         return Err(ProgramFault::File(Unopened { name, reason }));
+                    }
+                    Err(FileFault::Load(LoadFault::Device)) => {
+                        let reason = loader.reason();
+                        *unread = file.to_string(alloc)?;
+                        let name = unread.as_str();
+                        return Err(ProgramFault::NotRead(Unopened { name, reason }));
                     }
                     Err(FileFault::Load(fault)) => return Err(ProgramFault::Load(fault)),
                 }
@@ -369,7 +379,7 @@ pub struct Writing<'a, 'b> {
 /// Writes an image: the operations of a listing's text, on a base. What they did is told in a line.
 /// The file is made only after all was judged that can be before a byte is written. Answers how
 /// many findings of the base to note. The name of a file that a line names, and that can't be
-/// opened, is kept in `unread`.
+/// opened, or failed, is kept in `unread`.
 pub fn write_image<'a, E: Order, L: Loader, M: Maker, T: Sink>(
     alloc: Global,
     loader: &mut L,

@@ -1,0 +1,58 @@
+//! A file of the host as a source of bytes.
+
+ghost use Rattle.std.specs.Prelude.{◌≡◌};
+
+use flashbase::{DeviceFault, Source};
+use jreport::Reason;
+use std::io::Read;
+
+/// A source over a reader, which notes why it failed. A call that was interrupted is a failure.
+#[derive(Drop)]
+pub struct FileSource<R: Read + Drop> {
+    reader: R,
+    failures: u64,
+    reason: Reason,
+}
+
+impl<R: Read + Drop> FileSource<R> {
+    /// A reader, which goes on with a count of failures.
+    pub fn counting_from(reader: R, failures: u64) -> Self
+        ensures rest { ⟦<FileSource<R> as Source>⟧.rest result ≡ R.remaining reader }
+        ensures failures { ⟦<FileSource<R> as Source>⟧.failures result ≡ failures }
+    {
+        FileSource {
+            reader,
+            failures,
+            reason: Reason::Other,
+        }
+    }
+
+    /// How often it failed, modulo 2^64.
+    pub fn failures(&self) -> u64
+        ensures { result ≡ ⟦<FileSource<R> as Source>⟧.failures self.now }
+    {
+        self.failures
+    }
+
+    /// Why it failed last, as far as the host tells.
+    pub fn reason(&self) -> Reason {
+        self.reason
+    }
+}
+
+impl<R: Read + Drop> Source for FileSource<R> {
+    ghost rest = { λ s. R.remaining s.reader };
+
+    ghost failures = { λ s. s.failures };
+
+    fn fill(&mut self, buf: &mut [u8]) -> Result<usize, DeviceFault> {
+        match self.reader.read(buf) {
+            Ok(n) => Ok(n),
+            Err(error) => {
+                self.reason = Reason::of(&error);
+                self.failures = self.failures.wrapping_add(1);
+                Err(DeviceFault)
+            }
+        }
+    }
+}
