@@ -11,10 +11,10 @@ use std::alloc::Global;
 use std::test::Fail;
 use test_support::{DIRECTORY, FILE, Taker, fill_up};
 
-const GEOMETRY: Geometry = Geometry { block: 4096 };
+pub(crate) const GEOMETRY: Geometry = Geometry { block: 4096 };
 
 #[derive(Clone, Copy)]
-enum Node {
+pub(crate) enum Node {
     /// Number, version, mode, size of the object, offset, and data.
     Inode(u32, u32, u32, u32, u32, &'static [u8]),
     /// Directory, version, number and name.
@@ -74,7 +74,11 @@ fn write_node(image: &mut Vec<u8>, node: Node) -> Result<(), WriteFault> {
 }
 
 /// An image of these nodes, with a bit flipped in the byte at each of these places.
-fn flipped_of(alloc: Global, nodes: &[Node], places: &[usize]) -> Result<Vec<u8>, &'static str> {
+pub(crate) fn flipped_of(
+    alloc: Global,
+    nodes: &[Node],
+    places: &[usize],
+) -> Result<Vec<u8>, &'static str> {
     let mut image = Vec::new(alloc);
     for node in nodes {
         write_node(&mut image, *node).map_err(|_| "no node")?;
@@ -93,7 +97,11 @@ fn flipped(alloc: Global, places: &[usize]) -> Result<Vec<u8>, &'static str> {
 }
 
 /// Puts what its damage costs, and answers the totals, or nothing where the sink failed.
-fn put<T: Sink>(alloc: Global, image: &[u8], sink: &mut T) -> Result<Option<Totals>, &'static str> {
+pub(crate) fn put<T: Sink>(
+    alloc: Global,
+    image: &[u8],
+    sink: &mut T,
+) -> Result<Option<Totals>, &'static str> {
     let mounted = mount::<LittleEndian>(alloc, image, GEOMETRY).map_err(|_| "no mount")?;
     match put_damage::<LittleEndian, T>(alloc, &mounted, GEOMETRY, sink) {
         Ok(totals) => Ok(Some(totals)),
@@ -268,7 +276,7 @@ fn directories_in_one_another(rt: HostRuntime) -> Result<(), Fail> {
 }
 
 /// One file, of which versions are lost that others give in front of, beside and behind.
-const MANY: [Node; 7] = [
+pub(crate) const MANY: [Node; 7] = [
     Node::Entry(1, 1, 2, b"a"), // 0
     Node::Inode(2, 4, FILE, 8, 0, b"aaaa"), // 44
     Node::Inode(2, 2, FILE, 8, 2, b"bbbb"), // 116
