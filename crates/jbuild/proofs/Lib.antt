@@ -2,3 +2,4 @@ pub mod FrontLemmas
 pub mod EmitLemmas
 pub mod LengthLemmas
 mod PartLemmas
+mod ReadLemmas

@@ -15,6 +15,7 @@ mod emitting;
 pub mod laws;
 mod listed;
 mod parts;
+mod reading;
 mod span;
 
 pub use crate::accepted::put_accepted;

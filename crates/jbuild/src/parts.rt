@@ -4,7 +4,9 @@ ghost use Rattle.std.specs.Prelude.{ℕ, ◌≤◌, List, length};
 ghost use Rattle.std.specs.BTreeMap.{get_by_text};
 ghost use Rattle.jbuild.specs.Spans.{end_of_span};
 
+use crate::reading::{read_behind, ready};
 use crate::span::{Span, bytes_of_span};
+use flashbase::{LoadFault, Source};
 use std::alloc::{AllocError, Global};
 use std::collections::BTreeMap;
 
@@ -14,12 +16,15 @@ use std::collections::BTreeMap;
 pub struct Parts {
     files: BTreeMap<String, Span>,
     bytes: Vec<u8>,
+    /// What sources are read through, once one is.
+    piece: Vec<u8>,
     ghost within: { (name : List ℕ) → end_of_span (get_by_text files name) ≤ length bytes.items },
 }
 
 impl Parts {
     ghost use Rattle.std.specs.Prelude.{◌≡◌, ℕ, List, bytes_eq, is_some, OnOk, OnErr, Some, None, if◌then◌else◌, string_bytes};
-    ghost use Rattle.jbuild.specs.Parts.{part_contents, read_of};
+    ghost use Rattle.flashbase.specs.Device.{CountsLoad};
+    ghost use Rattle.jbuild.specs.Parts.{ReadsPart, part_contents, read_of};
 
     /// None yet.
     pub fn new(alloc: Global) -> Parts
@@ -28,6 +33,7 @@ impl Parts {
         Parts {
             files: BTreeMap::new(alloc),
             bytes: Vec::new(alloc),
+            piece: Vec::new(alloc),
         }
     }
 
@@ -57,6 +63,38 @@ impl Parts {
             },
         )?;
         Ok(())
+    }
+
+    /// One more file, or new bytes of one: all that a source has left, if it is at most `limit`
+    /// bytes.
+    ///
+    /// # Errors
+    /// As [`flashbase::load`] answers them: nothing changes.
+    pub fn read<S: Source>(
+        &mut self,
+        alloc: Global,
+        name: String,
+        source: &mut S,
+        limit: usize,
+    ) -> Result<(), LoadFault>
+        ensures reads { ReadsPart (S.rest source.old) limit (string_bytes name) self.old self.new
+            result }
+        ensures count { CountsLoad (S.failures source.old) (S.failures source.new) result }
+    {
+        ready(alloc, &mut self.piece)?;
+        let start = self.bytes.len();
+        read_behind(&mut self.bytes, source, &mut self.piece, limit)?;
+        let length = self.bytes.len() - start;
+        match self.files.insert(
+            name,
+            Span {
+                from: start,
+                length,
+            },
+        ) {
+            Ok(_) => Ok(()),
+            Err(_) => Err(LoadFault::OutOfMemory),
+        }
     }
 
     /// The bytes of a file. One that was not read has none.

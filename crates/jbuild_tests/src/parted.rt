@@ -2,12 +2,14 @@
 
 use crate::checks::{equal, expect};
 use byteorder::{BigEndian, LittleEndian};
+use flashbase::LoadFault;
 use jbuild::{Parts, operations};
 use jlisting::listing;
 use jnode::Order;
 use jsteps::{DeviceKind, Op};
 use std::alloc::Global;
 use std::test::Fail;
+use test_support::Giver;
 
 #[test]
 fn files_that_were_read(rt: HostRuntime) -> Result<(), Fail> {
@@ -59,6 +61,41 @@ fn operations_have_the_bytes_of_their_files(rt: HostRuntime) -> Result<(), Fail>
         &rt,
         matches!(ops.last(), Some(Op::File { bytes, .. }) if bytes.as_slice() == b"new".as_slice()),
     );
+    Ok(())
+}
+
+/// Lines that write the bytes of files into one.
+const READ: &[u8] = b"part /a 0 f\npart /b 1 g\npart /c 2 h\npart /d 3 k\n";
+
+const FOUND: [(u32, &[u8]); 4] = [(0, b"old"), (1, b"abcd"), (2, b""), (3, b"")];
+
+/// A file, and one that is read from a source; two that fail, and one that is too long, change
+/// nothing.
+fn parts_read(alloc: Global) -> Result<Parts, Fail> {
+    let mut parts = Parts::new(alloc);
+    parts.insert("f".to_string(alloc)?, b"old")?;
+    for (name, calls, limit, wanted) in [
+        ("f", 2, 9, Err(LoadFault::Device)),
+        ("h", 0, 9, Err(LoadFault::Device)),
+        ("k", 9, 3, Err(LoadFault::TooLarge)),
+        ("g", 9, 4, Ok(())),
+    ] {
+        let mut source = Giver::failing(b"abcd", 1, calls);
+        if parts.read(alloc, name.to_string(alloc)?, &mut source, limit) != wanted {
+            return Err("another answer".into());
+        }
+    }
+    Ok(parts)
+}
+
+#[test]
+fn a_file_is_read_behind_the_others(rt: HostRuntime) -> Result<(), Fail> {
+    let parts = parts_read(rt.alloc())?;
+    let ops = operations::<LittleEndian>(rt.alloc(), listing(rt.alloc(), READ)?, &parts)?;
+    equal(&rt, ops.len(), 4);
+    for (op, (at, wanted)) in ops.iter().zip(FOUND) {
+        equal(&rt, written(op), Some((0, at, wanted)));
+    }
     Ok(())
 }
 

@@ -6,9 +6,9 @@ use jcommand::{Request, RequestFault, request};
 use std::alloc::Global;
 use std::test::Fail;
 
-#[test]
-fn args_that_ask_for_a_folder(rt: HostRuntime) -> Result<(), Fail> {
-    let examples = [
+/// Words, and what they ask for.
+fn asked() -> &'static [(&'static str, &'static str)] {
+    &[
         (
             "t extract a.img b",
             "extract 65536 false false false a.img b",
@@ -28,17 +28,21 @@ fn args_that_ask_for_a_folder(rt: HostRuntime) -> Result<(), Fail> {
         ),
         ("t listing a --quiet --owner 007 8", "listing 7 8 1 true a"),
         ("t listing --time=0 -- --time", "listing 1 1 0 false --time"),
-    ];
-    for (line, wanted) in examples {
+    ]
+}
+
+#[test]
+fn args_that_ask_for_a_folder(rt: HostRuntime) -> Result<(), Fail> {
+    for &(line, wanted) in asked() {
         let answer = answer_to(rt.alloc(), line)?;
         equal_at(&rt, answer.as_str(), wanted, line);
     }
     Ok(())
 }
 
-#[test]
-fn args_that_are_wrong_of_a_folder(rt: HostRuntime) -> Result<(), Fail> {
-    let examples = [
+/// Words that are wrong, and a part of what is told of them.
+fn wrong() -> &'static [(&'static str, &'static str)] {
+    &[
         ("t listing", "DIR"),
         ("t listing a b", "b"),
         ("t listing --owner 1 a", "--owner"),
@@ -61,8 +65,12 @@ fn args_that_are_wrong_of_a_folder(rt: HostRuntime) -> Result<(), Fail> {
             "t extract --block x a.img b",
             "invalid value 'x' for '--block <N>'",
         ),
-    ];
-    for (line, part) in examples {
+    ]
+}
+
+#[test]
+fn args_that_are_wrong_of_a_folder(rt: HostRuntime) -> Result<(), Fail> {
+    for &(line, part) in wrong() {
         let answer = answer_to(rt.alloc(), line)?;
         let is_right = answer.starts_with("wrong error: ") && answer.contains(part);
         expect_at(&rt, is_right, (line, answer));
@@ -81,9 +89,9 @@ fn image_of<'a>(alloc: Global, words: &'a [&'a str]) -> &'a str {
     }
 }
 
-#[test]
-fn a_request_is_of_an_image(rt: HostRuntime) {
-    let examples = [
+/// Words, and the image that they ask for.
+fn images() -> &'static [([&'static str; 4], &'static str)] {
+    &[
         (["t", "check", "a.img", "--shape"], "a.img"),
         (["t", "cat", "a.img", "/b"], "another request"),
         (["t", "extract", "a.img", "b"], "wrong"),
@@ -95,8 +103,12 @@ fn a_request_is_of_an_image(rt: HostRuntime) {
         (["t", "diff", "a.img", "b.img"], "wrong"),
         (["t", "check", "a.img", "b"], "wrong"),
         (["t", "check", "a.img", "--help"], "help"),
-    ];
-    for (words, wanted) in &examples {
+    ]
+}
+
+#[test]
+fn a_request_is_of_an_image(rt: HostRuntime) {
+    for (words, wanted) in images() {
         equal(&rt, image_of(rt.alloc(), words), *wanted);
     }
 }

@@ -124,19 +124,14 @@ fn a_folder_that_is_refused(rt: HostRuntime) -> Result<(), Fail> {
     Ok(())
 }
 
-/// A file that fails is given up, and no other; one that has no room ends the work.
-#[test]
-fn a_file_that_fails(rt: HostRuntime) -> Result<(), Fail> {
-    let long = [b'x'; 4097];
-    let nodes = [
-        Node::Inode(2, FILE, &long),
-        Node::Inode(3, FILE, b"12345"),
-        Node::Entry(1, 2, b"a"),
-        Node::Entry(1, 3, b"b"),
-    ];
-    let image = image_of(rt.alloc(), &nodes)?;
-    let mounted = mount::<LittleEndian>(rt.alloc(), &image, LARGE).map_err(|_| "no mount")?;
-    let rows = [
+/// How a file fails, the answer, what was made, and the notes.
+fn failures() -> &'static [(
+    FolderFault,
+    Result<Totals, ExtractFault>,
+    &'static str,
+    &'static str,
+)] {
+    &[
         (
             FolderFault::Refused,
             Ok(Totals {
@@ -158,8 +153,22 @@ fn a_file_that_fails(rt: HostRuntime) -> Result<(), Fail> {
             "directory \nfile a\n",
             "",
         ),
+    ]
+}
+
+/// A file that fails is given up, and no other; one that has no room ends the work.
+#[test]
+fn a_file_that_fails(rt: HostRuntime) -> Result<(), Fail> {
+    let long = [b'x'; 4097];
+    let nodes = [
+        Node::Inode(2, FILE, &long),
+        Node::Inode(3, FILE, b"12345"),
+        Node::Entry(1, 2, b"a"),
+        Node::Entry(1, 3, b"b"),
     ];
-    for (failure, wanted, lines, told) in rows {
+    let image = image_of(rt.alloc(), &nodes)?;
+    let mounted = mount::<LittleEndian>(rt.alloc(), &image, LARGE).map_err(|_| "no mount")?;
+    for &(failure, wanted, lines, told) in failures() {
         let mut folder = Recorder::new(rt.alloc(), u64::MAX, 1);
         folder.failure = failure;
         let mut notes = FromWriter::new(Vec::new(rt.alloc()));

@@ -14,3 +14,4 @@ pub mod CompressingLemmas
 pub mod WeakLemmas
 mod PackedTreeLemmas
 pub mod PackLemmas
+mod FirstLemmas

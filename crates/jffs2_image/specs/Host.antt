@@ -1,6 +1,6 @@
 -- What a command that writes an image does with the host: the files that it reads, and the one that
 -- it makes.
-use Rattle.std.specs.Prelude.{◌≡◌, ◌⊎◌, ◌++◌, ◌≤◌, ℕ, Bool, true, false, IsErrOf, List, [], ◌∷◌, Option, Some, None, Result, Ok, Err, IfSome, IsTrue, is_some, length, option_map, slice_get}
+use Rattle.std.specs.Prelude.{◌≡◌, ◌⊎◌, ◌++◌, ◌≤◌, ℕ, Bool, true, false, IsErrOf, List, [], ◌∷◌, Option, Some, None, Result, Ok, Err, IfSome, IsTrue, bytes_eq, is_some, length, option_map, slice_get, if◌then◌else◌}
 use Rattle.std.specs.Io.KnownBytes.{Appends}
 use Rattle.flashbase.specs.Device.{PutsPart, next_count}
 use Rattle.flashbase.specs.declared.source.LoadFault.TheVariants as load
@@ -62,6 +62,12 @@ AreLoaded told bytes = AreOf told bytes × (length bytes ≤ greatest_image)
 abbrev pub AreAllLoaded : (List ℕ → Option (List ℕ)) → Parts → Type 0
 AreAllLoaded told parts =
     (name bytes : List ℕ) → read_of parts name ≡ Some bytes → AreLoaded (told name) bytes
+
+-- The file of a name, of which the host tells these bytes, was read: it has them, and the others
+-- have theirs.
+abbrev pub ReadsFilePart : Option (List ℕ) → List ℕ → Parts → Parts → Type 0
+ReadsFilePart told name old new = (bytes : List ℕ) × AreLoaded told bytes
+    × ((n : List ℕ) → read_of new n ≡ (if bytes_eq name n then Some bytes else read_of old n))
 
 -- Each file that a line names was read, and has the bytes that it has on the host.
 abbrev pub AreRead : (List ℕ → Option (List ℕ)) → List Line → Parts → Type 0

@@ -2,33 +2,43 @@
 
 ghost use Rattle.jfolder.specs.Known.{nothing};
 
+use crate::first::FirstBytes;
 use crate::host::{FileLoader, Loader};
 use crate::kept::KeptFiles;
 use jfolder::{FolderFault, HostFolder, Looked, Names};
 use jhost::ReadFolder;
-use jscan::GREATEST_IMAGE;
-use std::alloc::AllocError;
+use std::alloc::Global;
 use std::io::Eprint;
 use std::rt::{Clock, Files};
 
 /// Reads files and keeps them.
 #[derive(Drop)]
 pub struct Keeper<'r, R: Files + AllocGlobal> {
+    alloc: Global,
     loader: FileLoader<'r, R>,
     files: KeptFiles,
 }
 
 impl<'r, R: Files + AllocGlobal> Keeper<'r, R> {
-    pub fn new(loader: FileLoader<'r, R>, files: KeptFiles) -> Self {
-        Keeper { loader, files }
+    pub fn new(alloc: Global, loader: FileLoader<'r, R>) -> Self {
+        Keeper {
+            alloc,
+            loader,
+            files: KeptFiles::new(alloc),
+        }
     }
 
-    /// Whether the file of a name was read and is kept.
-    fn keep(&mut self, name: String) -> bool {
-        match self.loader.load(name.as_str(), GREATEST_IMAGE) {
-            Ok(bytes) => self.files.insert(name, &bytes).is_ok(),
-            Err(_) => false,
-        }
+    /// Whether the file of a name was read and is kept. It is not asked for more than its size,
+    /// where it has one.
+    fn keep(&mut self, name: String, size: u64) -> bool {
+        let Ok(file) = self.loader.open(name.as_str()) else {
+            return false;
+        };
+        let most = if size == 0 { u64::MAX } else { size };
+        let mut first = FirstBytes::new(file, most);
+        let read = self.files.read(self.alloc, name, &mut first);
+        self.loader.close(first.into_source());
+        read.is_ok()
     }
 }
 
@@ -38,25 +48,47 @@ impl<'r, R: Files + AllocGlobal> Keeper<'r, R> {
 pub struct KeepingFolder<'r, R: Files + AllocGlobal + Clock + Eprint> {
     folder: ReadFolder<'r, R>,
     keeper: Option<Keeper<'r, R>>,
+    /// What was looked at last, and its size.
+    looked: String,
+    size: u64,
 }
 
 impl<'r, R: Files + AllocGlobal + Clock + Eprint> KeepingFolder<'r, R> {
-    pub fn new(folder: ReadFolder<'r, R>, keeper: Option<Keeper<'r, R>>) -> Self {
-        KeepingFolder { folder, keeper }
+    pub fn new(alloc: Global, folder: ReadFolder<'r, R>, keeper: Option<Keeper<'r, R>>) -> Self {
+        KeepingFolder {
+            folder,
+            keeper,
+            looked: String::new(alloc),
+            size: 0,
+        }
+    }
+
+    /// The size of the object of a path, where it was looked at last; else 0.
+    fn size_of(&self, path: &str) -> u64 {
+        if self.looked.as_str() == path {
+            self.size
+        } else {
+            0
+        }
     }
 
     /// Whether the file of a path was read and is kept. One that fails may do so again when it is
     /// opened for its bytes, and is told then.
     fn keep(&mut self, path: &str) -> Result<bool, FolderFault> {
+        let size = self.size_of(path);
         match &mut self.keeper {
-            Some(keeper) => Ok(keeper.keep(self.folder.host_path(path)?)),
+            Some(keeper) => Ok(keeper.keep(self.folder.host_path(path)?, size)),
             None => Ok(false),
         }
     }
 
     /// Takes away what was told of how far it is. Answers the files that were kept.
     pub fn finish(self) -> Option<KeptFiles> {
-        let KeepingFolder { mut folder, keeper } = self;
+        let KeepingFolder {
+            mut folder,
+            keeper,
+            ..
+        } = self;
         folder.finish();
         match keeper {
             Some(keeper) => Some(keeper.files),
@@ -70,7 +102,11 @@ impl<'r, R: Files + AllocGlobal + Clock + Eprint> HostFolder for KeepingFolder<'
     ghost known = { λ _. nothing };
 
     fn look(&mut self, path: &str) -> Result<Looked, FolderFault> {
-        self.folder.look(path)
+        let looked = self.folder.look(path)?;
+        self.looked.clear();
+        self.looked.push_str(path)?;
+        self.size = looked.size;
+        Ok(looked)
     }
 
     fn names(&mut self, path: &str) -> Result<Names, FolderFault> {

@@ -4,8 +4,10 @@ ghost use Rattle.std.specs.Prelude.{◌≡◌, ◌≤◌, ℕ, List, Some, lengt
 ghost use Rattle.jscan.specs.Image.{greatest_image};
 ghost use Rattle.jbuild.specs.Parts.{read_of};
 
+use flashbase::{LoadFault, Source};
 use jbuild::Parts;
-use std::alloc::{AllocError, Global};
+use jscan::GREATEST_IMAGE;
+use std::alloc::Global;
 
 /// Files that were read, none of them longer than the greatest image.
 #[derive(Drop)]
@@ -16,9 +18,10 @@ pub struct KeptFiles {
 }
 
 impl KeptFiles {
-    ghost use Rattle.std.specs.Prelude.{◌≡◌, ◌≤◌, ℕ, List, bytes_eq, OnOk, OnErr, Some, None, if◌then◌else◌, length, string_bytes};
+    ghost use Rattle.std.specs.Prelude.{◌≡◌, ◌≤◌, ℕ, List, Some, None, length, string_bytes};
+    ghost use Rattle.flashbase.specs.Device.{CountsLoad};
     ghost use Rattle.jscan.specs.Image.{greatest_image};
-    ghost use Rattle.jbuild.specs.Parts.{read_of};
+    ghost use Rattle.jbuild.specs.Parts.{ReadsPart, read_of};
 
     /// None yet.
     pub fn new(alloc: Global) -> KeptFiles
@@ -29,19 +32,21 @@ impl KeptFiles {
         }
     }
 
-    /// One more file.
+    /// One more file: all that a source has left, if it is no more than the greatest image.
     ///
     /// # Errors
-    /// Out of memory: nothing changes.
-    pub fn insert(&mut self, name: String, bytes: &[u8]) -> Result<(), AllocError>
-        requires { length bytes.now ≤ greatest_image }
-        ensures ok { OnOk result ((n : List ℕ) → read_of self.new.parts n
-            ≡ (if bytes_eq (string_bytes name) n then Some bytes.now
-            else read_of self.old.parts n)) }
-        ensures err { OnErr result
-            ((n : List ℕ) → read_of self.new.parts n ≡ read_of self.old.parts n) }
+    /// As [`flashbase::load`] answers them: nothing changes.
+    pub fn read<S: Source>(
+        &mut self,
+        alloc: Global,
+        name: String,
+        source: &mut S,
+    ) -> Result<(), LoadFault>
+        ensures reads { ReadsPart (S.rest source.old) greatest_image (string_bytes name)
+            self.old.parts self.new.parts result }
+        ensures count { CountsLoad (S.failures source.old) (S.failures source.new) result }
     {
-        self.parts.insert(name, bytes)
+        self.parts.read(alloc, name, source, GREATEST_IMAGE)
     }
 
     /// All of them.

@@ -15,6 +15,7 @@ pub mod damage;
 pub mod decompressing;
 pub mod diff;
 pub mod filling;
+mod first;
 mod folders;
 pub mod host;
 pub mod info;

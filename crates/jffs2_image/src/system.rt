@@ -58,14 +58,14 @@ impl<'r, R: Files + AllocGlobal + Clock + Eprint> Folders for SystemFolders<'r, 
 
     fn read(&mut self, name: &str, quiet: bool) -> Result<KeepingFolder<'r, R>, AllocError> {
         let folder = ReadFolder::new(self.rt, name, tells(self.is_terminal, quiet))?;
-        Ok(KeepingFolder::new(folder, None))
+        Ok(KeepingFolder::new(self.rt.alloc(), folder, None))
     }
 
     fn read_whole(&mut self, name: &str, quiet: bool) -> Result<KeepingFolder<'r, R>, AllocError> {
         let folder = ReadFolder::new(self.rt, name, tells(self.is_terminal, quiet))?;
         let loader = FileLoader::new(self.rt, self.kept);
-        let files = KeptFiles::new(self.rt.alloc());
-        Ok(KeepingFolder::new(folder, Some(Keeper::new(loader, files))))
+        let keeper = Keeper::new(self.rt.alloc(), loader);
+        Ok(KeepingFolder::new(self.rt.alloc(), folder, Some(keeper)))
     }
 
     fn take_read(&mut self, folder: KeepingFolder<'r, R>) {

@@ -3,18 +3,18 @@ ghost use Rattle.std.specs.Prelude.{◌≡◌, ◌≢◌, ◌≤◌, ℕ, List, 
 ghost use Rattle.jmount.specs.Mounts.{IsMountOf};
 ghost use Rattle.jscan.specs.Image.{greatest_image};
 ghost use Rattle.jlisting.specs.Listing.{lines_of};
-ghost use Rattle.jffs2_image.specs.Host.{AreOf, AreRead, Blames, BlamesMaker, IsHandedBack, IsMadeUntil, IsMakeFault, IsReadFault, Leaves, MakesFile, ReadsFile, RunsFiles};
+ghost use Rattle.jffs2_image.specs.Host.{AreOf, AreRead, Blames, BlamesMaker, CountsFile, IsHandedBack, IsMadeUntil, IsMakeFault, IsReadFault, Leaves, MakesFile, ReadsFile, ReadsFilePart, RunsFiles};
 ghost use Rattle.jbuild.specs.Operations.{ops_in};
 ghost use Rattle.jbuild.specs.Parts.{part_contents};
 ghost use Rattle.jffs2_image.specs.WeakRuns.{AreNotes, AreNotesOn};
-ghost use Rattle.jffs2_image.specs.Writes.{GivesCut, HoldsCut, IsCause, IsMade, IsNotGoneOn, IsNotMade, IsNotedIn, IsPartUnread, IsPut, IsUnreadFile, WritesImage, form_of, resumed};
+ghost use Rattle.jffs2_image.specs.Writes.{GivesCut, HoldsCut, IsCause, IsMade, IsNotGoneOn, IsNotMade, IsNotedIn, IsPartUnread, IsPut, IsTooLong, IsUnreadFile, WritesImage, form_of, resumed};
 ghost use Rattle.flashbase.specs.Sinks.{change_of};
 ghost use Rattle.jffs2_image.specs.Tasks.{passage};
 
 use crate::host::{FileFault, Loader, MakeFault, Maker};
 use crate::output::Output;
 use crate::weak::Notes;
-use flashbase::Sink;
+use flashbase::{LoadFault, Sink};
 use jbuild::{Parts, emit, operations, put_accepted};
 use jcommand::Target;
 use jcuts::Flash;
@@ -67,9 +67,37 @@ pub fn load_file<'a, L: Loader>(loader: &mut L, name: &'a str) -> Result<Vec<u8>
     }
 }
 
+/// One more file, or one anew, behind those that were read.
+fn read_part<L: Loader>(
+    alloc: Global,
+    loader: &mut L,
+    parts: &mut Parts,
+    name: &str,
+) -> Result<(), FileFault>
+    ensures part { OnOk result
+        (ReadsFilePart (L.told loader.old name.now) name.now parts.old parts.new) }
+    ensures large { result ≡ Err (FileFault.Load LoadFault.TooLarge)
+        → IsTooLong (L.told loader.old name.now) }
+    ensures count { CountsFile (L.failures loader.old) (L.failures loader.new) result }
+    ensures stays { (other : List ℕ) → L.told loader.new other ≡ L.told loader.old other }
+{
+    let Ok(key) = name.to_string(alloc) else {
+        return Err(FileFault::Load(LoadFault::OutOfMemory));
+    };
+    let mut opened = match loader.open(name) {
+        Ok(opened) => opened,
+        Err(reason) => return Err(FileFault::NotOpened(reason)),
+    };
+    let read = parts.read(alloc, key, &mut opened, GREATEST_IMAGE);
+    loader.close(opened);
+    match read {
+        Ok(()) => Ok(()),
+        Err(fault) => Err(FileFault::Load(fault)),
+    }
+}
+
 /// The files that a listing names, each of which is read once; one that was read before is not read
-/// again. The name of one that can't be opened
-/// is kept in `unread`.
+/// again. The name of one that can't be opened is kept in `unread`.
 pub fn load_parts<'a, L: Loader>(
     alloc: Global,
     loader: &mut L,
@@ -86,11 +114,10 @@ pub fn load_parts<'a, L: Loader>(
     for line in lines {
         if let Some(file) = line.action.file() {
             if !parts.has(file) {
-                let key = file.to_string(alloc)?;
-                match loader.load(file, GREATEST_IMAGE) {
-                    Ok(bytes) => parts.insert(key, &bytes)?,
+                match read_part(alloc, loader, &mut parts, file) {
+                    Ok(()) => {}
                     Err(FileFault::NotOpened(reason)) => {
-                        *unread = key;
+                        *unread = file.to_string(alloc)?;
                         let name = unread.as_str();
                         return Err(ProgramFault::File(Unopened { name, reason }));
                     }

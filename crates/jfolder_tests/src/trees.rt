@@ -106,10 +106,9 @@ fn targets_that_are_none_are_left_out(rt: HostRuntime) {
 
 const NO_TIME: &str = "left out /o: a time before 1970 or after 2106\n";
 
-/// Files at a time and of a size, the listing, and the notes.
-#[test]
-fn times_and_sizes_have_an_end(rt: HostRuntime) {
-    let rows = [
+/// A time, a size and the content of a file; the listing, and the notes.
+fn bounds() -> &'static [((i64, u64, &'static str), &'static str, &'static str)] {
+    &[
         (
             (0, 268435456, "abc"),
             "attr 755 0 0 0 0 /\nfile 0 /o host/o\n",
@@ -127,8 +126,13 @@ fn times_and_sizes_have_an_end(rt: HostRuntime) {
         ),
         ((4294967296, 0, ""), ROOT_TEXT, NO_TIME),
         ((-1, 0, ""), ROOT_TEXT, NO_TIME),
-    ];
-    for ((time, size, content), text, notes) in rows {
+    ]
+}
+
+/// Files at a time and of a size, the listing, and the notes.
+#[test]
+fn times_and_sizes_have_an_end(rt: HostRuntime) {
+    for &((time, size, content), text, notes) in bounds() {
         let objects = with_other(0o100000, time, size, content);
         let left_out = u64::from(!notes.is_empty());
         expect(
@@ -159,11 +163,13 @@ fn names_that_are_none_are_left_out(rt: HostRuntime) {
     expect(&rt, is_read(alloc, &objects, &AS_TOLD, text, notes, 5));
 }
 
-/// A file that can't be read has no line, whatever its size; one of any name has one, which may be
-/// of any characters.
-#[test]
-fn files_that_are_not_listed(rt: HostRuntime) {
-    let rows = [
+/// A path, a size and the content of a file; the listing, and the notes.
+fn unlisted() -> &'static [(
+    (&'static str, u64, &'static str),
+    &'static str,
+    &'static str,
+)] {
+    &[
         (
             ("o", 1, UNREADABLE),
             ROOT_TEXT,
@@ -184,8 +190,14 @@ fn files_that_are_not_listed(rt: HostRuntime) {
             ROOT_TEXT,
             "left out /o\\x20o: more than 268435456 bytes\n",
         ),
-    ];
-    for ((path, size, text_in), text, notes) in rows {
+    ]
+}
+
+/// A file that can't be read has no line, whatever its size; one of any name has one, which may be
+/// of any characters.
+#[test]
+fn files_that_are_not_listed(rt: HostRuntime) {
+    for &((path, size, text_in), text, notes) in unlisted() {
         let mut other = make_object(path, 0o100644, (0, 0), 0, text_in);
         other.looked.size = size;
         let objects = [make_object("", 0o040755, (0, 0), 0, ""), other];
