@@ -328,7 +328,13 @@ run decompress clash out.img; want 0 "decompressed 2 nodes 3 bytes 232" ""
 run check out.img; want 3 $'*findings 0\nmount refused M5 Clash at 00000090' ""
 for words in "ls --decompress clash" "cat --decompress clash /a" \
     "extract --decompress clash none.img" "append --decompress --blocks 4 clash create none.img"; do
-    run $words; want 1 "" "jffs2_image: M5 Clash at 00000090$clash_note"
+    run $words; want 1 "" "jffs2_image: M5 Clash at 00000090$(clash_note 00000038 00000090)"
+done
+# So it is of the image that was made: each command that mounts one names both nodes.
+for words in "ls out.img" "ls out.img /a" "cat out.img /a" "damage out.img" "diff out.img good" \
+    "extract out.img none.img" "append --blocks 4 out.img create none.img" \
+    "cuts --blocks 4 --on out.img create"; do
+    run $words; want 1 "" "jffs2_image: M5 Clash at 00000090$(clash_note 00000038 00000090)"
 done
 unmade none.img
 # With --clashes higher the node below it is left out, and told; what is left mounts.

@@ -24,8 +24,8 @@ SYMLINK = 0o120777
 TIME = 1000000000
 IS_ROOT = os.geteuid() == 0
 CLASH_NOTE = (
-    "jffs2_image: note: two nodes differ; "
-    "decompress --clashes higher keeps that of the higher address\n"
+    "jffs2_image: note: the nodes at 00000000 and 00000048 differ; "
+    "decompress --clashes higher keeps that of the highest address\n"
 )
 
 

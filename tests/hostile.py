@@ -31,8 +31,8 @@ COMPRESSED = (
     b"decompress writes one that is not, and --decompress reads it\n"
 )
 CLASH = (
-    b"jffs2_image: note: two nodes differ; "
-    b"decompress --clashes higher keeps that of the higher address\n"
+    "jffs2_image: note: the nodes at {} and {} differ; "
+    "decompress --clashes higher keeps that of the highest address\n"
 )
 BLOCK = b"jffs2_image: note: --block takes a multiple of 4 from 4096 to 4194304\n"
 OUTPUT = b"jffs2_image: P5 Output\n"
@@ -359,8 +359,9 @@ def read_by(reading, words):
 
 
 def fault(text):
-    """What a fault gives, with the note of every command: M4 has one by the command, which `refusal` adds."""
-    note = CLASH if text.startswith("M5 ") else BLOCK if text.startswith(("C1 ", "M1 ")) else b""
+    """What a fault gives, with the note of every command: M4 has one by the command, which `refusal` adds. M5 names both nodes."""
+    text, _, lower = text.partition(" with ")
+    note = CLASH.format(lower, text[-8:]).encode() if lower else BLOCK if text.startswith(("C1 ", "M1 ")) else b""
     return Done(1, b"", f"jffs2_image: {text}\n".encode() + note)
 
 
@@ -670,7 +671,7 @@ def on_rows():
             for command in (["ls", *words], ["cat", *words, "/a"]):
                 does(f"{why}, {order[1]}", command, fault(why))
             done = run(["check", *words])
-            is_right = done.status == 3 and done.out.endswith(f" findings 0\nmount refused {why}\n".encode())
+            is_right = done.status == 3 and done.out.endswith(f" findings 0\nmount refused {why.partition(' with ')[0]}\n".encode())
             verdict(f"check: {why}, {order[1]}", is_right and not done.err, done)
         for front, count in rows.with_findings(make, other):
             write("any.img", front + rows.joined([rows.node(make, 2, packed.FILE), rows.entry(make, 1, 2, b"a")]))

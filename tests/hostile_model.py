@@ -146,16 +146,17 @@ def key(what, held):
 
 
 def refusal(nodes):
-    """Why the nodes do not mount, from the lowest address on."""
+    """Why the nodes do not mount, from the lowest address on; of a clash with the lowest address of the other node."""
     for place, (at, what, held) in enumerate(nodes):
         if what == "incompatible":
             return f"M3 Incompatible at {at:08x} type {held:04x}"
         if what == "compressed":
             return f"M4 Compressed at {at:08x} compr {held[0]}"
         if what in ("entry", "inode"):
-            below = [other for _, kind, other in nodes[:place] if kind == what and key(kind, other) == key(what, held)]
-            if any(other != held for other in below):
-                return f"M5 Clash at {at:08x}"
+            below = [(low, other) for low, kind, other in nodes[:place] if kind == what and key(kind, other) == key(what, held)]
+            lower = [low for low, other in below if other != held]
+            if lower:
+                return f"M5 Clash at {at:08x} with {lower[0]:08x}"
     if 1 in inodes(nodes) and inodes(nodes)[1][2] >> 12 != 4:
         return "M6 RootKind"
     return None
@@ -220,7 +221,7 @@ def check(image, size=65536, order="<"):
     lines, nodes, found, _ = report(image, size, order)
     fault = refusal(nodes)
     if fault:
-        return lines + [f"mount refused {fault}"], 3
+        return lines + [f"mount refused {fault.partition(' with ')[0]}"], 3
     objects, names = tree(nodes)
     lines.append("mount ok" + (" read-only" if any(what == "read-only" for _, what, _ in nodes) else ""))
     dangling = [f"dangling pino {pino} ino {ino} name {escaped(name)}" for pino in sorted(names) for name, ino in names[pino] if ino not in objects]

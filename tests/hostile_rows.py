@@ -213,7 +213,7 @@ def trees(make):
 
 def unmounted(make):
     """Images that do not mount, and why."""
-    yield joined([node(make, 2, FILE), node(make, 2, 0o100600)]), "M5 Clash at 00000044"
+    yield joined([node(make, 2, FILE), node(make, 2, 0o100600)]), "M5 Clash at 00000044 with 00000000"
     yield joined([node(make, 1, FILE)]), "M6 RootKind"
 
 

@@ -60,9 +60,11 @@ marker() {
 # The notes after the line of a fault, of every command
 # shellcheck disable=SC2034
 block_note=$'\n'"jffs2_image: note: --block takes a multiple of 4 from 4096 to 4194304"
-# shellcheck disable=SC2034
-clash_note=$'\n'"jffs2_image: note: two nodes differ; \
-decompress --clashes higher keeps that of the higher address"
+# clash_note LOWER HIGHER
+clash_note() {
+    printf '\njffs2_image: note: the nodes at %s and %s differ; ' "$1" "$2"
+    printf 'decompress --clashes higher keeps that of the highest address'
+}
 
 # shellcheck disable=SC2034
 no_space=$'\n'"jffs2_image: note: no space"

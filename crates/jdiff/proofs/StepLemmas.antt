@@ -224,6 +224,7 @@ spot_failed times s t w n name i j names left right program.NotRegular old new b
 spot_failed times s t w n name i j names left right (program.NoSpace folder) old new before now read put = absurd put
 spot_failed times s t w n name i j names left right (program.Data addr) old new before now read put = absurd put
 spot_failed times s t w n name i j names left right (program.TooLong addr) old new before now read put = absurd put
+spot_failed times s t w n name i j names left right (program.Clash addr other) old new before now read put = absurd put
 
 pub pair_step_failed : (times : Bool) (s t : State) (w n : Walk) (old new : Option (List ℕ)) (before now : ℕ) (r : Result (Option ℕ) ProgramFault) (fault : ProgramFault)
     → IsErrAnd r (λ e. e ≡ fault) → PutsPairStepOn times s t w n old new before now (Err fault) → PutsPairStepOn times s t w n old new before now r
@@ -320,6 +321,7 @@ roots_failed times s t a b c d program.NotRegular old new before now none nothin
 roots_failed times s t a b c d (program.NoSpace folder) old new before now none nothing put = absurd put
 roots_failed times s t a b c d (program.Data addr) old new before now none nothing put = absurd put
 roots_failed times s t a b c d (program.TooLong addr) old new before now none nothing put = absurd put
+roots_failed times s t a b c d (program.Clash addr other) old new before now none nothing put = absurd put
 
 pub places_on : (times : Bool) (s t : State) (w n : Walk) (a b c : Option (List ℕ)) (count more next before now : ℕ) → ReachesPlaces times s t w a b count
     → PutsPairStepOn times s t w n b c before now (Ok (Some more)) → next ≡ min (count + more) (2 ^ 64 - 1) → ReachesPlaces times s t n a c next
@@ -370,6 +372,7 @@ pair_stopped times s t w n program.NotRegular a b c count first before now far s
 pair_stopped times s t w n (program.NoSpace folder) a b c count first before now far same put = absurd put
 pair_stopped times s t w n (program.Data addr) a b c count first before now far same put = absurd put
 pair_stopped times s t w n (program.TooLong addr) a b c count first before now far same put = absurd put
+pair_stopped times s t w n (program.Clash addr other) a b c count first before now far same put = absurd put
 
 pub differences_failed : (times : Bool) (s t : State) (old new : Option (List ℕ)) (before now : ℕ) (r : Result ℕ ProgramFault) (fault : ProgramFault)
     → IsErrAnd r (λ e. e ≡ fault) → PutsDifferences times s t old new before now (Err fault) → PutsDifferences times s t old new before now r

@@ -12,6 +12,7 @@
 //! | see kind, mode, owner, size and times of it | [`Mounted::object`] |
 //! | read its bytes | [`Mounted::read_at`], or [`Mounted::put_bytes`] into a [`Sink`] |
 //! | list a directory | [`Mounted::entries`]; [`Mounted::names`] has the names of all directories |
+//! | know which nodes clash, where a mount says so | [`clash_below`]: the other one |
 //! | know what is damaged | [`Mounted::findings`], [`Mounted::dangling`], [`Mounted::shape`] |
 //! | print what the damage of an image costs | [`put_damage`], of a [`Mounted`] |
 //! | print what `ls`, `cat` and `check` print | [`tree_lines`], [`part_lines`], [`content`], [`scan_lines`], [`verdict_lines`] |
@@ -38,6 +39,7 @@ pub use flashbase::{
     DeviceFault, FromReader, FromWriter, LoadFault, PutFault, Sink, Source, load, put_all,
 };
 pub use jbuild::{Parts, emit, operations};
+pub use jclash::clash_below;
 pub use jconvert::{
     Apart, ConvertFault, Converted, LeftOut, compress, decompress, decompress_apart, decompressed,
 };

@@ -20,7 +20,9 @@ use Rattle.jcuts.specs.Cuts.{Asked, PutsCuts}
 use Rattle.jcuts.specs.declared.cuts.CutsFault.{CutsFault}
 use Rattle.jcuts.specs.declared.cuts.Flash.{Flash}
 use Rattle.jcuts.specs.declared.lines.Telling.TheVariants.{Nodes}
+use Rattle.jreport.specs.Refusal.{IsRefusalTold}
 use Rattle.jreport.specs.declared.faults.ProgramFault.{ProgramFault}
+use Rattle.jreport.proofs.RefusalLemmas.{refusal_cases}
 use Rattle.jreport.specs.declared.faults.ProgramFault.TheVariants as program
 use Rattle.jffs2_image.specs.CutRuns.{BlamesReading, CutsAsked, FinishesCuts, IsBaseOf, IsLinesFault, TellsFiles, TellsLines, TellsText, answer_of_cuts, flash_asked}
 use Rattle.jffs2_image.specs.Host.{AreAllRead, AreLoaded, AreRead, HaveBytes, IsReadFault}
@@ -53,6 +55,7 @@ part_due told e size base text lines program.Output read unread = absurd unread
 part_due told e size base text lines (program.NoSpace folder) read unread = absurd unread
 part_due told e size base text lines (program.Data at) read unread = absurd unread
 part_due told e size base text lines (program.TooLong at) read unread = absurd unread
+part_due told e size base text lines (program.Clash at other) read unread = absurd unread
 
 pub part_blames : (told : List ℕ → Option (List ℕ)) (lines : List Line) (before now : ℕ) (f : ProgramFault) → IsPartUnread told lines f → IsReadFault before now f → BlamesReading before now (Err f)
 part_blames told lines before now (program.File name) unread read = read
@@ -71,6 +74,7 @@ part_blames told lines before now program.Output unread read = absurd unread
 part_blames told lines before now (program.NoSpace folder) unread read = absurd unread
 part_blames told lines before now (program.Data at) unread read = absurd unread
 part_blames told lines before now (program.TooLong at) unread read = absurd unread
+part_blames told lines before now (program.Clash at other) unread read = absurd unread
 
 pub file_blames : (name : List ℕ) (told : Option (List ℕ)) (before now : ℕ) (f : ProgramFault) → IsUnreadFile name told f → IsReadFault before now f → BlamesReading before now (Err f)
 file_blames name told before now (program.File other) unread read = read
@@ -89,6 +93,15 @@ file_blames name told before now program.Output unread read = absurd unread
 file_blames name told before now (program.NoSpace folder) unread read = absurd unread
 file_blames name told before now (program.Data at) unread read = absurd unread
 file_blames name told before now (program.TooLong at) unread read = absurd unread
+file_blames name told before now (program.Clash at other) unread read = absurd unread
+
+-- the base does not mount
+pub base_due : (told : List ℕ → Option (List ℕ)) (e : Endian) (size : ℕ) (base text : List ℕ) (f : ProgramFault) → AreAllRead told text → IsRefusalTold e size base f → IsLinesFault told e size base text f
+base_due told e size base text f are refused =
+    refusal_cases (λ (z : ProgramFault). IsLinesFault told e size base text z) e size base f (λ g here. (are, here)) (λ addr other here. (are, here)) refused
+
+pub base_blames : (e : Endian) (size : ℕ) (base : List ℕ) (n : ℕ) (f : ProgramFault) → IsRefusalTold e size base f → BlamesReading n n (Err f)
+base_blames e size base n f refused = refusal_cases (λ (z : ProgramFault). BlamesReading n n (Err z)) e size base f (λ g here. refl) (λ addr other here. refl) refused
 
 -- the same answer
 pub answer_blames : (before now : ℕ) (f : ProgramFault) (r : Result ℕ ProgramFault) → IsErrAnd r (λ is. is ≡ f) → BlamesReading before now (Err f) → BlamesReading before now r

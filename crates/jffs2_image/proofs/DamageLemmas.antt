@@ -6,16 +6,14 @@ use Rattle.std.specs.Io.KnownBytes.{Keeps}
 use Rattle.flashbase.specs.Device.{CountsErr}
 use Rattle.flashbase.specs.Sinks.{SinkChange}
 use Rattle.jcommand.specs.declared.parsed.Options.{Options}
-use Rattle.jmount.specs.Mounts.{Answers}
-use Rattle.jmount.specs.declared.fault.MountFault.{MountFault}
+use Rattle.jreport.specs.Refusal.{IsRefusalTold}
 use Rattle.jreport.specs.declared.faults.ProgramFault.{ProgramFault}
-use Rattle.jreport.specs.declared.faults.ProgramFault.TheVariants as program
 use Rattle.jffs2_image.specs.DamageRuns.{TellsDamage, FinishesDamage}
 use Rattle.jffs2_image.specs.Writes.{IsBehind}
 
 -- an image that does not mount is why
-pub not_mounted : (options : Options) (image : List ℕ) (output : SinkChange) (fault : MountFault) (r : Result ℕ ProgramFault) → IsErrAnd r (λ x. x ≡ program.Mount fault)
-    → Answers options.endian options.geometry.block image (Err fault) → output.new ≡ output.old → output.now ≡ output.before → TellsDamage options image output r
+pub not_mounted : (options : Options) (image : List ℕ) (output : SinkChange) (fault : ProgramFault) (r : Result ℕ ProgramFault) → IsErrAnd r (λ x. x ≡ fault)
+    → IsRefusalTold options.endian options.geometry.block image fault → output.new ≡ output.old → output.now ≡ output.before → TellsDamage options image output r
 not_mounted options image output fault (Ok n) is why same count = absurd is
 not_mounted options image output fault (Err x) is why same count = inr (fault, ap Err is, why, same, count)
 

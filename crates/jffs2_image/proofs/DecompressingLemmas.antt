@@ -107,6 +107,7 @@ not_written held e size output image made old n program.OutOfMemory is not = (in
 not_written held e size output image made old n (program.NoSpace folder) is not = absurd not
 not_written held e size output image made old n (program.Data addr) is not = absurd not
 not_written held e size output image made old n (program.TooLong addr) is not = absurd not
+not_written held e size output image made old n (program.Clash addr other) is not = absurd not
 
 -- ---- `--decompress`
 
@@ -169,6 +170,7 @@ part_unread told held e options name word path old n f is not = by f not
     by (program.NoSpace folder) not = absurd not
     by (program.Data addr) not = absurd not
     by (program.TooLong addr) not = absurd not
+    by (program.Clash addr other) not = absurd not
 
 pub part_refused : (told : List ℕ → Option (List ℕ)) (held : Held) (e : Endian) (options : Options) (name word path image : List ℕ) (old : Option (List ℕ)) (n : ℕ) (f : ProgramFault)
     → path_of word ≡ Some path → AreLoaded (told name) image → IsNotConverted e options.geometry.block image f
@@ -208,6 +210,7 @@ cat_unread told held e options name word path old n f is not = by f not
     by (program.NoSpace folder) not = absurd not
     by (program.Data addr) not = absurd not
     by (program.TooLong addr) not = absurd not
+    by (program.Clash addr other) not = absurd not
 
 pub cat_refused : (told : List ℕ → Option (List ℕ)) (held : Held) (e : Endian) (options : Options) (name word path image : List ℕ) (old : Option (List ℕ)) (n : ℕ) (f : ProgramFault)
     → path_of word ≡ Some path → AreLoaded (told name) image → IsNotConverted e options.geometry.block image f
@@ -307,6 +310,7 @@ reads_fault T told before now program.OutOfMemory reads = tt
 reads_fault T told before now (program.NoSpace folder) reads = tt
 reads_fault T told before now (program.Data addr) reads = tt
 reads_fault T told before now (program.TooLong addr) reads = tt
+reads_fault T told before now (program.Clash addr other) reads = tt
 
 -- a fault is none of an answer
 pub reads_any : (T : Type 0) (told : Option (List ℕ)) (before now : ℕ) (f : ProgramFault) → ReadsFile {T = ℕ} told before now (Err f) → ReadsFile {T = T} told before now (Err f)
@@ -326,6 +330,7 @@ reads_any T told before now program.OutOfMemory reads = reads
 reads_any T told before now (program.NoSpace folder) reads = reads
 reads_any T told before now (program.Data addr) reads = reads
 reads_any T told before now (program.TooLong addr) reads = reads
+reads_any T told before now (program.Clash addr other) reads = reads
 
 pub decompress_any : (T u v : Type 0) (rb rn mb mn : ℕ) (f : ProgramFault) → BlamesDecompress {T = ℕ} u v rb rn mb mn (Err f) → BlamesDecompress {T = T} u v rb rn mb mn (Err f)
 decompress_any T u v rb rn mb mn (program.Load load.Device) blames = blames
@@ -350,6 +355,7 @@ decompress_any T u v rb rn mb mn program.OutOfMemory blames = blames
 decompress_any T u v rb rn mb mn (program.NoSpace folder) blames = blames
 decompress_any T u v rb rn mb mn (program.Data addr) blames = blames
 decompress_any T u v rb rn mb mn (program.TooLong addr) blames = blames
+decompress_any T u v rb rn mb mn (program.Clash addr other) blames = blames
 
 pub refused_any : (T : Type 0) (d : Bool) (e : Endian) (size : ℕ) (told : Option (List ℕ)) (u : Type 0) (f : ProgramFault)
     → IsRefusedBefore {T = ℕ} d e size told u (Err f) → IsRefusedBefore {T = T} d e size told u (Err f)

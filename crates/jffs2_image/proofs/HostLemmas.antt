@@ -7,7 +7,6 @@ use Rattle.flashbase.specs.declared.source.LoadFault.TheVariants as load
 use Rattle.jnode.specs.declared.order.Endian.{Endian}
 use Rattle.jscan.specs.Image.{greatest_image}
 use Rattle.jmount.specs.Mount.{Mount}
-use Rattle.jmount.specs.declared.fault.MountFault.{MountFault}
 use Rattle.jsteps.specs.declared.op.Op.{Op}
 use Rattle.jlisting.specs.Listing.{file_of, lines_of}
 use Rattle.jlisting.specs.declared.line.Line.{Line}
@@ -35,6 +34,8 @@ use Rattle.jreport.specs.declared.faults.ProgramFault.{ProgramFault}
 use Rattle.jreport.specs.declared.faults.ProgramFault.TheVariants as program
 use Rattle.jffs2_image.specs.Host.{AreAllLoaded, AreAllRead, AreLoaded, AreOf, AreRead, Blames, BlamesMaker, HasFailed, HaveBytes, IsCutShort, IsHandedBack, IsMadeUntil, IsMakeFault, IsReadFault, Leaves, RunsFiles}
 use Rattle.jffs2_image.specs.Writes.{GivesCut, GivesPart, Held, HoldsCut, HoldsFront, HoldsPart, IsBehind, IsGivenOn, IsHanded, IsMade, IsNotMade, IsPartUnread, IsPut, IsUnreadFile, image_form}
+use Rattle.jreport.specs.Refusal.{IsRefusalTold}
+use Rattle.jreport.proofs.RefusalLemmas.{refusal_cases}
 use Rattle.jreport.proofs.SinkLemmas.{sink_change}
 
 -- ---- the file that is made
@@ -63,6 +64,7 @@ make_fault page e size blocks m output from u v same before now program.NotRegul
 make_fault page e size blocks m output from u v same before now (program.NoSpace folder) on not made left = absurd not
 make_fault page e size blocks m output from u v same before now (program.Data addr) on not made left = absurd not
 make_fault page e size blocks m output from u v same before now (program.TooLong addr) on not made left = absurd not
+make_fault page e size blocks m output from u v same before now (program.Clash addr other) on not made left = absurd not
 make_fault page e size blocks m output from u v same before now program.Output on not made left = absurd not
 make_fault page e size blocks m output from u v same before now program.OutOfMemory on not made left = inr left
 
@@ -87,6 +89,11 @@ run_fault held page e size blocks m ops accepted places u v before now (session.
 run_fault held page e size blocks m ops accepted places u v before now (session.Full a b) line cause made until left = left
 run_fault held page e size blocks m ops accepted places u v before now session.OutOfMemory line cause made until left = left
 run_fault held page e size blocks m ops accepted places u v before now session.Broken line cause made until left = left
+
+-- the base does not mount
+pub mount_fault : (e : Endian) (size : ℕ) (base : List ℕ) (u v : Type 0) (before now : ℕ) (f : ProgramFault) → IsRefusalTold e size base f → u → BlamesMaker {T = ℕ} u v before now (Err f)
+mount_fault e size base u v before now f refused still =
+    refusal_cases (λ (z : ProgramFault). BlamesMaker {T = ℕ} u v before now (Err z)) e size base f (λ h here. still) (λ addr other here. still) refused
 
 -- the answer is that fault
 pub maker_fault : (u v : Type 0) (before now : ℕ) (f : ProgramFault) (r : Result ℕ ProgramFault)
@@ -117,6 +124,7 @@ lines_blame u v rb rn mb mn (Err program.NotRegular) read made = tt
 lines_blame u v rb rn mb mn (Err (program.NoSpace folder)) read made = tt
 lines_blame u v rb rn mb mn (Err (program.Data addr)) read made = absurd made
 lines_blame u v rb rn mb mn (Err (program.TooLong addr)) read made = absurd made
+lines_blame u v rb rn mb mn (Err (program.Clash addr other)) read made = made
 lines_blame u v rb rn mb mn (Err program.Output) read made = made
 lines_blame u v rb rn mb mn (Err program.OutOfMemory) read made = made
 
@@ -136,6 +144,7 @@ parts_blame T u v rb rn mb mn told lines program.NotRegular still not read = abs
 parts_blame T u v rb rn mb mn told lines (program.NoSpace folder) still not read = absurd not
 parts_blame T u v rb rn mb mn told lines (program.Data addr) still not read = absurd not
 parts_blame T u v rb rn mb mn told lines (program.TooLong addr) still not read = absurd not
+parts_blame T u v rb rn mb mn told lines (program.Clash addr other) still not read = absurd not
 parts_blame T u v rb rn mb mn told lines program.Output still not read = absurd not
 parts_blame T u v rb rn mb mn told lines program.OutOfMemory still not read = inl still
 
@@ -155,6 +164,7 @@ file_blame T u v rb rn mb mn name told program.NotRegular still not read = absur
 file_blame T u v rb rn mb mn name told (program.NoSpace folder) still not read = absurd not
 file_blame T u v rb rn mb mn name told (program.Data addr) still not read = absurd not
 file_blame T u v rb rn mb mn name told (program.TooLong addr) still not read = absurd not
+file_blame T u v rb rn mb mn name told (program.Clash addr other) still not read = absurd not
 file_blame T u v rb rn mb mn name told program.Output still not read = absurd not
 file_blame T u v rb rn mb mn name told program.OutOfMemory still not read = absurd not
 
@@ -180,6 +190,7 @@ any_blame T u v rb rn mb mn program.NotRegular w = w
 any_blame T u v rb rn mb mn (program.NoSpace folder) w = w
 any_blame T u v rb rn mb mn (program.Data addr) w = w
 any_blame T u v rb rn mb mn (program.TooLong addr) w = w
+any_blame T u v rb rn mb mn (program.Clash addr other) w = w
 any_blame T u v rb rn mb mn program.Output w = w
 any_blame T u v rb rn mb mn program.OutOfMemory w = w
 
@@ -283,11 +294,13 @@ all_of_text : (told : List ℕ → Option (List ℕ)) (lines : List Line) (parts
 all_of_text told lines parts text are read = (lines, part_contents parts, read, have_bytes told lines parts are)
 
 -- a fault of the base
-pub files_not_mounted : (told : List ℕ → Option (List ℕ)) (held : Held) (page : Page) (e : Endian) (size blocks : ℕ) (base text : List ℕ) (lines : List Line) (parts : Parts) (old new : Option (List ℕ)) (f : MountFault) (r : Result ℕ ProgramFault)
-    → IsErrAnd r (λ is. is ≡ program.Mount f) → AreRead told lines parts → lines_of text ≡ Ok lines → RunsFiles told held (image_form page e size blocks) base text old new r
-files_not_mounted told held page e size blocks base text lines parts old new f (Ok x) fault are read = absurd fault
-files_not_mounted told held page e size blocks base text lines parts old new f (Err g) fault are read =
-    subst (λ (z : ProgramFault). RunsFiles told held (image_form page e size blocks) base text old new (Err z)) (sym fault) (all_of_text told lines parts text are read)
+pub files_not_mounted : (told : List ℕ → Option (List ℕ)) (held : Held) (page : Page) (e : Endian) (size blocks : ℕ) (base text : List ℕ) (lines : List Line) (parts : Parts) (old new : Option (List ℕ)) (f : ProgramFault) (r : Result ℕ ProgramFault)
+    → IsErrAnd r (λ is. is ≡ f) → IsRefusalTold e size base f → AreRead told lines parts → lines_of text ≡ Ok lines → RunsFiles told held (image_form page e size blocks) base text old new r
+files_not_mounted told held page e size blocks base text lines parts old new f (Ok x) fault refused are read = absurd fault
+files_not_mounted told held page e size blocks base text lines parts old new f (Err g) fault refused are read =
+    let P = λ (z : ProgramFault). RunsFiles told held (image_form page e size blocks) base text old new (Err z) in
+    subst P (sym fault)
+    (refusal_cases P e size base f (λ h here. all_of_text told lines parts text are read) (λ addr other here. all_of_text told lines parts text are read) refused)
 
 pub files_not_resumed : (told : List ℕ → Option (List ℕ)) (held : Held) (page : Page) (e : Endian) (size blocks : ℕ) (base text : List ℕ) (lines : List Line) (parts : Parts) (m : Mount) (old new : Option (List ℕ)) (f : SessionFault) (cause : Cause) (r : Result ℕ ProgramFault)
     → resumes_by page e size blocks m ≡ Err f → IsErrAnd r (λ is. is ≡ program.Session f None cause) → AreRead told lines parts → lines_of text ≡ Ok lines → RunsFiles told held (image_form page e size blocks) base text old new r
@@ -333,6 +346,7 @@ files_not_made told held page e size blocks output base text lines parts m old n
     by (program.NoSpace folder) not cut = tt
     by (program.Data addr) not cut = tt
     by (program.TooLong addr) not cut = tt
+    by (program.Clash addr other) not cut = absurd not
     by program.Output not cut = absurd not
     by program.OutOfMemory not cut = inr cut
 

@@ -31,6 +31,8 @@ use Rattle.jcommand.specs.declared.parsed.Options.{Options}
 use Rattle.jffs2_image.specs.Host.{AreLoaded, RunsFiles}
 use Rattle.jffs2_image.specs.Runs.{Meets, RunsListed}
 use Rattle.jffs2_image.specs.Writes.{Held, IsCause, IsHanded, IsMade, IsNotMade, IsNotedIn, IsRunOn, IsSessionFault, WritesImage, image_form}
+use Rattle.jreport.specs.Refusal.{IsRefusalTold}
+use Rattle.jreport.proofs.RefusalLemmas.{refusal_cases}
 use Rattle.jreport.proofs.SinkLemmas.{sink_change}
 
 -- the image is not gone on from
@@ -38,6 +40,13 @@ pub not_resumed : (held : Held) (page : Page) (e : Endian) (size blocks : ℕ) (
     → m.image ≡ base → Answers e size base (Ok m) → resumes_by page e size blocks m ≡ Err f → IsCause page size blocks m.image f cause → WritesImage {T = ℕ} held (image_form page e size blocks) output base text (sink_change old old n n) (Err (program.Session f None cause))
 not_resumed held page e size blocks output base text m f cause old n same mounts refused why =
     ((inl (refl, (m, mounts, inl refused)), subst (λ (image : List ℕ). IsCause page size blocks image f cause) same why), refl, refl)
+
+-- the base does not mount
+pub not_mounted : (held : Held) (page : Page) (e : Endian) (size blocks : ℕ) (output base text : List ℕ) (f : ProgramFault) (old : Option (List ℕ)) (n : ℕ)
+    → IsRefusalTold e size base f → WritesImage {T = ℕ} held (image_form page e size blocks) output base text (sink_change old old n n) (Err f)
+not_mounted held page e size blocks output base text f old n refused =
+    refusal_cases (λ (z : ProgramFault). WritesImage {T = ℕ} held (image_form page e size blocks) output base text (sink_change old old n n) (Err z)) e size base f
+    (λ g here. (here, refl, refl)) (λ addr other here. (here, refl, refl)) refused
 
 -- no file was made, or not to its end
 pub not_made : (held : Held) (page : Page) (e : Endian) (size blocks : ℕ) (output base text : List ℕ) (m : Mount) (f : ProgramFault) (old : Option (List ℕ)) (n : ℕ)
@@ -56,6 +65,7 @@ not_made held page e size blocks output base text m program.NotRegular old n sam
 not_made held page e size blocks output base text m (program.NoSpace folder) old n same mounts not = absurd not
 not_made held page e size blocks output base text m (program.Data addr) old n same mounts not = absurd not
 not_made held page e size blocks output base text m (program.TooLong addr) old n same mounts not = absurd not
+not_made held page e size blocks output base text m (program.Clash addr other) old n same mounts not = absurd not
 not_made held page e size blocks output base text m program.Output old n same mounts not = absurd not
 not_made held page e size blocks output base text m program.OutOfMemory old n same mounts not = (tt, refl, refl)
 

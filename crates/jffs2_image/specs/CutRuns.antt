@@ -17,6 +17,7 @@ use Rattle.jcuts.specs.declared.cuts.Flash.{Flash}
 use Rattle.jcuts.specs.declared.lines.Telling.TheVariants.{Nodes}
 use Rattle.jreport.specs.Advice.{fault_lines_of}
 use Rattle.jreport.specs.declared.cause.Cause.TheVariants as causes
+use Rattle.jreport.specs.Refusal.{IsRefusalTold}
 use Rattle.jreport.specs.declared.faults.ProgramFault.{ProgramFault}
 use Rattle.jreport.specs.declared.faults.ProgramFault.TheVariants as program
 use Rattle.jcommand.specs.Parsed.{CutsParsed, IsFaultless, parsed_from}
@@ -66,7 +67,9 @@ IsLinesFault told e size base text (program.NotRead file) =
 IsLinesFault told e size base text (program.Load fault) =
     (lines : List Line) × (lines_of text ≡ Ok lines) × IsPartUnread told lines (program.Load fault)
 IsLinesFault told e size base text (program.Mount fault) =
-    AreAllRead told text × Answers e size base (Err fault)
+    AreAllRead told text × IsRefusalTold e size base (program.Mount fault)
+IsLinesFault told e size base text (program.Clash addr other) =
+    AreAllRead told text × IsRefusalTold e size base (program.Clash addr other)
 IsLinesFault told e size base text program.OutOfMemory = Unit {0}
 IsLinesFault told e size base text _ = ⊥
 

@@ -3,11 +3,11 @@ use Rattle.std.specs.Prelude.{◌≡◌, ◌⊎◌, ℕ, ◌+◌, ◌-◌, ◌^�
 use Rattle.flashbase.specs.Sinks.{SinkChange}
 use Rattle.jmount.specs.Mount.{Mount}
 use Rattle.jmount.specs.Mounts.{Answers}
-use Rattle.jmount.specs.declared.fault.MountFault.{MountFault}
 use Rattle.jdamage.specs.Damage.{PutsDamage}
 use Rattle.jdamage.specs.declared.fault.DamageFault.{DamageFault}
 use Rattle.jdamage.specs.declared.fault.DamageFault.TheVariants as damage
 use Rattle.jdamage.specs.declared.totals.Totals.{Totals}
+use Rattle.jreport.specs.Refusal.{IsRefusalTold}
 use Rattle.jreport.specs.declared.faults.ProgramFault.{ProgramFault}
 use Rattle.jreport.specs.declared.faults.ProgramFault.TheVariants as program
 use Rattle.jcommand.specs.Parsed.{DamageParsed, IsFaultless, parsed_from}
@@ -38,8 +38,8 @@ pub record TellsMount (options : Options) (image : List ℕ) (output : SinkChang
 abbrev pub TellsDamage : Options → List ℕ → SinkChange → Result ℕ ProgramFault → Type 0
 TellsDamage options image output result =
     TellsMount options image output result
-    ⊎ ((fault : MountFault) × (result ≡ Err (program.Mount fault))
-    × Answers options.endian options.geometry.block image (Err fault)
+    ⊎ ((fault : ProgramFault) × (result ≡ Err fault)
+    × IsRefusalTold options.endian options.geometry.block image fault
     × (output.new ≡ output.old) × (output.now ≡ output.before))
 
 -- the same, and all that was put is given on

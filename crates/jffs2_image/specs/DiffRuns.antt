@@ -4,9 +4,9 @@ use Rattle.flashbase.specs.Sinks.{SinkChange}
 use Rattle.jnode.specs.declared.order.Endian.{Endian}
 use Rattle.jmount.specs.Mount.{Mount}
 use Rattle.jmount.specs.Mounts.{Answers}
-use Rattle.jmount.specs.declared.fault.MountFault.{MountFault}
 use Rattle.jdiff.specs.Differing.{PutsDifferences}
 use Rattle.jreport.specs.Advice.{fault_lines_of}
+use Rattle.jreport.specs.Refusal.{IsRefusalTold}
 use Rattle.jreport.specs.declared.faults.ProgramFault.{ProgramFault}
 use Rattle.jreport.specs.declared.faults.ProgramFault.TheVariants as program
 use Rattle.jcommand.specs.Parsed.{DiffParsed, IsFaultless, parsed_from}
@@ -24,11 +24,11 @@ pub record Comparing : Type 0 where
   pub times : Bool
 
 -- of two images the first that does not mount, and why
-abbrev pub IsUnmounted : Comparing → List ℕ → List ℕ → MountFault → Type 0
+abbrev pub IsUnmounted : Comparing → List ℕ → List ℕ → ProgramFault → Type 0
 IsUnmounted by first second fault =
-    Answers by.options.endian by.options.geometry.block first (Err fault)
+    IsRefusalTold by.options.endian by.options.geometry.block first fault
     ⊎ ((m : Mount) × Answers by.options.endian by.options.geometry.block first (Ok m)
-    × Answers by.options.endian by.options.geometry.block second (Err fault))
+    × IsRefusalTold by.options.endian by.options.geometry.block second fault)
 
 -- the lines on the trees of two mounts are put
 pub record DiffersAsMounts (by : Comparing) (first second : List ℕ) (output : SinkChange)
@@ -45,7 +45,7 @@ pub record DiffersAsMounts (by : Comparing) (first second : List ℕ) (output : 
 abbrev pub DiffersOf : Comparing → List ℕ → List ℕ → SinkChange → Result ℕ ProgramFault → Type 0
 DiffersOf by first second output result =
     DiffersAsMounts by first second output result
-    ⊎ ((fault : MountFault) × (result ≡ Err (program.Mount fault))
+    ⊎ ((fault : ProgramFault) × (result ≡ Err fault)
     × IsUnmounted by first second fault
     × (output.new ≡ output.old) × (output.now ≡ output.before))
 

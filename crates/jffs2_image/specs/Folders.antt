@@ -8,7 +8,6 @@ use Rattle.jmount.specs.Find.{find}
 use Rattle.jmount.specs.Mount.{Mount}
 use Rattle.jmount.specs.Mounts.{Answers}
 use Rattle.jmount.specs.Tree.{State}
-use Rattle.jmount.specs.declared.fault.MountFault.{MountFault}
 use Rattle.jextract.specs.Folders.{Failures, Made}
 use Rattle.jextract.specs.Extracts.{Extracts}
 use Rattle.jextract.specs.Parts.{IsPartAsked}
@@ -35,6 +34,7 @@ use Rattle.jreport.specs.ExtractionNotes.{attribute_count}
 use Rattle.jreport.specs.FoundIn.{found_in}
 use Rattle.jreport.specs.Notes.{noted}
 use Rattle.jreport.specs.Paths.{IsWordFault, path_of}
+use Rattle.jreport.specs.Refusal.{IsRefusalTold}
 use Rattle.jreport.specs.declared.faults.ProgramFault.{ProgramFault}
 use Rattle.jreport.specs.declared.faults.ProgramFault.TheVariants as program
 use Rattle.jffs2_image.specs.Decompressing.{IsNotConverted}
@@ -117,8 +117,7 @@ ExtractsBytes x image f (Ok done) =
 ExtractsBytes x image f (Err fault) =
     ((mount : Mount) × Answers x.endian x.size image (Ok mount)
     × ExtractsPart mount.state x f (Err fault))
-    ⊎ ((refused : MountFault) × (fault ≡ program.Mount refused)
-    × Answers x.endian x.size image (Err refused) × FillsNothing f)
+    ⊎ (IsRefusalTold x.endian x.size image fault × FillsNothing f)
 
 -- the same answer, with what was found in this image
 abbrev pub with_found : Endian → ℕ → List ℕ → Result Extracted ProgramFault

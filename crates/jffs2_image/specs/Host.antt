@@ -129,6 +129,7 @@ RunsFiles told held form base text old new (Err (program.Session session.ReadOnl
 RunsFiles told held form base text old new (Err (program.Session session.Geometry None cause)) =
     AreAllRead told text
 RunsFiles told held form base text old new (Err (program.Mount fault)) = AreAllRead told text
+RunsFiles told held form base text old new (Err (program.Clash addr other)) = AreAllRead told text
 RunsFiles told held form base text old new (Err program.OutOfMemory) =
     (held.1 ≡ held.0) ⊎ HoldsNothing held
 RunsFiles told held form base text old new (Err (program.File name)) = held.1 ≡ held.0
@@ -197,6 +198,7 @@ IsMakeFault before now _ = Unit {0}
 abbrev pub BlamesMaker : {T : Type 0} → Type 0 → Type 0 → ℕ → ℕ → Result T ProgramFault → Type 0
 BlamesMaker untouched makes before now (Ok _) = (now ≡ before) × makes
 BlamesMaker untouched makes before now (Err (program.Mount fault)) = untouched
+BlamesMaker untouched makes before now (Err (program.Clash addr other)) = untouched
 BlamesMaker untouched makes before now (Err (program.Session session.ReadOnly line cause)) =
     untouched
 BlamesMaker untouched makes before now (Err (program.Session session.Geometry line cause)) =
@@ -224,6 +226,8 @@ Blames untouched makes read_before read_now made_before made_now (Err (program.L
     untouched
 Blames untouched makes read_before read_now made_before made_now (Err (program.Mount fault)) =
     untouched
+Blames untouched makes read_before read_now made_before made_now
+    (Err (program.Clash addr other)) = untouched
 Blames untouched makes read_before read_now made_before made_now
     (Err (program.Session session.ReadOnly line cause)) = untouched
 Blames untouched makes read_before read_now made_before made_now

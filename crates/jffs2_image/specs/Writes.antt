@@ -26,6 +26,7 @@ use Rattle.jreport.specs.Causes.{cause_of}
 use Rattle.jreport.specs.Notes.{noted}
 use Rattle.jreport.specs.declared.cause.Cause.{Cause}
 use Rattle.jreport.specs.declared.cause.Plan.{Plan}
+use Rattle.jreport.specs.Refusal.{IsRefusalTold}
 use Rattle.jreport.specs.declared.faults.ProgramFault.{ProgramFault}
 use Rattle.jreport.specs.declared.faults.ProgramFault.TheVariants as program
 use Rattle.jreport.specs.declared.reason.Reason.{Reason}
@@ -262,7 +263,9 @@ IsWriteFault held form output base text (program.NotRead file) =
 IsWriteFault held form output base text (program.Load fault) =
     (lines : List Line) × (lines_of text ≡ Ok lines)
 IsWriteFault held form output base text (program.Mount fault) =
-    Answers form.order form.block base (Err fault)
+    IsRefusalTold form.order form.block base (program.Mount fault)
+IsWriteFault held form output base text (program.Clash addr other) =
+    IsRefusalTold form.order form.block base (program.Clash addr other)
 IsWriteFault held form output base text (program.Session fault line cause) =
     IsSessionFault held form base text fault line
     × IsCause form.page form.block form.blocks base fault cause

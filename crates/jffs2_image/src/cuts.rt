@@ -21,9 +21,9 @@ use jbuild::{Parts, operations};
 use jcommand::{Cuts, Outcome};
 use jcuts::{CutsFault, Flash, Telling, put_cuts};
 use jlisting::{Line, listing};
-use jmount::{Mounted, mount};
+use jmount::Mounted;
 use jnode::{Endian, Order};
-use jreport::{Cause, ProgramFault};
+use jreport::{Cause, ProgramFault, mount_or_tell};
 use jsteps::Op;
 use std::alloc::Global;
 
@@ -73,7 +73,7 @@ fn tell_lines<'p, 'b: 'p, E: Order, T: Sink>(
 {
     let numbers = numbers_of(alloc, &lines)?;
     let ops = operations::<E>(alloc, lines, parts)?;
-    let mounted = mount::<E>(alloc, base, flash.geometry)?;
+    let mounted = mount_or_tell::<E>(alloc, base, flash.geometry)?;
     tell_ops::<E, T>(alloc, &mounted, flash, &ops, &numbers, sink)
 }
 

@@ -13,9 +13,8 @@ use byteorder::{BigEndian, LittleEndian};
 use flashbase::Sink;
 use jcommand::{Examination, Options, Outcome};
 use jdamage::{DamageFault, Totals, put_damage};
-use jmount::mount;
 use jnode::{Endian, Order};
-use jreport::ProgramFault;
+use jreport::{ProgramFault, mount_or_tell};
 use std::alloc::Global;
 
 /// How much is told, or why not all.
@@ -40,7 +39,7 @@ fn put_lines<E: Order, T: Sink>(
     requires { options.endian ≡ E.order }
     ensures { TellsDamage options image.now (change_of T.Sink sink.old sink.new) result }
 {
-    let mounted = mount::<E>(alloc, image, options.geometry)?;
+    let mounted = mount_or_tell::<E>(alloc, image, options.geometry)?;
     as_told(put_damage::<E, T>(alloc, &mounted, options.geometry, sink))
 }
 

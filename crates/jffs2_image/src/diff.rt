@@ -13,9 +13,8 @@ use byteorder::{BigEndian, LittleEndian};
 use flashbase::Sink;
 use jcommand::{Comparison, Options, Outcome};
 use jdiff::put_differences;
-use jmount::mount;
 use jnode::{Endian, Order};
-use jreport::ProgramFault;
+use jreport::{ProgramFault, mount_or_tell};
 use std::alloc::Global;
 
 /// Mounts two images, and puts the lines on their trees. Answers how many there are, or the
@@ -32,8 +31,8 @@ fn put_lines<E: Order, T: Sink>(
     ensures { DiffersOf (record { options = options; times = times }) first.now second.now
         (change_of T.Sink sink.old sink.new) result }
 {
-    let left = mount::<E>(alloc, first, options.geometry)?;
-    let right = mount::<E>(alloc, second, options.geometry)?;
+    let left = mount_or_tell::<E>(alloc, first, options.geometry)?;
+    let right = mount_or_tell::<E>(alloc, second, options.geometry)?;
     put_differences(alloc, &left, &right, times, sink)
 }
 

@@ -22,9 +22,11 @@ use flashbase::{DeviceFault, Sink};
 use jcommand::{Extraction, FolderListing, Outcome, Owner};
 use jextract::{ExtractFault, Folder, PartFault, Totals, extract, extract_part, part_at};
 use jfolder::{HostFolder, ReadFault, put_listing, read_folder};
-use jmount::{Mounted, mount};
+use jmount::Mounted;
 use jnode::{Endian, Order};
-use jreport::{ProgramFault, Reason, Unopened, attribute_count, noted, path_word, put_notes};
+use jreport::{
+    ProgramFault, Reason, Unopened, attribute_count, mount_or_tell, noted, path_word, put_notes,
+};
 use std::alloc::{AllocError, Global};
 
 /// What an extraction came to: what it counted, and how many findings and nodes of extended
@@ -155,9 +157,9 @@ fn extract_bytes<'a, E: Order, X: Folder + Refusing, N: Sink>(
         (filling X.made X.failures folder.old folder.new
         (change_of N.Sink notes.old notes.new)) result }
 {
-    let mounted = match mount::<E>(alloc, image, asked.options.geometry) {
+    let mounted = match mount_or_tell::<E>(alloc, image, asked.options.geometry) {
         Ok(mounted) => mounted,
-        Err(fault) => return Err(ProgramFault::Mount(fault)),
+        Err(fault) => return Err(fault),
     };
     match extract_tree(alloc, &mounted, asked, path, folder, notes) {
         Ok(totals) => Ok(Extracted {

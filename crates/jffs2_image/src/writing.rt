@@ -20,9 +20,11 @@ use jcommand::Target;
 use jcuts::Flash;
 use jlisting::{Line, listing};
 use jlog::{RunReport, SessionFault, page_fits, resume_at};
-use jmount::{Mounted, mount};
+use jmount::Mounted;
 use jnode::Order;
-use jreport::{Cause, Plan, ProgramFault, Reason, Refused, Unopened, cause_of, noted};
+use jreport::{
+    Cause, Plan, ProgramFault, Reason, Refused, Unopened, cause_of, mount_or_tell, noted,
+};
 use jscan::GREATEST_IMAGE;
 use jsteps::Op;
 use std::alloc::{AllocError, Global};
@@ -355,7 +357,7 @@ fn write_lines<'a, 'p, 'b: 'p, E: Order, M: Maker, T: Sink>(
 {
     let numbers = numbers_of(alloc, &lines)?;
     let ops = operations::<E>(alloc, lines, parts)?;
-    let mounted = mount::<E>(alloc, base, target.options.geometry)?;
+    let mounted = mount_or_tell::<E>(alloc, base, target.options.geometry)?;
     let from = resumed_from::<E>(&mounted, target)?;
     notes.take::<E>(alloc, &mounted, flash_of(target), &ops, &numbers)?;
     let report = make_image::<E, M>(alloc, maker, target, &mounted, &ops)?;

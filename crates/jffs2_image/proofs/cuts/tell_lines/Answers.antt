@@ -1,4 +1,4 @@
-use Rattle.std.proofs.Common.{rules, ◌≡◌, ◌∙◌, ℕ, List, Ok, Err, ap, length, refl, sym}
+use Rattle.std.proofs.Common.{rules, ◌≡◌, ◌∙◌, ℕ, List, Ok, ap, length, refl, sym}
 use Rattle.std.specs.Prelude.{map}
 use Rattle.std.proofs.lemmas.List.{length-map}
 use Rattle.jmount.specs.Mounts.{Answers}
@@ -6,7 +6,7 @@ use Rattle.jlisting.specs.declared.line.Line.{Line}
 use Rattle.jbuild.specs.Operations.{op_in, ops_in}
 use Rattle.jbuild.specs.Parts.{part_contents}
 use Rattle.jreport.specs.declared.faults.ProgramFault.TheVariants as program
-use Rattle.jffs2_image.proofs.CutRunLemmas.{answer_blames, have_bytes, told_fault, told_lines}
+use Rattle.jffs2_image.proofs.CutRunLemmas.{answer_blames, base_blames, base_due, have_bytes, told_fault, told_lines}
 use Rattle.jffs2_image.proofs.cuts.tell_lines.Goals as goal
 
 pub returns-in_err-numbers-clause-tells : goal.returns-in_err-numbers-clause-tells
@@ -26,12 +26,14 @@ returns-in_err-ops-clause-unread g c = λ n. answer_blames n n program.OutOfMemo
 pub returns-in_err-mounted-clause-tells : goal.returns-in_err-mounted-clause-tells
 returns-in_err-mounted-clause-tells g c = λ told text read parts.
     let fault = c.in_err-mounted.field-0.0 in
-    let refused : Answers g.E.Order.order c.args.flash.geometry.block c.args.base.now (Err fault) = search rules in
-    told_fault told g.E.Order.order c.args.flash c.args.base.now text _ _ (program.Mount fault) c.from_residual-in_err-mounted.ensures.1
-    ((c.args.lines.items, part_contents c.args.parts.now, read, have_bytes told c.args.lines.items c.args.parts.now parts), refused) refl refl
+    told_fault told g.E.Order.order c.args.flash c.args.base.now text _ _ fault c.from_residual-in_err-mounted.ensures.1
+    (base_due told g.E.Order.order c.args.flash.geometry.block c.args.base.now text fault
+    (c.args.lines.items, part_contents c.args.parts.now, read, have_bytes told c.args.lines.items c.args.parts.now parts) c.in_err-mounted.ensures.told) refl refl
 
 pub returns-in_err-mounted-clause-unread : goal.returns-in_err-mounted-clause-unread
-returns-in_err-mounted-clause-unread g c = λ n. answer_blames n n (program.Mount c.in_err-mounted.field-0.0) _ c.from_residual-in_err-mounted.ensures.1 refl
+returns-in_err-mounted-clause-unread g c = λ n.
+    answer_blames n n c.in_err-mounted.field-0.0 _ c.from_residual-in_err-mounted.ensures.1
+    (base_blames g.E.Order.order c.args.flash.geometry.block c.args.base.now n c.in_err-mounted.field-0.0 c.in_err-mounted.ensures.told)
 
 pub tell_ops-requires-clause-numbered : goal.tell_ops-requires-clause-numbered
 tell_ops-requires-clause-numbered g c =
@@ -45,7 +47,7 @@ pub returns-clause-tells : goal.returns-clause-tells
 returns-clause-tells g c = λ told text read parts.
     let lines : List Line = c.args.lines.items in
     let m = c.in_ok-mounted.mounted in
-    let mounts : Answers g.E.Order.order c.args.flash.geometry.block c.args.base.now (Ok m) = search rules in
+    let mounts : Answers g.E.Order.order c.args.flash.geometry.block c.args.base.now (Ok m) = c.in_ok-mounted.ensures.mounts in
     let ops : c.deref-2.result.now ≡ ops_in g.E.Order.order (part_contents c.args.parts.now) lines = search rules in
     let items : c.in_ok-numbers.numbers.items ≡ map (λ (l : Line). l.number) lines = c.in_ok-numbers.ensures ∙ ap (map (λ (l : Line). l.number)) c.deref.ensures.value in
     let numbers : c.deref-3.result.now ≡ map (λ (l : Line). l.number) lines = c.deref-3.ensures.value ∙ items in

@@ -1,7 +1,8 @@
-use Rattle.std.proofs.Common.{ℕ, List, Option, Ok, Err, refl, sym, subst, inl, inr}
+use Rattle.std.proofs.Common.{ℕ, List, Option, Ok, refl, sym, subst, inl, inr}
 use Rattle.flashbase.specs.Sinks.{SinkChange}
 use Rattle.jnode.specs.declared.order.Endian.{Endian}
 use Rattle.jmount.specs.Mounts.{Answers}
+use Rattle.jreport.specs.Refusal.{IsRefusalTold}
 use Rattle.jffs2_image.specs.DiffRuns.{Comparing}
 use Rattle.jffs2_image.proofs.DiffLemmas.{unmounted}
 use Rattle.jffs2_image.proofs.diff.put_lines.Goals as goal
@@ -14,7 +15,7 @@ returns-in_err-left g c =
     let output : SinkChange = record { old = taken; new = taken; before = failures; now = failures } in
     let fault = c.in_err-left.field-0.0 in
     unmounted by c.args.first.now c.args.second.now output fault c.from_residual.result c.from_residual.ensures.1
-    (inl (subst (λ (e : Endian). Answers e c.args.options.geometry.block c.args.first.now (Err fault)) (sym c.requires) c.in_err-left.ensures)) refl refl
+    (inl (subst (λ (e : Endian). IsRefusalTold e c.args.options.geometry.block c.args.first.now fault) (sym c.requires) c.in_err-left.ensures.told)) refl refl
 
 pub returns-in_err-right : goal.returns-in_err-right
 returns-in_err-right g c =
@@ -26,15 +27,15 @@ returns-in_err-right g c =
     unmounted by c.args.first.now c.args.second.now output fault c.from_residual-in_err-right.result c.from_residual-in_err-right.ensures.1
     (inr (
       c.in_ok-left.left,
-      subst (λ (e : Endian). Answers e c.args.options.geometry.block c.args.first.now (Ok c.in_ok-left.left)) (sym c.requires) c.in_ok-left.ensures,
-      subst (λ (e : Endian). Answers e c.args.options.geometry.block c.args.second.now (Err fault)) (sym c.requires) c.in_err-right.ensures,
+      subst (λ (e : Endian). Answers e c.args.options.geometry.block c.args.first.now (Ok c.in_ok-left.left)) (sym c.requires) c.in_ok-left.ensures.mounts,
+      subst (λ (e : Endian). IsRefusalTold e c.args.options.geometry.block c.args.second.now fault) (sym c.requires) c.in_err-right.ensures.told,
     )) refl refl
 
 pub returns : goal.returns
 returns g c = inl (record {
   left = c.in_ok-left.left;
   right = c.in_ok-right.right;
-  of_first = subst (λ (e : Endian). Answers e c.args.options.geometry.block c.args.first.now (Ok c.in_ok-left.left)) (sym c.requires) c.in_ok-left.ensures;
-  of_second = subst (λ (e : Endian). Answers e c.args.options.geometry.block c.args.second.now (Ok c.in_ok-right.right)) (sym c.requires) c.in_ok-right.ensures;
+  of_first = subst (λ (e : Endian). Answers e c.args.options.geometry.block c.args.first.now (Ok c.in_ok-left.left)) (sym c.requires) c.in_ok-left.ensures.mounts;
+  of_second = subst (λ (e : Endian). Answers e c.args.options.geometry.block c.args.second.now (Ok c.in_ok-right.right)) (sym c.requires) c.in_ok-right.ensures.mounts;
   put = c.put_differences.ensures;
 })

@@ -22,9 +22,9 @@ use Rattle.jcuts.specs.declared.cuts.Flash.{Flash}
 use Rattle.jffs2_image.specs.WeakRuns.{AreNotes}
 use Rattle.jffs2_image.proofs.WeakLemmas.{all_taken, noted_at}
 use Rattle.jffs2_image.specs.Writes.{Held, HoldsCut, IsCause, IsMade, IsSessionFault, image_form}
-use Rattle.jffs2_image.proofs.WritingLemmas.{not_resumed, not_made, run_on, stopped_at, told, told_in_part, writes_fault, goes_on_from}
+use Rattle.jffs2_image.proofs.WritingLemmas.{not_mounted, not_resumed, not_made, run_on, stopped_at, told, told_in_part, writes_fault, goes_on_from}
 use Rattle.jffs2_image.specs.Host.{IsMadeUntil}
-use Rattle.jffs2_image.proofs.HostLemmas.{files_in_part, files_not_made, files_not_mounted, files_not_resumed, files_of_all, files_until, make_fault, maker_fault, resume_fault, run_fault}
+use Rattle.jffs2_image.proofs.HostLemmas.{files_in_part, files_not_made, files_not_mounted, files_not_resumed, files_of_all, files_until, make_fault, maker_fault, mount_fault, resume_fault, run_fault}
 use Rattle.jffs2_image.proofs.writing.write_lines.Goals as goal
 
 pub returns-in_err-from-clause-writes : goal.returns-in_err-from-clause-writes
@@ -211,7 +211,18 @@ pub returns-in_err-mounted-clause-files : goal.returns-in_err-mounted-clause-fil
 returns-in_err-mounted-clause-files g c = λ known text read are.
     let a = c.args in
     files_not_mounted known _ a.target.page g.E.Order.order a.target.options.geometry.block a.target.blocks a.base.now text a.lines.items a.parts.now _ _ c.in_err-mounted.field-0.0 _
-    c.from_residual-in_err-mounted.ensures.1 are read
+    c.from_residual-in_err-mounted.ensures.1 c.in_err-mounted.ensures.told are read
+
+pub returns-in_err-mounted-clause-writes : goal.returns-in_err-mounted-clause-writes
+returns-in_err-mounted-clause-writes g c = λ text read.
+    let a = c.args in
+    writes_fault _ a.target.page g.E.Order.order a.target.options.geometry.block a.target.blocks a.target.output.now a.base.now text _ _ _ _ c.in_err-mounted.field-0.0 _ c.from_residual-in_err-mounted.ensures.1
+    (not_mounted _ a.target.page g.E.Order.order a.target.options.geometry.block a.target.blocks a.target.output.now a.base.now text c.in_err-mounted.field-0.0 _ _ c.in_err-mounted.ensures.told)
+
+pub returns-in_err-mounted-clause-maker : goal.returns-in_err-mounted-clause-maker
+returns-in_err-mounted-clause-maker g c =
+    maker_fault _ _ _ _ c.in_err-mounted.field-0.0 _ c.from_residual-in_err-mounted.ensures.1
+    (mount_fault g.E.Order.order c.args.target.options.geometry.block c.args.base.now _ _ _ _ c.in_err-mounted.field-0.0 c.in_err-mounted.ensures.told refl)
 
 pub returns-in_err-from-clause-files : goal.returns-in_err-from-clause-files
 returns-in_err-from-clause-files g c = λ known text read are.
