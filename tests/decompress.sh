@@ -205,7 +205,7 @@ while read -r name block order address compr changed bytes; do
     want 0 "accepted 1 nodes 2 bytes 124" ""; same again.img more.img
     run append --decompress "${flash[@]}" --blocks 1 "$image" create none.img
     case $block in
-        65536) want 1 "" "jffs2_image: S2 Full needed 112 free 0 line 1"; rm none.img ;;
+        65536) want 1 "" "jffs2_image: S2 Full needed 112 free 0 line 1$(fits 2)"; rm none.img ;;
         *) want 1 "" "jffs2_image: S7 Geometry$long_image"; unmade none.img ;;
     esac
     # Without --decompress it is refused, and a note says what to do.

@@ -38,11 +38,12 @@ ACCEPTED = (
     (65536, 1, 8192, (CREATE, "part /a 0 6466"), "2 nodes 3 bytes 6660", (*MADE, (0x7C, "inode", 6536))),
     (65536, 1, 8192, (CREATE, "part /a 0 9000"), "2 nodes 4 bytes 9260", (*MADE, (0x7C, "inode", 8260), (0x20C0, "inode", 876))),
 )
+FITS = "\njffs2_image: note: the operation fits into a flash of"
 # What does not fit, or is refused: what was accepted before stands.
 REFUSED = (
-    (1, (CREATE, "part /a 0 page", "part /a 4096 page"), "S2 Full needed 4164 free 3904 line 3", 4288),
-    (2, (CREATE, "part /a 0 three"), "S2 Full needed 12492 free 16248 line 2", 124),
-    (2, (CREATE, "part /a 0 four"), "S2 Full needed 16656 free 16248 line 2", 124),
+    (1, (CREATE, "part /a 0 page", "part /a 4096 page"), f"S2 Full needed 4164 free 3904 line 3{FITS} 2 blocks", 4288),
+    (2, (CREATE, "part /a 0 three"), f"S2 Full needed 12492 free 16248 line 2{FITS} 3 blocks", 124),
+    (2, (CREATE, "part /a 0 four"), f"S2 Full needed 16656 free 16248 line 2{FITS} 4 blocks", 124),
     (1, ("mkdir 0755 /d", "mkdir 0755 /d", "mkdir 0755 /e"), "S1 Refused O5 Exists line 2", 124),
     (1, ("mkdir 0755 /d", "rename /d /d/e"), "S1 Refused O8 IntoItself line 2", 124),
     (1, ("mkdir 0755 /d", "write /d 0 00"), "S1 Refused O6 WrongKind line 2", 124),

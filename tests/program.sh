@@ -740,13 +740,27 @@ done
 head -c 12288 /dev/zero > twelve
 head -c 16384 /dev/zero > sixteen
 head -c 4096 ones > page
-for row in "twelve 12492" "sixteen 16656"; do
-    lines listing 'create 0644 /a' "part /a 0 ${row% *}"
-    run build "${small[@]}" --blocks 2 listing built; want 1 "" "jffs2_image: S2 Full needed ${row#* } free 16248 line 2"
-    same built made_little
+for row in "twelve 12492 3" "sixteen 16656 4"; do
+    read -r name needed blocks <<< "$row"
+    lines listing 'create 0644 /a' "part /a 0 $name"
+    run build "${small[@]}" --blocks 2 listing built
+    want 1 "" "jffs2_image: S2 Full needed $needed free 16248 line 2$(fits "$blocks")"; same built made_little
+    # In one block less it has no room, and in so many it has.
+    run build "${small[@]}" --blocks $((blocks - 1)) listing built
+    want 1 "" "jffs2_image: S2 Full needed $needed free * line 2$(fits "$blocks")"; same built made_little
+    run build "${small[@]}" --blocks "$blocks" listing built; want 0 "accepted 2 nodes $((blocks + 2)) bytes *" ""
 done
+# Each block of 8192 bytes holds a node of 4096: the greatest flash holds 32768 of them, and none holds more.
+lines listing 'create 0644 /a' 'part /a 0 pages'
+truncate -s $((32768 * 4096)) pages
+run build "${small[@]}" --blocks 1 listing built
+want 1 "" "jffs2_image: S2 Full needed 136445952 free 8068 line 2$(fits 32768)"; same built made_little
+truncate -s $((32769 * 4096)) pages
+run build "${small[@]}" --blocks 1 listing built
+want 1 "" "jffs2_image: S2 Full needed 136450116 free 8068 line 2"; same built made_little
+rm pages
 lines listing 'create 0644 /a' 'part /a 0 page' 'part /a 4096 page' 'truncate /a 5'
-run build "${small[@]}" --blocks 1 listing built; want 1 "" "jffs2_image: S2 Full needed 4164 free 3904 line 3"
+run build "${small[@]}" --blocks 1 listing built; want 1 "" "jffs2_image: S2 Full needed 4164 free 3904 line 3$(fits 2)"
 run cat "${small[@]}" built /a; whole page
 line="the bytes before a full flash"
 [[ $(wc -c < built) == 4288 ]]; count $?
@@ -785,7 +799,7 @@ for order in little big; do
     flash=("${small[@]}" --endian "$order")
     { cat made_$order; erased 8068; } > first_block
     run append "${flash[@]}" --blocks 2 made_$order empty built; want 0 "$none_accepted" ""; same built first_block
-    run append "${flash[@]}" --blocks 1 made_$order create_b built; want 1 "" "jffs2_image: S2 Full needed 112 free 0 line 1"
+    run append "${flash[@]}" --blocks 1 made_$order create_b built; want 1 "" "jffs2_image: S2 Full needed 112 free 0 line 1$(fits 2)"
     same built first_block
     head -c 12 made_$order > marked
     # Of a beginning of a marker `ls` has a note, and so has `append`.
@@ -819,7 +833,7 @@ run append --blocks 2 flipped create_b built; want 0 "accepted 1 nodes 2 bytes 1
 run append --blocks 2 --endian big file create_b built; want 0 "accepted 1 nodes 2 bytes 124" "$(noted "[1-9]*")"
 run append "${small[@]}" --blocks 4 "$tree" create_b built; want 0 "accepted 1 nodes 2 bytes 124" ""
 run append "${small[@]}" --blocks 4 --endian big "$tree" create_b built; want 0 "accepted 1 nodes 2 bytes 124" "$(noted "[1-9]*")"
-run append --blocks 1 flipped create_b built; want 1 "" "jffs2_image: S2 Full needed 112 free 0 line 1"
+run append --blocks 1 flipped create_b built; want 1 "" "jffs2_image: S2 Full needed 112 free 0 line 1$(fits 2)"
 run append --blocks 2 flipped create_b none/built; want 1 "" "$(unopened none/built)"
 
 # IMAGE and OUT in one file, also where the first operation is refused
@@ -1062,8 +1076,11 @@ want 0 "total operations 0 steps 0 from 00002000 to 00002000 weak 0" ""
 lines listing "create 0644 /a" "" "create 0644 /a"
 run cuts --block 8192 --blocks 1 listing; want 1 "$first" "jffs2_image: S1 Refused O5 Exists line 3"
 run cuts --block 8192 --blocks 1 --on weak_image create_b; want 1 "" "jffs2_image: S2 Full needed 112 free 0 line 1"
-run cuts --blocks 0 listing; want 1 "" "jffs2_image: S7 Geometry"
-run cuts --block 8192 --blocks 1 --page 8192 listing; want 1 "" "jffs2_image: S7 Geometry"
+head -c 8193 /dev/zero | tr '\0' '\377' > long_base
+for row in "$no_block|--blocks 0" "$small_block|--block 4096 --blocks 2" "$large_flash|--block 8192 --blocks 32769" \
+    "$large_page|--block 8192 --blocks 1 --page 8192" "$long_image|--block 8192 --blocks 1 --on long_base"; do
+    run cuts ${row#*|} listing; want 1 "" "jffs2_image: S7 Geometry${row%|*}"
+done
 lines listing "paint /a"
 run cuts --blocks 1 listing
 want 1 "" $'jffs2_image: P2 Listing line 1\njffs2_image: note: no operation has this name'

@@ -79,6 +79,11 @@ long_image=$'\n'"jffs2_image: note: the image is longer than the flash, blocks t
 # shellcheck disable=SC2034
 large_page=$'\n'"jffs2_image: note: a page and 80 bytes are more than a block"
 
+# fits N: how many blocks an operation needs that is refused for want of room
+fits() {
+    printf '\njffs2_image: note: the operation fits into a flash of %s blocks' "$1"
+}
+
 # unopened NAME WHY: what standard error says of a file that can't be opened or made
 unopened() {
     printf 'jffs2_image: P1 File %s\njffs2_image: note: %s: %s' "$1" "$1" "${2:-no such file}"

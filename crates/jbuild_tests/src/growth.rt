@@ -5,7 +5,7 @@ use crate::checks::{equal, expect};
 use crate::runs::{GEOMETRY, file_of};
 use byteorder::LittleEndian;
 use flashbase::Sink;
-use jbuild::{Parts, emit, operations, put_accepted};
+use jbuild::{Emitted, Parts, emit, operations, put_accepted};
 use jlisting::listing;
 use jlog::{RunReport, SessionFault};
 use jmount::mount;
@@ -35,7 +35,7 @@ fn emitted<S: Sink>(
     alloc: Global,
     row: &Row<'_>,
     sink: S,
-) -> Option<Result<(S, RunReport), (SessionFault, S)>> {
+) -> Option<Result<(S, Emitted), (SessionFault, S)>> {
     let parts = read_two(alloc).ok()?;
     let lines = listing(alloc, row.text).ok()?;
     let ops = operations::<LittleEndian>(alloc, lines, &parts).ok()?;
@@ -48,7 +48,7 @@ fn emitted<S: Sink>(
 fn output_of(alloc: Global, row: &Row<'_>) -> Result<Vec<u8>, SessionFault> {
     match emitted(alloc, row, Taker::new(alloc)) {
         None => Err(SessionFault::OutOfMemory),
-        Some(Ok((sink, report))) => match report.stopped {
+        Some(Ok((sink, Emitted { report, .. }))) => match report.stopped {
             None => Ok(sink.bytes),
             Some(fault) => Err(fault),
         },
@@ -75,7 +75,7 @@ fn fault(alloc: Global, row: &Row<'_>, whole: &[u8]) -> Option<(SessionFault, us
     };
     let (fault, left) = match emitted(alloc, row, sink) {
         None => (SessionFault::OutOfMemory, whole.len()),
-        Some(Ok((sink, report))) => match report.stopped {
+        Some(Ok((sink, Emitted { report, .. }))) => match report.stopped {
             None if sink.rest.is_empty() && is_told(row, &report) => return None,
             None => (SessionFault::Broken, 0),
             Some(fault) => (fault, sink.rest.len()),
@@ -159,5 +159,34 @@ fn a_refused_file_is_not_there(rt: HostRuntime) {
             expect(&rt, parts.insert(key, &bytes).is_ok());
         }
         expect(&rt, parts.has(name));
+    }
+}
+
+/// The listing needs a second block, which is told where there is memory to tell it.
+#[test]
+fn blocks_that_are_not_told(rt: HostRuntime) {
+    let row = Row {
+        base: &MADE,
+        from: 8192,
+        blocks: 1,
+        text: b"create 0644 /b\n",
+        told: b"",
+    };
+    let Some(Ok((_sink, Emitted { report, blocks }))) = emitted(
+        rt.alloc(),
+        &row,
+        Taker::new(rt.alloc()),
+    ) else {
+        return;
+    };
+    match report.stopped {
+        Some(SessionFault::Full { .. }) => {
+            expect(&rt, matches!(blocks, Ok(Some(2)) | Err(AllocError)));
+        }
+        Some(fault) => {
+            equal(&rt, fault, SessionFault::OutOfMemory);
+            expect(&rt, blocks == Ok(None));
+        }
+        None => expect(&rt, false),
     }
 }

@@ -2,8 +2,9 @@
 //! and not from the program's output.
 //!
 //! `runs` takes a text to its bytes and its report, `built` has listings on an empty base,
-//! `appended` on others, `parted` the files that listings name, `paged` larger pages, `sinks` sinks
-//! that fail or take little, and `growth` memory that is refused.
+//! `appended` on others, `parted` the files that listings name, `paged` larger pages, `full` what
+//! would hold an operation that is refused for want of room, `sinks` sinks that fail or take
+//! little, and `growth` memory that is refused.
 #![tactic(auto)]
 
 #[cfg(test)]
@@ -12,6 +13,8 @@ mod appended;
 mod built;
 #[cfg(test)]
 mod checks;
+#[cfg(test)]
+mod full;
 #[cfg(test)]
 mod growth;
 #[cfg(test)]

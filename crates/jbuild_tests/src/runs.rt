@@ -1,7 +1,7 @@
 //! From the text of a listing to what goes out and is told.
 
 use flashbase::FromWriter;
-use jbuild::{Parts, emit, operations, put_accepted};
+use jbuild::{Emitted, Parts, emit, operations, put_accepted};
 use jlisting::listing;
 use jlog::{RunReport, resume_at};
 use jmount::mount;
@@ -26,6 +26,7 @@ const FILES: [(&str, u8, usize); 4] = [
 pub struct Outcome {
     pub output: Vec<u8>,
     pub report: RunReport,
+    pub blocks: Result<Option<u32>, AllocError>,
     pub line: Vec<u8>,
 }
 
@@ -57,7 +58,7 @@ pub fn made<E: Order>(
     let mounted = mount::<E>(alloc, base, GEOMETRY)?;
     let from = resume_at::<E>(&mounted, GEOMETRY, blocks)?;
     let sink = FromWriter::new(Vec::new(alloc));
-    let Ok((sink, report)) = emit::<E, _>(
+    let Ok((sink, Emitted { report, blocks })) = emit::<E, _>(
         alloc,
         &mounted,
         GEOMETRY,
@@ -75,6 +76,7 @@ pub fn made<E: Order>(
     Ok(Outcome {
         output: sink.into_writer(),
         report,
+        blocks,
         line: line.into_writer(),
     })
 }

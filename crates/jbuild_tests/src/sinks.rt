@@ -3,9 +3,9 @@
 use crate::checks::{equal, equal_at, expect};
 use crate::runs::{GEOMETRY, made, read_files};
 use byteorder::LittleEndian;
-use jbuild::{emit, operations, put_accepted};
+use jbuild::{Emitted, emit, operations, put_accepted};
 use jlisting::listing;
-use jlog::{Place, RunReport, SessionFault};
+use jlog::{Place, SessionFault};
 use jmount::mount;
 use jsteps::Page;
 use std::alloc::Global;
@@ -14,10 +14,10 @@ use test_support::{MADE, Taker};
 
 const TEXT: &[u8] = b"create 0644 /b\nwrite /b 0 0102\n";
 
-type Emitted = Result<(Taker, RunReport), (SessionFault, Taker)>;
+type Answer = Result<(Taker, Emitted), (SessionFault, Taker)>;
 
 /// What goes out for a file on a base of 124 bytes, which is gone on from at 8192.
-fn emitted(alloc: Global, sink: Taker) -> Result<Emitted, Fail> {
+fn emitted(alloc: Global, sink: Taker) -> Result<Answer, Fail> {
     let parts = read_files(alloc)?;
     let ops = operations::<LittleEndian>(alloc, listing(alloc, TEXT)?, &parts)?;
     let mounted = mount::<LittleEndian>(alloc, &MADE, GEOMETRY)?;
@@ -28,7 +28,11 @@ fn emitted(alloc: Global, sink: Taker) -> Result<Emitted, Fail> {
 fn a_sink_that_takes_one_byte_a_call(rt: HostRuntime) -> Result<(), Fail> {
     let whole = made::<LittleEndian>(rt.alloc(), &MADE, 2, TEXT)?;
     equal(&rt, whole.output.len(), 8388);
-    let Ok((sink, report)) = emitted(rt.alloc(), Taker::limited(rt.alloc(), 1, usize::MAX))? else {
+    let Ok((sink, Emitted { report, .. })) = emitted(
+        rt.alloc(),
+        Taker::limited(rt.alloc(), 1, usize::MAX),
+    )?
+    else {
         return Err(Fail::from("not emitted"));
     };
     expect(&rt, sink.bytes.as_slice() == whole.output.as_slice());
@@ -69,10 +73,15 @@ fn a_sink_that_fails_later(rt: HostRuntime) -> Result<(), Fail> {
         (8387, 1, 3),
     ];
     for (limit, accepted, places) in rows {
-        let Ok((sink, report)) = emitted(rt.alloc(), Taker::limited(rt.alloc(), 7, limit))? else {
+        let Ok((sink, Emitted { report, blocks })) = emitted(
+            rt.alloc(),
+            Taker::limited(rt.alloc(), 7, limit),
+        )?
+        else {
             return Err(Fail::from("not emitted"));
         };
         equal(&rt, report.stopped, Some(SessionFault::Sink));
+        expect(&rt, blocks == Ok(None));
         equal(
             &rt,
             (report.accepted, report.places.len()),
@@ -95,7 +104,7 @@ fn a_sink_that_fails_once(rt: HostRuntime) -> Result<(), Fail> {
             ..Taker::limited(rt.alloc(), 500, usize::MAX)
         };
         let (stopped, sink) = match emitted(rt.alloc(), sink)? {
-            Ok((sink, report)) => (report.stopped, sink),
+            Ok((sink, Emitted { report, .. })) => (report.stopped, sink),
             Err((fault, sink)) => (Some(fault), sink),
         };
         expect(&rt, whole.output.starts_with(&sink.bytes));

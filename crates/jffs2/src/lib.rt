@@ -19,7 +19,7 @@
 //! | see each node, with its address | [`scan`], or [`Sightings`] one by one |
 //! | see an image that is larger than memory | [`scan_stream`], [`stream_lines`] |
 //! | write to an image | [`Session::resume`], then [`Session::run`] with a list of [`Op`] |
-//! | put the old image and new operations out as one | [`emit`] |
+//! | put the old image and new operations out as one | [`emit`], which gives an [`Emitted`] |
 //! | read an image with compressed data | [`decompressed`], then [`mount`]; [`decompress`] writes it |
 //! | write an image with compressed data | [`compress`], of one that is not |
 //! | read operations from a text | [`listing`], then [`operations`] |
@@ -38,7 +38,7 @@ pub use byteorder::{BigEndian, LittleEndian};
 pub use flashbase::{
     DeviceFault, FromReader, FromWriter, LoadFault, PutFault, Sink, Source, load, put_all,
 };
-pub use jbuild::{Parts, emit, operations};
+pub use jbuild::{Emitted, Parts, emit, operations};
 pub use jclash::clash_below;
 pub use jconvert::{
     Apart, ConvertFault, Converted, LeftOut, compress, decompress, decompress_apart, decompressed,

@@ -116,7 +116,7 @@ blames_from before mid now r same blames = subst (λ (i : ℕ). BlamesReading i 
 pub told_lines : (told : List ℕ → Option (List ℕ)) (e : Endian) (flash : Flash) (base text : List ℕ) (sink : SinkChange) (lines : List Line) (files : List ℕ → List ℕ) (m : Mount) (ops : List Op) (numbers : List ℕ)
     (cuts : Result ℕ CutsFault) (r : Result ℕ ProgramFault)
     → lines_of text ≡ Ok lines → HaveBytes told lines files → Answers e flash.geometry.block base (Ok m) → ops ≡ ops_in e files lines → numbers ≡ map (λ line. line.number) lines
-    → PutsCuts e flash m (record { telling = Nodes; ops = ops; lines = numbers }) sink cuts → r ≡ answer_of_cuts cuts → TellsText told e flash base text sink r
+    → PutsCuts e flash m (record { telling = Nodes; ops = ops; lines = numbers }) sink cuts → r ≡ answer_of_cuts flash m.image cuts → TellsText told e flash base text sink r
 told_lines told e flash base text sink lines files m ops numbers cuts r read bytes mounts ops_are numbers_are puts comes = inl (record {
   lines = lines;
   files = files;

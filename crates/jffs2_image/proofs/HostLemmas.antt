@@ -25,7 +25,7 @@ use Rattle.jlog.specs.declared.report.Place.{Place}
 use Rattle.jbuild.specs.Length.{TellsLength}
 use Rattle.jbuild.proofs.LengthLemmas.{goes_on_flash, line_tells_length}
 use Rattle.jbuild.specs.Accepted.{accepted_line}
-use Rattle.jbuild.specs.Emitting.{IsEmitted, IsNotEmitted, front_before}
+use Rattle.jbuild.specs.Emitting.{IsEmitted, IsNotEmitted, front_before, paged_flash}
 use Rattle.jbuild.specs.Operations.{op_in, ops_in}
 use Rattle.jbuild.specs.Parts.{part_contents, read_of}
 use Rattle.jbuild.specs.declared.parts.Parts.{Parts}
@@ -33,7 +33,7 @@ use Rattle.jreport.specs.declared.cause.Cause.{Cause}
 use Rattle.jreport.specs.declared.faults.ProgramFault.{ProgramFault}
 use Rattle.jreport.specs.declared.faults.ProgramFault.TheVariants as program
 use Rattle.jffs2_image.specs.Host.{AreAllLoaded, AreAllRead, AreLoaded, AreOf, AreRead, Blames, BlamesMaker, HasFailed, HaveBytes, IsCutShort, IsHandedBack, IsMadeUntil, IsMakeFault, IsReadFault, Leaves, RunsFiles}
-use Rattle.jffs2_image.specs.Writes.{GivesCut, GivesPart, Held, HoldsCut, HoldsFront, HoldsPart, IsBehind, IsGivenOn, IsHanded, IsMade, IsNotMade, IsPartUnread, IsPut, IsUnreadFile, image_form}
+use Rattle.jffs2_image.specs.Writes.{GivesCut, GivesPart, Held, HoldsCut, HoldsFront, HoldsPart, IsBehind, IsGivenOn, IsHanded, IsMade, IsNotMade, IsPartUnread, IsPut, IsUnreadFile, image_form, IsRunCause}
 use Rattle.jreport.specs.Refusal.{IsRefusalTold}
 use Rattle.jreport.proofs.RefusalLemmas.{refusal_cases}
 use Rattle.jreport.proofs.SinkLemmas.{sink_change}
@@ -230,9 +230,9 @@ all_read told lines n parts was all = λ name named.
 
 -- the line tells the length of what went out for them
 tells_on_base : (held : Held) (page : Page) (e : Endian) (size blocks : ℕ) (base : List ℕ) (ops : List Op) (m : Mount) (accepted : ℕ) (places : List Place) → m.image ≡ base
-    → IsMade held (image_form page e size blocks) m ops accepted places None → TellsLength page e size blocks base ops accepted places
-tells_on_base held page e size blocks base ops m accepted places same made = subst (λ (image : List ℕ). TellsLength page e size blocks image ops accepted places) same
-    (line_tells_length page e size blocks m.image ops accepted places _ (goes_on_flash page e size blocks m made.put.resumes) made.put.emitted)
+    → IsMade held (image_form page e size blocks) m ops accepted places None → TellsLength (paged_flash page e size blocks) base ops accepted places
+tells_on_base held page e size blocks base ops m accepted places same made = subst (λ (image : List ℕ). TellsLength (paged_flash page e size blocks) image ops accepted places) same
+    (line_tells_length (paged_flash page e size blocks) m.image ops accepted places _ (goes_on_flash page e size blocks m made.put.resumes) made.put.emitted)
 
 -- so they are those of the operations that were run
 have_bytes : (told : List ℕ → Option (List ℕ)) (lines : List Line) (parts : Parts) → AreRead told lines parts → HaveBytes told lines (part_contents parts)
@@ -284,11 +284,12 @@ no_line e files lines n o at none = by (slice_get lines n) (sym (slice_get-map (
 pub files_until : (told : List ℕ → Option (List ℕ)) (held : Held) (page : Page) (e : Endian) (size blocks : ℕ) (base text : List ℕ) (lines : List Line) (parts : Parts) (m : Mount) (accepted : ℕ) (places : List Place)
     (old new : Option (List ℕ)) (f : SessionFault) (line : Option ℕ) (cause : Cause) → line ≡ option_map (λ l. l.number) (slice_get lines accepted) → AreRead told lines parts → lines_of text ≡ Ok lines
     → Answers e size base (Ok m) → IsMade held (image_form page e size blocks) m (ops_in e (part_contents parts) lines) accepted places (Some f)
+    → IsRunCause (image_form page e size blocks) base (ops_in e (part_contents parts) lines) accepted f cause
     → RunsFiles told held (image_form page e size blocks) base text old new (Err (program.Session f line cause))
-files_until told held page e size blocks base text lines parts m accepted places old new f None cause is are read mounts made =
+files_until told held page e size blocks base text lines parts m accepted places old new f None cause is are read mounts made why =
     absurd (no_line e (part_contents parts) lines accepted made.put.emitted.runs.op made.put.emitted.runs.next is)
-files_until told held page e size blocks base text lines parts m accepted places old new f (Some n) cause is are read mounts made =
-    (lines, accepted, places, record { mount = m; files = part_contents parts; read = read; mounts = mounts; made = made }, have_bytes told lines parts are, sym is)
+files_until told held page e size blocks base text lines parts m accepted places old new f (Some n) cause is are read mounts made why =
+    (lines, accepted, places, record { mount = m; files = part_contents parts; read = read; mounts = mounts; made = made }, have_bytes told lines parts are, sym is, why)
 
 all_of_text : (told : List ℕ → Option (List ℕ)) (lines : List Line) (parts : Parts) (text : List ℕ) → AreRead told lines parts → lines_of text ≡ Ok lines → AreAllRead told text
 all_of_text told lines parts text are read = (lines, part_contents parts, read, have_bytes told lines parts are)
@@ -406,7 +407,7 @@ put_until page e size blocks m ops accepted places (Some session.Broken) old giv
 
 -- where operations were run
 pub part_of_run : (page : Page) (e : Endian) (size blocks : ℕ) (base : List ℕ) (ops : List Op) (accepted : ℕ) (places : List Place) (stopped : Option SessionFault) (old mid taken given : Option (List ℕ)) (before now : ℕ)
-    → stopped ≢ Some session.Sink → IsEmitted page e size blocks base ops accepted places stopped (record { old = old; new = mid; before = before; now = now }) → Keeps mid taken → IsBehind given taken → GivesPart (image_form page e size blocks) base ops old given
+    → stopped ≢ Some session.Sink → IsEmitted (paged_flash page e size blocks) base ops accepted places stopped (record { old = old; new = mid; before = before; now = now }) → Keeps mid taken → IsBehind given taken → GivesPart (image_form page e size blocks) base ops old given
 part_of_run page e size blocks base ops accepted places stopped old mid taken given before now other emitted kept part =
     (mid, inr (accepted, places, stopped, before, now, other, emitted), same_behind given mid taken kept part)
 

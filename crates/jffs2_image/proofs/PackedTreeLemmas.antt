@@ -7,7 +7,7 @@ use Rattle.jnode.specs.declared.order.Endian.{Endian}
 use Rattle.jsteps.specs.declared.page.Page.{Page}
 use Rattle.jlisting.specs.declared.line.Line.{Line}
 use Rattle.jlog.specs.declared.report.Place.{Place}
-use Rattle.jbuild.specs.Emitting.{IsEmitted}
+use Rattle.jbuild.specs.Emitting.{IsEmitted, paged_flash}
 use Rattle.jbuild.specs.Operations.{ops_in}
 use Rattle.jfolder.specs.Known.{Known}
 use Rattle.jfolder.specs.Text.{listing_text}
@@ -53,11 +53,11 @@ run_holds asked folder told held before lines accepted places known_folder optio
     let image : List ℕ = took.image in
     let e = asked.options.endian in
     let size : ℕ = asked.options.geometry.block in
-    let emitted : IsEmitted asked.page e size (blocks_of asked) run.mount.image (ops_in e run.files lines) accepted places None
+    let emitted : IsEmitted (paged_flash asked.page e size (blocks_of asked)) run.mount.image (ops_in e run.files lines) accepted places None
     (record { old = Some []; new = Some image; before = made.file.before; now = put.count }) =
-    subst (λ (o : Option (List ℕ)). IsEmitted asked.page e size (blocks_of asked) run.mount.image (ops_in e run.files lines) accepted places None
+    subst (λ (o : Option (List ℕ)). IsEmitted (paged_flash asked.page e size (blocks_of asked)) run.mount.image (ops_in e run.files lines) accepted places None
     (record { old = o; new = Some image; before = made.file.before; now = put.count })) handed.0
-    (subst (λ (t : Option (List ℕ)). IsEmitted asked.page e size (blocks_of asked) run.mount.image (ops_in e run.files lines) accepted places None
+    (subst (λ (t : Option (List ℕ)). IsEmitted (paged_flash asked.page e size (blocks_of asked)) run.mount.image (ops_in e run.files lines) accepted places None
     (record { old = made.file.old; new = t; before = made.file.before; now = put.count })) took.taken_is put.emitted) in
     let tree = put_out_holds_tree asked.page e size (blocks_of asked) image run.files folder.root folder.items.items lines listable.fits listable.tree run.read
     (record {

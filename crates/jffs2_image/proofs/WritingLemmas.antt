@@ -15,7 +15,12 @@ use Rattle.jlog.specs.Resuming.{resumes_by, page_fits}
 use Rattle.jlog.specs.declared.fault.SessionFault.{SessionFault}
 use Rattle.jlog.specs.declared.fault.SessionFault.TheVariants as session
 use Rattle.jlog.specs.declared.report.Place.{Place}
+use Rattle.jsteps.specs.declared.op.Op.{Op}
 use Rattle.jbuild.specs.Accepted.{accepted_line}
+use Rattle.jbuild.specs.Blocks.{TellsRefusedOn}
+use Rattle.jbuild.specs.Emitting.{paged_flash}
+use Rattle.jreport.specs.Causes.{cause_of}
+use Rattle.jreport.specs.declared.reason.Reason.{Reason}
 use Rattle.jbuild.specs.Operations.{ops_in}
 use Rattle.jreport.specs.declared.cause.Cause.{Cause}
 use Rattle.jreport.specs.declared.faults.ProgramFault.{ProgramFault}
@@ -30,7 +35,7 @@ use Rattle.jcommand.specs.Parsed.{Parsed, ScanParsed, CheckParsed, ListParsed, C
 use Rattle.jcommand.specs.declared.parsed.Options.{Options}
 use Rattle.jffs2_image.specs.Host.{AreLoaded, RunsFiles}
 use Rattle.jffs2_image.specs.Runs.{Meets, RunsListed}
-use Rattle.jffs2_image.specs.Writes.{Held, IsCause, IsHanded, IsMade, IsNotMade, IsNotedIn, IsRunOn, IsSessionFault, WritesImage, image_form}
+use Rattle.jffs2_image.specs.Writes.{Held, IsCause, IsHanded, IsMade, IsNotMade, IsNotedIn, IsRunOn, IsSessionFault, WritesImage, image_form, IsRunCause, flash_plan}
 use Rattle.jreport.specs.Refusal.{IsRefusalTold}
 use Rattle.jreport.proofs.RefusalLemmas.{refusal_cases}
 use Rattle.jreport.proofs.SinkLemmas.{sink_change}
@@ -39,7 +44,7 @@ use Rattle.jreport.proofs.SinkLemmas.{sink_change}
 pub not_resumed : (held : Held) (page : Page) (e : Endian) (size blocks : ℕ) (output base text : List ℕ) (m : Mount) (f : SessionFault) (cause : Cause) (old : Option (List ℕ)) (n : ℕ)
     → m.image ≡ base → Answers e size base (Ok m) → resumes_by page e size blocks m ≡ Err f → IsCause page size blocks m.image f cause → WritesImage {T = ℕ} held (image_form page e size blocks) output base text (sink_change old old n n) (Err (program.Session f None cause))
 not_resumed held page e size blocks output base text m f cause old n same mounts refused why =
-    ((inl (refl, (m, mounts, inl refused)), subst (λ (image : List ℕ). IsCause page size blocks image f cause) same why), refl, refl)
+    (inl (refl, (m, mounts, inl refused), subst (λ (image : List ℕ). IsCause page size blocks image f cause) same why), refl, refl)
 
 -- the base does not mount
 pub not_mounted : (held : Held) (page : Page) (e : Endian) (size blocks : ℕ) (output base text : List ℕ) (f : ProgramFault) (old : Option (List ℕ)) (n : ℕ)
@@ -58,7 +63,7 @@ not_made held page e size blocks output base text m (program.File name) old n sa
 not_made held page e size blocks output base text m (program.NotRead name) old n same mounts not = absurd not
 not_made held page e size blocks output base text m (program.Listing k) old n same mounts not = absurd not
 not_made held page e size blocks output base text m (program.Session f None cause) old n same mounts not =
-    ((inl (refl, (m, mounts, not.0)), subst (λ (image : List ℕ). IsCause page size blocks image f cause) same not.1), refl, refl)
+    (inl (refl, (m, mounts, not.0), subst (λ (image : List ℕ). IsCause page size blocks image f cause) same not.1), refl, refl)
 not_made held page e size blocks output base text m (program.Session f (Some k) cause) old n same mounts not = absurd not
 not_made held page e size blocks output base text m (program.Path f) old n same mounts not = absurd not
 not_made held page e size blocks output base text m program.NotRegular old n same mounts not = absurd not
@@ -75,11 +80,32 @@ pub run_on : (held : Held) (page : Page) (e : Endian) (size blocks : ℕ) (base 
     → IsRunOn held (image_form page e size blocks) base text lines accepted places stopped
 run_on held page e size blocks base text lines files m accepted places stopped read mounts made = record { mount = m; files = files; read = read; mounts = mounts; made = made }
 
+-- why it stopped, as far as it is known
+pub run_cause : {X : Type 0} (page : Page) (e : Endian) (size blocks : ℕ) (image base : List ℕ) (run ops : List Op) (accepted : ℕ) (stopped : Option SessionFault) (f : SessionFault)
+    (answer : Result (Option ℕ) X) (known : Option ℕ) (reason : Reason) (cause : Cause) → image ≡ base → run ≡ ops → stopped ≡ Some f
+    → IfOk answer (TellsRefusedOn (paged_flash page e size blocks) image run accepted stopped) → IfSome known (λ n. answer ≡ Ok (Some n))
+    → cause ≡ cause_of (flash_plan page size blocks image) f reason known → IsRunCause (image_form page e size blocks) base ops accepted f cause
+run_cause page e size blocks image base run ops accepted stopped f answer known reason cause same_image same_ops same_fault told some is =
+    let flash = paged_flash page e size blocks in
+    let moved = subst (λ (s : Option SessionFault). IfOk answer (TellsRefusedOn flash base ops accepted s)) same_fault
+    (subst (λ (o : List Op). IfOk answer (TellsRefusedOn flash base o accepted stopped)) same_ops
+    (subst (λ (z : List ℕ). IfOk answer (TellsRefusedOn flash z run accepted stopped)) same_image told)) in (
+      reason,
+      known,
+      known_is (TellsRefusedOn flash base ops accepted (Some f)) answer known moved some,
+      subst (λ (z : List ℕ). cause ≡ cause_of (flash_plan page size blocks z) f reason known) same_image is,
+    )
+  where
+    known_is : {X : Type 0} (P : Option ℕ → Type 0) (answer : Result (Option ℕ) X) (known : Option ℕ) → IfOk answer P → IfSome known (λ n. answer ≡ Ok (Some n)) → IfSome known (λ n. P (Some n))
+    known_is P answer None told some = tt
+    known_is P answer (Some n) told some = subst (λ (r : Result (Option ℕ) X). IfOk r P) some told
+
 -- it stopped at a line
-pub stopped_at : (held : Held) (page : Page) (e : Endian) (size blocks : ℕ) (base text : List ℕ) (lines : List Line) (accepted : ℕ) (places : List Place) (f : SessionFault)
-    → IsRunOn held (image_form page e size blocks) base text lines accepted places (Some f)
-    → IsSessionFault held (image_form page e size blocks) base text f (option_map (λ l. l.number) (slice_get lines accepted))
-stopped_at held page e size blocks base text lines accepted places f run = inr (lines, accepted, places, run, refl)
+pub stopped_at : (held : Held) (page : Page) (e : Endian) (size blocks : ℕ) (base text : List ℕ) (lines : List Line) (accepted : ℕ) (places : List Place) (f : SessionFault) (cause : Cause)
+    → (run : IsRunOn held (image_form page e size blocks) base text lines accepted places (Some f))
+    → IsRunCause (image_form page e size blocks) base (ops_in e run.files lines) accepted f cause
+    → IsSessionFault held (image_form page e size blocks) base text f (option_map (λ l. l.number) (slice_get lines accepted)) cause
+stopped_at held page e size blocks base text lines accepted places f cause run why = inr (lines, accepted, places, run, refl, why)
 
 -- the answer is that fault
 pub writes_fault : (held : Held) (page : Page) (e : Endian) (size blocks : ℕ) (output base text : List ℕ) (old new : Option (List ℕ)) (before now : ℕ) (f : ProgramFault) (r : Result ℕ ProgramFault)

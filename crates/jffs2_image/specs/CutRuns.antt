@@ -9,6 +9,7 @@ use Rattle.jsteps.specs.declared.page.Page.{Page}
 use Rattle.jlisting.specs.Broken.{IsBadLine}
 use Rattle.jlisting.specs.Listing.{lines_of}
 use Rattle.jlisting.specs.declared.line.Line.{Line}
+use Rattle.jlog.specs.declared.fault.SessionFault.{SessionFault}
 use Rattle.jbuild.specs.Operations.{ops_in}
 use Rattle.jcuts.specs.Cuts.{Asked, PutsCuts}
 use Rattle.jcuts.specs.declared.cuts.CutsFault.{CutsFault}
@@ -18,8 +19,11 @@ use Rattle.jcuts.specs.declared.lines.Telling.TheVariants.{Nodes}
 use Rattle.jreport.specs.Advice.{fault_lines_of}
 use Rattle.jreport.specs.declared.cause.Cause.TheVariants as causes
 use Rattle.jreport.specs.Refusal.{IsRefusalTold}
+use Rattle.jreport.specs.Causes.{cause_of}
+use Rattle.jreport.specs.declared.cause.Cause.{Cause}
 use Rattle.jreport.specs.declared.faults.ProgramFault.{ProgramFault}
 use Rattle.jreport.specs.declared.faults.ProgramFault.TheVariants as program
+use Rattle.jreport.specs.declared.reason.Reason.TheVariants as reason
 use Rattle.jcommand.specs.Parsed.{CutsParsed, IsFaultless, parsed_from}
 use Rattle.jcommand.specs.Status.{outcome_of}
 use Rattle.jcommand.specs.declared.parsed.Options.{Options}
@@ -27,7 +31,7 @@ use Rattle.jcommand.specs.declared.outcome.Outcome.{Outcome}
 use Rattle.jcommand.specs.declared.outcome.Outcome.TheVariants as outcome
 use Rattle.jffs2_image.specs.Host.{AreAllRead, AreLoaded, HaveBytes}
 use Rattle.jffs2_image.specs.Runs.{Finishes, Says, answer_finished}
-use Rattle.jffs2_image.specs.Writes.{IsNamedByLine, IsPartUnread, IsUnreadFile, FileReads}
+use Rattle.jffs2_image.specs.Writes.{IsNamedByLine, IsPartUnread, IsUnreadFile, FileReads, flash_plan}
 
 -- ---- the lines of a listing
 
@@ -36,12 +40,17 @@ abbrev pub asked_of : Endian → (List ℕ → List ℕ) → List Line → Asked
 asked_of e files lines =
     record { telling = Nodes; ops = ops_in e files lines; lines = map (λ line. line.number) lines }
 
--- the program's answer where this is told
-abbrev pub answer_of_cuts : Result ℕ CutsFault → Result ℕ ProgramFault
-answer_of_cuts (Ok weak) = Ok weak
-answer_of_cuts (Err (cuts.Session fault line)) =
-    Err (program.Session fault line causes.Unknown)
-answer_of_cuts (Err cuts.Output) = Err program.Output
+-- why operations on an image are not told: the first limit that the flash does not keep
+abbrev pub cause_of_cuts : Flash → List ℕ → SessionFault → Cause
+cause_of_cuts flash image fault =
+    cause_of (flash_plan flash.page flash.geometry.block flash.blocks image) fault reason.Other None
+
+-- the program's answer where this is told of an image
+abbrev pub answer_of_cuts : Flash → List ℕ → Result ℕ CutsFault → Result ℕ ProgramFault
+answer_of_cuts flash image (Ok weak) = Ok weak
+answer_of_cuts flash image (Err (cuts.Session fault line)) =
+    Err (program.Session fault line (cause_of_cuts flash image fault))
+answer_of_cuts flash image (Err cuts.Output) = Err program.Output
 
 -- The listing's operations on a base that mounts are told, with the bytes of the host's files.
 pub record TellsLines (told : List ℕ → Option (List ℕ)) (e : Endian) (flash : Flash)
@@ -54,7 +63,7 @@ pub record TellsLines (told : List ℕ → Option (List ℕ)) (e : Endian) (flas
   pub bytes : HaveBytes told lines files
   pub mounts : Answers e flash.geometry.block base (Ok mount)
   pub puts : PutsCuts e flash mount (asked_of e files lines) sink cuts
-  pub comes_to : answer ≡ answer_of_cuts cuts
+  pub comes_to : answer ≡ answer_of_cuts flash mount.image cuts
 
 -- why nothing is told of them
 abbrev pub IsLinesFault : (List ℕ → Option (List ℕ)) → Endian → ℕ → List ℕ → List ℕ → ProgramFault

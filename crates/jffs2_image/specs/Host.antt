@@ -21,7 +21,7 @@ use Rattle.jcommand.specs.declared.command_line.RequestFault.{RequestFault}
 use Rattle.jreport.specs.declared.faults.ProgramFault.{ProgramFault}
 use Rattle.jreport.specs.declared.faults.ProgramFault.TheVariants as program
 use Rattle.jffs2_image.specs.Decompressing.{IsNotConverted}
-use Rattle.jffs2_image.specs.Writes.{FileReads, FileWrites, Held, ImageForm, HoldsFront, HoldsNothing, HoldsPart, IsNamedByLine, IsPartUnread, IsRunOn, IsTooLong, line_on}
+use Rattle.jffs2_image.specs.Writes.{FileReads, FileWrites, Held, ImageForm, HoldsFront, HoldsNothing, HoldsPart, IsNamedByLine, IsPartUnread, IsRunCause, IsRunOn, IsTooLong, form_flash, line_on}
 use Rattle.jffs2_image.specs.declared.host.FileFault.{FileFault}
 use Rattle.jffs2_image.specs.declared.host.FileFault.TheVariants as file
 use Rattle.jffs2_image.specs.declared.host.MakeFault.{MakeFault}
@@ -95,9 +95,10 @@ AreAllRead told text =
 
 -- The operations that were run have the bytes of the host's files: those of all lines, told in a
 -- line that has the length of what went out for them, or in a beginning of it; or those up to the
--- one that stopped them. Where no line is told, because the file failed before or after them, a
--- beginning of what goes out for them is in it; where memory ran out before them, a beginning of
--- the base; or it is empty, or there is none. A fault of the base comes after all was read.
+-- one that stopped them, with the cause of that. Where no line is told, because the file failed
+-- before or after them, a beginning of what goes out for them is in it; where memory ran out before
+-- them, a beginning of the base; or it is empty, or there is none. A fault of the base comes after
+-- all was read.
 abbrev pub RunsFiles : (List ℕ → Option (List ℕ)) → Held → ImageForm → List ℕ → List ℕ
     → Option (List ℕ) → Option (List ℕ) → Result ℕ ProgramFault → Type 0
 RunsFiles told held form base text old new (Ok _) =
@@ -105,8 +106,7 @@ RunsFiles told held form base text old new (Ok _) =
     × (run : IsRunOn held form base text lines accepted places None)
     × HaveBytes told lines run.files
     × Appends old new (line_on form base accepted places)
-    × TellsLength form.page form.order form.block form.blocks base
-    (ops_in form.order run.files lines) accepted places
+    × TellsLength (form_flash form) base (ops_in form.order run.files lines) accepted places
 RunsFiles told held form base text old new (Err program.Output) =
     (lines : List Line) × (accepted : ℕ) × (places : List Place)
     × (run : IsRunOn held form base text lines accepted places None)
@@ -117,6 +117,7 @@ RunsFiles told held form base text old new (Err (program.Session fault (Some num
     × (run : IsRunOn held form base text lines accepted places (Some fault))
     × HaveBytes told lines run.files
     × (option_map (λ l. l.number) (slice_get lines accepted) ≡ Some number)
+    × IsRunCause form base (ops_in form.order run.files lines) accepted fault cause
 RunsFiles told held form base text old new (Err (program.Load load.TooLarge)) =
     (lines : List Line) × (lines_of text ≡ Ok lines)
     × IsPartUnread told lines (program.Load load.TooLarge)

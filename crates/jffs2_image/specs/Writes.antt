@@ -15,11 +15,13 @@ use Rattle.jlisting.specs.declared.line.Line.{Line}
 use Rattle.jsteps.specs.declared.page.Page.{Page}
 use Rattle.jlog.specs.Headline.{resume_address}
 use Rattle.jlog.specs.Resuming.{resumes_by}
+use Rattle.jlog.specs.Session.{Flash}
 use Rattle.jlog.specs.declared.fault.SessionFault.{SessionFault}
 use Rattle.jlog.specs.declared.fault.SessionFault.TheVariants as session
 use Rattle.jlog.specs.declared.report.Place.{Place}
 use Rattle.jbuild.specs.Accepted.{accepted_line}
-use Rattle.jbuild.specs.Emitting.{IsEmitted, front_before}
+use Rattle.jbuild.specs.Blocks.{TellsRefusedOn}
+use Rattle.jbuild.specs.Emitting.{IsEmitted, front_before, paged_flash}
 use Rattle.jbuild.specs.Operations.{ops_in}
 use Rattle.jcommand.specs.declared.parsed.Target.{Target}
 use Rattle.jreport.specs.Causes.{cause_of}
@@ -49,6 +51,10 @@ image_form page order block blocks =
 abbrev pub form_of : Endian → Target → ImageForm
 form_of order target =
     image_form target.page order target.options.geometry.block target.blocks
+
+-- the flash that it is written to
+abbrev pub form_flash : ImageForm → Flash
+form_flash form = paged_flash form.page form.order form.block form.blocks
 
 -- where writing goes on behind a mounted image, or why it does not
 abbrev pub resumed : ImageForm → Mount → Result ℕ SessionFault
@@ -108,8 +114,8 @@ pub record IsPut (form : ImageForm) (m : Mount) (ops : List Op) (accepted : ℕ)
   pub taken : Option (List ℕ)
   pub count : ℕ
   pub resumes : IsOk (resumed form m)
-  pub emitted : IsEmitted form.page form.order form.block form.blocks m.image ops accepted places
-      stopped (record { old = file.old; new = taken; before = file.before; now = count })
+  pub emitted : IsEmitted (form_flash form) m.image ops accepted places stopped
+      (record { old = file.old; new = taken; before = file.before; now = count })
   pub given_on : IsGivenOn stopped taken file.new count file.now
 
 -- What was given to the files that were made and are lent out no more, in order, where the host
@@ -154,7 +160,7 @@ IsPutInPart form base ops old taken =
     ⊎ ((accepted : ℕ) × (places : List Place) × (stopped : Option SessionFault) × (before : ℕ)
     × (now : ℕ)
     × (stopped ≢ Some session.Sink)
-    × IsEmitted form.page form.order form.block form.blocks base ops accepted places stopped
+    × IsEmitted (form_flash form) base ops accepted places stopped
     (record { old = old; new = taken; before = before; now = now }))
 
 -- of that a beginning was given on
@@ -234,7 +240,17 @@ flash_plan page size blocks base = record {
 -- first limit that the flash does not keep.
 abbrev pub IsCause : Page → ℕ → ℕ → List ℕ → SessionFault → Cause → Type 0
 IsCause page size blocks base fault cause =
-    (reason : Reason) × (cause ≡ cause_of (flash_plan page size blocks base) fault reason)
+    (reason : Reason) × (cause ≡ cause_of (flash_plan page size blocks base) fault reason None)
+
+-- The same of a run that accepted so many operations. Where the next one stopped it for want of
+-- room, the least number of blocks that hold this one, unless memory ran out for that.
+abbrev pub IsRunCause : ImageForm → List ℕ → List Op → ℕ → SessionFault → Cause → Type 0
+IsRunCause form base ops accepted fault cause =
+    (reason : Reason) × (blocks : Option ℕ)
+    × IfSome blocks
+    (λ n. TellsRefusedOn (form_flash form) base ops accepted (Some fault) (Some n))
+    × (cause
+    ≡ cause_of (flash_plan form.page form.block form.blocks base) fault reason blocks)
 
 -- why no file was made, or not to its end
 abbrev pub IsNotMade : ImageForm → Mount → List ℕ → ProgramFault → Type 0
@@ -244,14 +260,17 @@ IsNotMade form m output (program.Session fault None cause) =
 IsNotMade form m output program.OutOfMemory = Unit {0}
 IsNotMade form m output _ = ⊥
 
--- the fault of a session, and the line of the listing that it came to
-abbrev pub IsSessionFault : Held → ImageForm → List ℕ → List ℕ → SessionFault → Option ℕ → Type 0
-IsSessionFault held form base text fault line =
+-- the fault of a session, the line of the listing that it came to, and its cause
+abbrev pub IsSessionFault : Held → ImageForm → List ℕ → List ℕ → SessionFault → Option ℕ → Cause
+    → Type 0
+IsSessionFault held form base text fault line cause =
     ((line ≡ None)
-    × ((m : Mount) × Answers form.order form.block base (Ok m) × IsNotGoneOn form m fault))
+    × ((m : Mount) × Answers form.order form.block base (Ok m) × IsNotGoneOn form m fault)
+    × IsCause form.page form.block form.blocks base fault cause)
     ⊎ ((lines : List Line) × (accepted : ℕ) × (places : List Place)
-    × IsRunOn held form base text lines accepted places (Some fault)
-    × (line ≡ option_map (λ l. l.number) (slice_get lines accepted)))
+    × (run : IsRunOn held form base text lines accepted places (Some fault))
+    × (line ≡ option_map (λ l. l.number) (slice_get lines accepted))
+    × IsRunCause form base (ops_in form.order run.files lines) accepted fault cause)
 
 -- why an image is not written, or not to its end
 abbrev pub IsWriteFault : Held → ImageForm → List ℕ → List ℕ → List ℕ → ProgramFault → Type 0
@@ -267,8 +286,7 @@ IsWriteFault held form output base text (program.Mount fault) =
 IsWriteFault held form output base text (program.Clash addr other) =
     IsRefusalTold form.order form.block base (program.Clash addr other)
 IsWriteFault held form output base text (program.Session fault line cause) =
-    IsSessionFault held form base text fault line
-    × IsCause form.page form.block form.blocks base fault cause
+    IsSessionFault held form base text fault line cause
 IsWriteFault held form output base text program.OutOfMemory = Unit {0}
 IsWriteFault held form output base text _ = ⊥
 

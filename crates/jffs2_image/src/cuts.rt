@@ -7,7 +7,7 @@ ghost use Rattle.jcuts.specs.declared.cuts.CutsFault.{CutsFault};
 ghost use Rattle.jcuts.specs.declared.lines.Telling.TheVariants.{Nodes};
 ghost use Rattle.std.specs.Prelude.{Result};
 ghost use Rattle.jffs2_image.specs.Host.{AreRead};
-ghost use Rattle.jffs2_image.specs.CutRuns.{answer_of_cuts, BlamesReading, EndsCuts, FinishesCuts, IsBaseOf, IsBaseUnread, TellsFiles, TellsText};
+ghost use Rattle.jffs2_image.specs.CutRuns.{answer_of_cuts, cause_of_cuts, BlamesReading, EndsCuts, FinishesCuts, IsBaseOf, IsBaseUnread, TellsFiles, TellsText};
 ghost use Rattle.flashbase.specs.Sinks.{change_of};
 ghost use Rattle.jffs2_image.specs.Tasks.{passage, reads};
 
@@ -21,11 +21,25 @@ use jbuild::{Parts, operations};
 use jcommand::{Cuts, Outcome};
 use jcuts::{CutsFault, Flash, Telling, put_cuts};
 use jlisting::{Line, listing};
-use jmount::Mounted;
+use jlog::SessionFault;
+use jmount::{Mounted, Mounted, mount};
 use jnode::{Endian, Order};
-use jreport::{Cause, ProgramFault, mount_or_tell};
+use jreport::{Cause, Plan, ProgramFault, Reason, cause_of, mount_or_tell};
 use jsteps::Op;
 use std::alloc::Global;
+
+/// Why operations on a mounted image are not told: the first limit that the flash does not keep.
+fn cause_on(mounted: &Mounted<'_>, flash: Flash, fault: SessionFault) -> Cause
+    ensures { result ≡ cause_of_cuts flash mounted.now.image fault }
+{
+    let plan = Plan {
+        geometry: flash.geometry,
+        blocks: flash.blocks,
+        page: flash.page,
+        length: mounted.image().len(),
+    };
+    cause_of(plan, fault, Reason::Other, None)
+}
 
 /// Tells operations on a mounted image, with the numbers of their lines. Answers how many nodes are
 /// weak.
@@ -43,7 +57,7 @@ fn tell_ops<E: Order, T: Sink>(
     ensures tells { (cuts : Result ℕ CutsFault) × PutsCuts E.order flash mounted.now
         (record { telling = Nodes; ops = ops.now; lines = lines.now })
         (change_of T.Sink sink.old sink.new) cuts
-        × (result ≡ answer_of_cuts cuts) }
+        × (result ≡ answer_of_cuts flash mounted.now.image cuts) }
     ensures unread { (n : ℕ) → BlamesReading n n result }
 {
     match put_cuts::<E, T>(alloc, mounted, flash, Telling::Nodes, ops, lines, sink) {
@@ -51,7 +65,7 @@ fn tell_ops<E: Order, T: Sink>(
         Err(CutsFault::Session { fault, line }) => Err(ProgramFault::Session {
             fault,
             line,
-            cause: Cause::Unknown,
+            cause: cause_on(mounted, flash, fault),
         }),
         Err(CutsFault::Output) => Err(ProgramFault::Output),
     }

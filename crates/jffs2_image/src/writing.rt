@@ -7,20 +7,22 @@ ghost use Rattle.jffs2_image.specs.Host.{AreOf, AreRead, Blames, BlamesMaker, Co
 ghost use Rattle.jbuild.specs.Operations.{ops_in};
 ghost use Rattle.jbuild.specs.Parts.{part_contents};
 ghost use Rattle.jffs2_image.specs.WeakRuns.{AreNotes, AreNotesOn};
-ghost use Rattle.jffs2_image.specs.Writes.{GivesCut, HoldsCut, IsCause, IsMade, IsNotGoneOn, IsNotMade, IsNotedIn, IsPartUnread, IsPut, IsTooLong, IsUnreadFile, WritesImage, form_of, resumed};
+ghost use Rattle.jffs2_image.specs.Writes.{GivesCut, HoldsCut, IsCause, IsMade, IsNotGoneOn, IsNotMade, IsNotedIn, IsPartUnread, IsPut, IsTooLong, IsUnreadFile, WritesImage, form_of, resumed, form_flash, flash_plan};
+ghost use Rattle.jbuild.specs.Blocks.{TellsRefusedOn};
+ghost use Rattle.jreport.specs.Causes.{cause_of};
 ghost use Rattle.flashbase.specs.Sinks.{change_of};
 ghost use Rattle.jffs2_image.specs.Tasks.{passage};
 
 use crate::host::{FileFault, Loader, MakeFault, Maker};
 use crate::output::Output;
 use crate::weak::Notes;
-use flashbase::{LoadFault, Sink};
-use jbuild::{Parts, emit, operations, put_accepted};
+use flashbase::{LoadFault, Sink, Sink};
+use jbuild::{Emitted, Parts, emit, operations, put_accepted};
 use jcommand::Target;
 use jcuts::Flash;
 use jlisting::{Line, listing};
 use jlog::{RunReport, SessionFault, page_fits, resume_at};
-use jmount::Mounted;
+use jmount::{Mounted, Mounted, mount};
 use jnode::Order;
 use jreport::{
     Cause, Plan, ProgramFault, Reason, Refused, Unopened, cause_of, mount_or_tell, noted,
@@ -153,11 +155,17 @@ fn number_at(numbers: &[usize], i: usize) -> Option<usize>
     numbers.get(i).copied()
 }
 
-/// Why a session on a mounted image was refused, or stopped by this fault; `reason` is that of the
-/// file that is written.
-fn cause_on(mounted: &Mounted<'_>, target: Target<'_>, fault: SessionFault, reason: Reason) -> Cause
-    ensures { IsCause target.entry.page target.entry.options.geometry.block target.entry.blocks
-        mounted.now.image fault result }
+/// Why a run on a mounted image was stopped by this fault; `reason` is that of the file that is
+/// written, and `blocks` how many blocks hold the operation that stopped it.
+fn cause_of_run(
+    mounted: &Mounted<'_>,
+    target: Target<'_>,
+    fault: SessionFault,
+    reason: Reason,
+    blocks: Option<u32>,
+) -> Cause
+    ensures { result ≡ cause_of (flash_plan target.entry.page target.entry.options.geometry.block
+        target.entry.blocks mounted.now.image) fault reason blocks }
 {
     let plan = Plan {
         geometry: target.options.geometry,
@@ -165,7 +173,16 @@ fn cause_on(mounted: &Mounted<'_>, target: Target<'_>, fault: SessionFault, reas
         page: target.page,
         length: mounted.image().len(),
     };
-    cause_of(plan, fault, reason)
+    cause_of(plan, fault, reason, blocks)
+}
+
+/// Why a session on a mounted image was refused, or failed where no operation was run; `reason` is
+/// that of the file that is written.
+fn cause_on(mounted: &Mounted<'_>, target: Target<'_>, fault: SessionFault, reason: Reason) -> Cause
+    ensures { IsCause target.entry.page target.entry.options.geometry.block target.entry.blocks
+        mounted.now.image fault result }
+{
+    cause_of_run(mounted, target, fault, reason, None)
 }
 
 /// Where writing goes on, by the target's page, or why it does not.
@@ -200,6 +217,17 @@ fn resumed_from<E: Order>(mounted: &Mounted<'_>, target: Target<'_>) -> Result<u
     }
 }
 
+/// What is told of blocks, where memory did not run out for it.
+fn known_blocks(told: Result<Option<u32>, AllocError>) -> Option<u32>
+    ensures some { IfSome result (λ blocks. told ≡ Ok (Some blocks)) }
+    ensures same { IfOk told (λ blocks. result ≡ blocks) }
+{
+    match told {
+        Ok(blocks) => blocks,
+        Err(_) => None,
+    }
+}
+
 /// Whether the output stopped a run.
 fn is_of_output(stopped: Option<SessionFault>) -> bool
     ensures output { IsTrue result → stopped ≡ Some SessionFault.Sink }
@@ -219,11 +247,14 @@ fn put_image<E: Order, S: Output>(
     target: Target<'_>,
     ops: &[Op<'_>],
     output: S,
-) -> Result<(S, RunReport), (SessionFault, Option<S>)>
+) -> Result<(S, Emitted), (SessionFault, Option<S>)>
     requires { IsMountOf E.order target.options.geometry.block mounted.now }
     ensures put { IfOk result (λ done. IsPut (form_of E.order target.entry) mounted.now ops.now
-        done.1.accepted done.1.places.items done.1.stopped
+        done.1.report.accepted done.1.report.places.items done.1.report.stopped
         (passage S.taken S.given S.failures output done.0)) }
+    ensures blocks { IfOk result (λ done. IfOk done.1.blocks (TellsRefusedOn
+        (form_flash (form_of E.order target.entry)) mounted.now.image ops.now
+        done.1.report.accepted done.1.report.stopped)) }
     ensures fault { IfErr result
         (λ refused. IsNotGoneOn (form_of E.order target.entry) mounted.now refused.0) }
     ensures part { IfErr result (λ refused. IfSome refused.1
@@ -241,11 +272,11 @@ fn put_image<E: Order, S: Output>(
         ops,
         output,
     ) {
-        Ok((mut output, report)) => match output.finish() {
-            Ok(()) => Ok((output, report)),
+        Ok((mut output, emitted)) => match output.finish() {
+            Ok(()) => Ok((output, emitted)),
             Err(_) => {
-                if is_of_output(report.stopped) {
-                    Ok((output, report))
+                if is_of_output(emitted.report.stopped) {
+                    Ok((output, emitted))
                 } else {
                     Err((SessionFault::Sink, Some(output)))
                 }
@@ -266,17 +297,20 @@ fn make_image<'a, E: Order, M: Maker>(
     target: Target<'a>,
     mounted: &Mounted<'_>,
     ops: &[Op<'_>],
-) -> Result<RunReport, ProgramFault<'a>>
+) -> Result<Emitted, ProgramFault<'a>>
     requires { IsMountOf E.order target.options.geometry.block mounted.now }
-    ensures made { IfOk result (λ report. IsMade (M.held maker.old, M.held maker.new)
-        (form_of E.order target.entry) mounted.now ops.now report.accepted report.places.items
-        report.stopped) }
+    ensures made { IfOk result (λ done. IsMade (M.held maker.old, M.held maker.new)
+        (form_of E.order target.entry) mounted.now ops.now done.report.accepted
+        done.report.places.items done.report.stopped) }
+    ensures blocks { IfOk result (λ done. IfOk done.blocks (TellsRefusedOn
+        (form_flash (form_of E.order target.entry)) mounted.now.image ops.now
+        done.report.accepted done.report.stopped)) }
     ensures fault { IfErr result (λ fault. IsNotMade (form_of E.order target.entry) mounted.now
         target.entry.output.now fault) }
     ensures cut { IfErr result (λ fault. HoldsCut (M.held maker.old, M.held maker.new)
         (form_of E.order target.entry) mounted.now.image ops.now fault) }
     ensures stopped { IfOk result
-        (λ report. IsMadeUntil (M.failures maker.old) (M.failures maker.new) report.stopped) }
+        (λ done. IsMadeUntil (M.failures maker.old) (M.failures maker.new) done.report.stopped) }
     ensures failed { IfErr result
         (λ fault. IsMakeFault (M.failures maker.old) (M.failures maker.new) fault) }
     ensures file { OnOk result
@@ -294,9 +328,9 @@ fn make_image<'a, E: Order, M: Maker>(
         Err(MakeFault::OutOfMemory) => return Err(ProgramFault::OutOfMemory),
     };
     match put_image::<E, M::Made>(alloc, mounted, target, ops, output) {
-        Ok((output, report)) => {
+        Ok((output, emitted)) => {
             maker.take_back(output);
-            Ok(report)
+            Ok(emitted)
         }
         Err((fault, output)) => {
             if let Some(output) = output {
@@ -360,13 +394,14 @@ fn write_lines<'a, 'p, 'b: 'p, E: Order, M: Maker, T: Sink>(
     let mounted = mount_or_tell::<E>(alloc, base, target.options.geometry)?;
     let from = resumed_from::<E>(&mounted, target)?;
     notes.take::<E>(alloc, &mounted, flash_of(target), &ops, &numbers)?;
-    let report = make_image::<E, M>(alloc, maker, target, &mounted, &ops)?;
-    if let Some(fault) = report.stopped {
-        let line = number_at(&numbers, report.accepted);
-        let cause = cause_on(&mounted, target, fault, maker.reason());
+    let made = make_image::<E, M>(alloc, maker, target, &mounted, &ops)?;
+    if let Some(fault) = made.report.stopped {
+        let line = number_at(&numbers, made.report.accepted);
+        let blocks = known_blocks(made.blocks);
+        let cause = cause_of_run(&mounted, target, fault, maker.reason(), blocks);
         return Err(ProgramFault::Session { fault, line, cause });
     }
-    put_accepted(from, report.accepted, &report.places, sink)?;
+    put_accepted(from, made.report.accepted, &made.report.places, sink)?;
     Ok(noted(&mounted))
 }
 

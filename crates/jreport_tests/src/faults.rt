@@ -356,7 +356,7 @@ const UNREAD: [(&str, Reason, &str); 4] = [
 ];
 
 /// Why a session did not write, and what is noted.
-const CAUSES: [(Cause, &str); 10] = [
+const CAUSES: [(Cause, &str); 12] = [
     (Cause::Unknown, ""),
     (Cause::Host(Reason::Other), ""),
     (Cause::Host(Reason::NoSpace), "no space"),
@@ -387,6 +387,14 @@ const CAUSES: [(Cause, &str); 10] = [
     (
         Cause::Limit(Limit::LargePage),
         "a page and 80 bytes are more than a block",
+    ),
+    (
+        Cause::Blocks(2),
+        "the operation fits into a flash of 2 blocks",
+    ),
+    (
+        Cause::Blocks(u32::MAX),
+        "the operation fits into a flash of 4294967295 blocks",
     ),
 ];
 
@@ -471,14 +479,38 @@ fn limits_of_a_flash(rt: HostRuntime) -> Result<(), Fail> {
             Some(limit) => Cause::Limit(limit),
             None => Cause::Unknown,
         };
-        let told = cause_of(plan, SessionFault::Geometry, Reason::Busy);
+        let told = cause_of(plan, SessionFault::Geometry, Reason::Busy, Some(2));
         expect_at(&rt, told == cause, block);
-        let told = cause_of(plan, SessionFault::Sink, Reason::Busy);
-        expect_at(&rt, told == Cause::Host(Reason::Busy), block);
-        let told = cause_of(plan, SessionFault::Broken, Reason::Busy);
-        expect_at(&rt, told == Cause::Unknown, block);
     }
     Ok(())
+}
+
+/// The fault of a session, the blocks that are known, and the cause that is told.
+const TOLD: [(SessionFault, Option<u32>, Cause); 5] = [
+    (SessionFault::Sink, Some(2), Cause::Host(Reason::Busy)),
+    (SessionFault::Broken, Some(2), Cause::Unknown),
+    (SessionFault::OutOfMemory, None, Cause::Unknown),
+    (FULL, None, Cause::Unknown),
+    (FULL, Some(3), Cause::Blocks(3)),
+];
+
+const FULL: SessionFault = SessionFault::Full {
+    needed: 112,
+    free: 0,
+};
+
+/// The host's reason counts for the sink alone, and the blocks for a flash that is full.
+#[test]
+fn causes_of_other_faults(rt: HostRuntime) {
+    let plan = Plan {
+        geometry: Geometry { block: 8192 },
+        blocks: 0,
+        page: Page::P4096,
+        length: 0,
+    };
+    for (fault, blocks, cause) in TOLD {
+        expect(&rt, cause_of(plan, fault, Reason::Busy, blocks) == cause);
+    }
 }
 
 /// The rules that a line of a listing breaks.

@@ -22,7 +22,7 @@ use Rattle.jcuts.specs.declared.cuts.Flash.{Flash}
 use Rattle.jffs2_image.specs.WeakRuns.{AreNotes}
 use Rattle.jffs2_image.proofs.WeakLemmas.{all_taken, noted_at}
 use Rattle.jffs2_image.specs.Writes.{Held, HoldsCut, IsCause, IsMade, IsSessionFault, image_form}
-use Rattle.jffs2_image.proofs.WritingLemmas.{not_mounted, not_resumed, not_made, run_on, stopped_at, told, told_in_part, writes_fault, goes_on_from}
+use Rattle.jffs2_image.proofs.WritingLemmas.{not_mounted, not_resumed, not_made, run_on, stopped_at, told, told_in_part, writes_fault, goes_on_from, run_cause}
 use Rattle.jffs2_image.specs.Host.{IsMadeUntil}
 use Rattle.jffs2_image.proofs.HostLemmas.{files_in_part, files_not_made, files_not_mounted, files_not_resumed, files_of_all, files_until, make_fault, maker_fault, mount_fault, resume_fault, run_fault}
 use Rattle.jffs2_image.proofs.writing.write_lines.Goals as goal
@@ -38,22 +38,22 @@ returns-in_err-from-clause-writes g c = λ text read.
     writes_fault _ a.target.page e a.target.options.geometry.block a.target.blocks a.target.output.now a.base.now text _ _ _ _ (program.Session c.in_err-from.field-0.0.fault None c.in_err-from.field-0.0.cause) _ c.from_residual-in_err-from.ensures.1
     (not_resumed _ a.target.page e a.target.options.geometry.block a.target.blocks a.target.output.now a.base.now text m c.in_err-from.field-0.0.fault c.in_err-from.field-0.0.cause _ _ image mounts refused c.in_err-from.ensures.cause)
 
-pub returns-in_err-report-clause-writes : goal.returns-in_err-report-clause-writes
-returns-in_err-report-clause-writes g c = λ text read.
+pub returns-in_err-made-clause-writes : goal.returns-in_err-made-clause-writes
+returns-in_err-made-clause-writes g c = λ text read.
     let e = g.E.Order.order in
     let a = c.args in
     let m = c.in_ok-mounted.mounted in
     let mounts : Answers e a.target.options.geometry.block a.base.now (Ok m) = search rules in
     let image : m.image ≡ a.base.now = search rules in
-    writes_fault _ a.target.page e a.target.options.geometry.block a.target.blocks a.target.output.now a.base.now text _ _ _ _ c.in_err-report.field-0.0 _ c.from_residual-in_err-report.ensures.1
-    (not_made _ a.target.page e a.target.options.geometry.block a.target.blocks a.target.output.now a.base.now text m c.in_err-report.field-0.0 _ _ image mounts c.in_err-report.ensures.fault)
+    writes_fault _ a.target.page e a.target.options.geometry.block a.target.blocks a.target.output.now a.base.now text _ _ _ _ c.in_err-made.field-0.0 _ c.from_residual-in_err-made.ensures.1
+    (not_made _ a.target.page e a.target.options.geometry.block a.target.blocks a.target.output.now a.base.now text m c.in_err-made.field-0.0 _ _ image mounts c.in_err-made.ensures.fault)
 
 pub returns-in-Some-clause-writes : goal.returns-in-Some-clause-writes
 returns-in-Some-clause-writes g c = λ text read.
     let e = g.E.Order.order in
     let a = c.args in
     let m = c.in_ok-mounted.mounted in
-    let r = c.in_ok-report.report in
+    let r = c.in_ok-made.made.report in
     let mounts : Answers e a.target.options.geometry.block a.base.now (Ok m) = search rules in
     let same : c.deref-4.result.now ≡ ops_in e (part_contents a.parts.now) a.lines.items = search rules in
     let image : m.image ≡ a.base.now = search rules in
@@ -62,14 +62,13 @@ returns-in-Some-clause-writes g c = λ text read.
     let line : c.number_at-line.result ≡ slice_get c.in_ok-numbers.numbers.items r.accepted = search rules in
     let made : IsMade (g.M.Maker.held a.maker.now, g.M.Maker.held c.make_image.new.maker) (image_form a.target.page e a.target.options.geometry.block a.target.blocks) m (ops_in e (part_contents a.parts.now) a.lines.items) r.accepted r.places.items (Some c.in-Some.fault) =
     subst (λ (o : List Op). IsMade (g.M.Maker.held a.maker.now, g.M.Maker.held c.make_image.new.maker) (image_form a.target.page e a.target.options.geometry.block a.target.blocks) m o r.accepted r.places.items (Some c.in-Some.fault)) same
-    (subst (λ s. IsMade (g.M.Maker.held a.maker.now, g.M.Maker.held c.make_image.new.maker) (image_form a.target.page e a.target.options.geometry.block a.target.blocks) m c.deref-4.result.now r.accepted r.places.items s) stopped c.in_ok-report.ensures.made) in
+    (subst (λ s. IsMade (g.M.Maker.held a.maker.now, g.M.Maker.held c.make_image.new.maker) (image_form a.target.page e a.target.options.geometry.block a.target.blocks) m c.deref-4.result.now r.accepted r.places.items s) stopped c.in_ok-made.ensures.made) in
     let run = run_on _ a.target.page e a.target.options.geometry.block a.target.blocks a.base.now text a.lines.items (part_contents a.parts.now) m r.accepted r.places.items (Some c.in-Some.fault) read mounts made in
-    let shown = line ∙ (ap (λ (l : List ℕ). slice_get l r.accepted) numbers ∙ slice_get-map (λ l. l.number) a.lines.items r.accepted) in (
-      (
-        subst (λ n. IsSessionFault (g.M.Maker.held a.maker.now, g.M.Maker.held c.make_image.new.maker) (image_form a.target.page e a.target.options.geometry.block a.target.blocks) a.base.now text c.in-Some.fault n) (sym shown)
-            (stopped_at _ a.target.page e a.target.options.geometry.block a.target.blocks a.base.now text a.lines.items r.accepted r.places.items c.in-Some.fault run),
-        subst (λ (bytes : List ℕ). IsCause a.target.page a.target.options.geometry.block a.target.blocks bytes c.in-Some.fault c.cause_on-cause.result) image c.cause_on-cause.ensures,
-      ),
+    let shown = line ∙ (ap (λ (l : List ℕ). slice_get l r.accepted) numbers ∙ slice_get-map (λ l. l.number) a.lines.items r.accepted) in
+    let why = run_cause a.target.page e a.target.options.geometry.block a.target.blocks m.image a.base.now c.deref-4.result.now (ops_in e (part_contents a.parts.now) a.lines.items) r.accepted r.stopped c.in-Some.fault
+    c.in_ok-made.made.blocks c.known_blocks-blocks.result c.reason.result c.cause_of_run-cause.result image same stopped c.in_ok-made.ensures.blocks c.known_blocks-blocks.ensures.some c.cause_of_run-cause.ensures in (
+      subst (λ n. IsSessionFault (g.M.Maker.held a.maker.now, g.M.Maker.held c.make_image.new.maker) (image_form a.target.page e a.target.options.geometry.block a.target.blocks) a.base.now text c.in-Some.fault n c.cause_of_run-cause.result) (sym shown)
+          (stopped_at _ a.target.page e a.target.options.geometry.block a.target.blocks a.base.now text a.lines.items r.accepted r.places.items c.in-Some.fault c.cause_of_run-cause.result run why),
       refl,
       refl,
     )
@@ -79,7 +78,7 @@ returns-in_err-put_accepted-clause-writes g c = λ text read.
     let e = g.E.Order.order in
     let a = c.args in
     let m = c.in_ok-mounted.mounted in
-    let r = c.in_ok-report.report in
+    let r = c.in_ok-made.made.report in
     let mounts : Answers e a.target.options.geometry.block a.base.now (Ok m) = search rules in
     let same : c.deref-4.result.now ≡ ops_in e (part_contents a.parts.now) a.lines.items = search rules in
     let image : m.image ≡ a.base.now = search rules in
@@ -87,7 +86,7 @@ returns-in_err-put_accepted-clause-writes g c = λ text read.
     let stopped : r.stopped ≡ None = search rules in
     let made : IsMade (g.M.Maker.held a.maker.now, g.M.Maker.held c.make_image.new.maker) (image_form a.target.page e a.target.options.geometry.block a.target.blocks) m (ops_in e (part_contents a.parts.now) a.lines.items) r.accepted r.places.items None =
     subst (λ (o : List Op). IsMade (g.M.Maker.held a.maker.now, g.M.Maker.held c.make_image.new.maker) (image_form a.target.page e a.target.options.geometry.block a.target.blocks) m o r.accepted r.places.items None) same
-    (subst (λ s. IsMade (g.M.Maker.held a.maker.now, g.M.Maker.held c.make_image.new.maker) (image_form a.target.page e a.target.options.geometry.block a.target.blocks) m c.deref-4.result.now r.accepted r.places.items s) stopped c.in_ok-report.ensures.made) in
+    (subst (λ s. IsMade (g.M.Maker.held a.maker.now, g.M.Maker.held c.make_image.new.maker) (image_form a.target.page e a.target.options.geometry.block a.target.blocks) m c.deref-4.result.now r.accepted r.places.items s) stopped c.in_ok-made.ensures.made) in
     let run = run_on _ a.target.page e a.target.options.geometry.block a.target.blocks a.base.now text a.lines.items (part_contents a.parts.now) m r.accepted r.places.items None read mounts made in
     let from = goes_on_from a.target.page e a.target.options.geometry.block a.target.blocks m c.in_ok-from.from at ∙ ap (λ (l : List ℕ). resume_address e a.target.options.geometry.block a.target.blocks l) image in
     let put = c.in_err-put_accepted.ensures in
@@ -100,7 +99,7 @@ returns-clause-writes g c = λ text read.
     let e = g.E.Order.order in
     let a = c.args in
     let m = c.in_ok-mounted.mounted in
-    let r = c.in_ok-report.report in
+    let r = c.in_ok-made.made.report in
     let mounts : Answers e a.target.options.geometry.block a.base.now (Ok m) = search rules in
     let same : c.deref-4.result.now ≡ ops_in e (part_contents a.parts.now) a.lines.items = search rules in
     let image : m.image ≡ a.base.now = search rules in
@@ -108,7 +107,7 @@ returns-clause-writes g c = λ text read.
     let stopped : r.stopped ≡ None = search rules in
     let made : IsMade (g.M.Maker.held a.maker.now, g.M.Maker.held c.make_image.new.maker) (image_form a.target.page e a.target.options.geometry.block a.target.blocks) m (ops_in e (part_contents a.parts.now) a.lines.items) r.accepted r.places.items None =
     subst (λ (o : List Op). IsMade (g.M.Maker.held a.maker.now, g.M.Maker.held c.make_image.new.maker) (image_form a.target.page e a.target.options.geometry.block a.target.blocks) m o r.accepted r.places.items None) same
-    (subst (λ s. IsMade (g.M.Maker.held a.maker.now, g.M.Maker.held c.make_image.new.maker) (image_form a.target.page e a.target.options.geometry.block a.target.blocks) m c.deref-4.result.now r.accepted r.places.items s) stopped c.in_ok-report.ensures.made) in
+    (subst (λ s. IsMade (g.M.Maker.held a.maker.now, g.M.Maker.held c.make_image.new.maker) (image_form a.target.page e a.target.options.geometry.block a.target.blocks) m c.deref-4.result.now r.accepted r.places.items s) stopped c.in_ok-made.ensures.made) in
     let run = run_on _ a.target.page e a.target.options.geometry.block a.target.blocks a.base.now text a.lines.items (part_contents a.parts.now) m r.accepted r.places.items None read mounts made in
     let from = goes_on_from a.target.page e a.target.options.geometry.block a.target.blocks m c.in_ok-from.from at ∙ ap (λ (l : List ℕ). resume_address e a.target.options.geometry.block a.target.blocks l) image in
     let put = c.in_ok-put_accepted.ensures in
@@ -130,33 +129,33 @@ returns-in_err-from-clause-maker g c =
     maker_fault _ _ _ _ (program.Session c.in_err-from.field-0.0.fault None c.in_err-from.field-0.0.cause) _ c.from_residual-in_err-from.ensures.1
     (resume_fault a.target.page e a.target.options.geometry.block a.target.blocks m _ _ _ _ c.in_err-from.field-0.0.fault None c.in_err-from.field-0.0.cause refused refl)
 
-pub returns-in_err-report-clause-maker : goal.returns-in_err-report-clause-maker
-returns-in_err-report-clause-maker g c =
+pub returns-in_err-made-clause-maker : goal.returns-in_err-made-clause-maker
+returns-in_err-made-clause-maker g c =
     let e = g.E.Order.order in
     let a = c.args in
     let m = c.in_ok-mounted.mounted in
     let at : resumes_by a.target.page e a.target.options.geometry.block a.target.blocks m ≡ Ok c.in_ok-from.from = search rules in
-    maker_fault _ _ _ _ c.in_err-report.field-0.0 _ c.from_residual-in_err-report.ensures.1
-    (make_fault a.target.page e a.target.options.geometry.block a.target.blocks m a.target.output.now c.in_ok-from.from _ _ _ _ _ c.in_err-report.field-0.0 at c.in_err-report.ensures.fault c.in_err-report.ensures.failed c.in_err-report.ensures.left)
+    maker_fault _ _ _ _ c.in_err-made.field-0.0 _ c.from_residual-in_err-made.ensures.1
+    (make_fault a.target.page e a.target.options.geometry.block a.target.blocks m a.target.output.now c.in_ok-from.from _ _ _ _ _ c.in_err-made.field-0.0 at c.in_err-made.ensures.fault c.in_err-made.ensures.failed c.in_err-made.ensures.left)
 
 pub returns-in-Some-clause-maker : goal.returns-in-Some-clause-maker
 returns-in-Some-clause-maker g c =
     let e = g.E.Order.order in
     let a = c.args in
     let m = c.in_ok-mounted.mounted in
-    let r = c.in_ok-report.report in
+    let r = c.in_ok-made.made.report in
     let stopped : r.stopped ≡ Some c.in-Some.fault = search rules in
     run_fault _ a.target.page e a.target.options.geometry.block a.target.blocks m c.deref-4.result.now r.accepted r.places.items _ _ _ _ c.in-Some.fault _ _
-    (subst (λ s. IsMade (g.M.Maker.held a.maker.now, g.M.Maker.held c.make_image.new.maker) (image_form a.target.page e a.target.options.geometry.block a.target.blocks) m c.deref-4.result.now r.accepted r.places.items s) stopped c.in_ok-report.ensures.made)
-    (subst (λ s. IsMadeUntil (g.M.Maker.failures a.maker.now) (g.M.Maker.failures c.make_image.new.maker) s) stopped c.in_ok-report.ensures.stopped)
-    c.in_ok-report.ensures.file
+    (subst (λ s. IsMade (g.M.Maker.held a.maker.now, g.M.Maker.held c.make_image.new.maker) (image_form a.target.page e a.target.options.geometry.block a.target.blocks) m c.deref-4.result.now r.accepted r.places.items s) stopped c.in_ok-made.ensures.made)
+    (subst (λ s. IsMadeUntil (g.M.Maker.failures a.maker.now) (g.M.Maker.failures c.make_image.new.maker) s) stopped c.in_ok-made.ensures.stopped)
+    c.in_ok-made.ensures.file
 
 pub returns-clause-files : goal.returns-clause-files
 returns-clause-files g c = λ known text read are.
     let e = g.E.Order.order in
     let a = c.args in
     let m = c.in_ok-mounted.mounted in
-    let r = c.in_ok-report.report in
+    let r = c.in_ok-made.made.report in
     let mounts : Answers e a.target.options.geometry.block a.base.now (Ok m) = search rules in
     let same : c.deref-4.result.now ≡ ops_in e (part_contents a.parts.now) a.lines.items = search rules in
     let image : m.image ≡ a.base.now = search rules in
@@ -164,7 +163,7 @@ returns-clause-files g c = λ known text read are.
     let stopped : r.stopped ≡ None = search rules in
     let made : IsMade (g.M.Maker.held a.maker.now, g.M.Maker.held c.make_image.new.maker) (image_form a.target.page e a.target.options.geometry.block a.target.blocks) m (ops_in e (part_contents a.parts.now) a.lines.items) r.accepted r.places.items None =
     subst (λ (o : List Op). IsMade (g.M.Maker.held a.maker.now, g.M.Maker.held c.make_image.new.maker) (image_form a.target.page e a.target.options.geometry.block a.target.blocks) m o r.accepted r.places.items None) same
-    (subst (λ s. IsMade (g.M.Maker.held a.maker.now, g.M.Maker.held c.make_image.new.maker) (image_form a.target.page e a.target.options.geometry.block a.target.blocks) m c.deref-4.result.now r.accepted r.places.items s) stopped c.in_ok-report.ensures.made) in
+    (subst (λ s. IsMade (g.M.Maker.held a.maker.now, g.M.Maker.held c.make_image.new.maker) (image_form a.target.page e a.target.options.geometry.block a.target.blocks) m c.deref-4.result.now r.accepted r.places.items s) stopped c.in_ok-made.ensures.made) in
     let from = goes_on_from a.target.page e a.target.options.geometry.block a.target.blocks m c.in_ok-from.from at ∙ ap (λ (l : List ℕ). resume_address e a.target.options.geometry.block a.target.blocks l) image in
     let put = c.in_ok-put_accepted.ensures in
     files_of_all known _ a.target.page e a.target.options.geometry.block a.target.blocks a.base.now text a.lines.items a.parts.now m r.accepted r.places.items c.in_ok-from.from _ _ c.noted.result image from are read mounts made
@@ -175,7 +174,7 @@ returns-in_err-put_accepted-clause-files g c = λ known text read are.
     let e = g.E.Order.order in
     let a = c.args in
     let m = c.in_ok-mounted.mounted in
-    let r = c.in_ok-report.report in
+    let r = c.in_ok-made.made.report in
     let mounts : Answers e a.target.options.geometry.block a.base.now (Ok m) = search rules in
     let same : c.deref-4.result.now ≡ ops_in e (part_contents a.parts.now) a.lines.items = search rules in
     let image : m.image ≡ a.base.now = search rules in
@@ -183,7 +182,7 @@ returns-in_err-put_accepted-clause-files g c = λ known text read are.
     let stopped : r.stopped ≡ None = search rules in
     let made : IsMade (g.M.Maker.held a.maker.now, g.M.Maker.held c.make_image.new.maker) (image_form a.target.page e a.target.options.geometry.block a.target.blocks) m (ops_in e (part_contents a.parts.now) a.lines.items) r.accepted r.places.items None =
     subst (λ (o : List Op). IsMade (g.M.Maker.held a.maker.now, g.M.Maker.held c.make_image.new.maker) (image_form a.target.page e a.target.options.geometry.block a.target.blocks) m o r.accepted r.places.items None) same
-    (subst (λ s. IsMade (g.M.Maker.held a.maker.now, g.M.Maker.held c.make_image.new.maker) (image_form a.target.page e a.target.options.geometry.block a.target.blocks) m c.deref-4.result.now r.accepted r.places.items s) stopped c.in_ok-report.ensures.made) in
+    (subst (λ s. IsMade (g.M.Maker.held a.maker.now, g.M.Maker.held c.make_image.new.maker) (image_form a.target.page e a.target.options.geometry.block a.target.blocks) m c.deref-4.result.now r.accepted r.places.items s) stopped c.in_ok-made.ensures.made) in
     let from = goes_on_from a.target.page e a.target.options.geometry.block a.target.blocks m c.in_ok-from.from at ∙ ap (λ (l : List ℕ). resume_address e a.target.options.geometry.block a.target.blocks l) image in
     let put = c.in_err-put_accepted.ensures in
     files_in_part known _ a.target.page e a.target.options.geometry.block a.target.blocks a.base.now text a.lines.items a.parts.now m r.accepted r.places.items c.in_ok-from.from _ _ _ c.from_residual-in_err-put_accepted.ensures.1 from are read mounts made
@@ -194,7 +193,7 @@ returns-in-Some-clause-files g c = λ known text read are.
     let e = g.E.Order.order in
     let a = c.args in
     let m = c.in_ok-mounted.mounted in
-    let r = c.in_ok-report.report in
+    let r = c.in_ok-made.made.report in
     let mounts : Answers e a.target.options.geometry.block a.base.now (Ok m) = search rules in
     let same : c.deref-4.result.now ≡ ops_in e (part_contents a.parts.now) a.lines.items = search rules in
     let image : m.image ≡ a.base.now = search rules in
@@ -203,9 +202,11 @@ returns-in-Some-clause-files g c = λ known text read are.
     let line : c.number_at-line.result ≡ slice_get c.in_ok-numbers.numbers.items r.accepted = search rules in
     let made : IsMade (g.M.Maker.held a.maker.now, g.M.Maker.held c.make_image.new.maker) (image_form a.target.page e a.target.options.geometry.block a.target.blocks) m (ops_in e (part_contents a.parts.now) a.lines.items) r.accepted r.places.items (Some c.in-Some.fault) =
     subst (λ (o : List Op). IsMade (g.M.Maker.held a.maker.now, g.M.Maker.held c.make_image.new.maker) (image_form a.target.page e a.target.options.geometry.block a.target.blocks) m o r.accepted r.places.items (Some c.in-Some.fault)) same
-    (subst (λ s. IsMade (g.M.Maker.held a.maker.now, g.M.Maker.held c.make_image.new.maker) (image_form a.target.page e a.target.options.geometry.block a.target.blocks) m c.deref-4.result.now r.accepted r.places.items s) stopped c.in_ok-report.ensures.made) in
+    (subst (λ s. IsMade (g.M.Maker.held a.maker.now, g.M.Maker.held c.make_image.new.maker) (image_form a.target.page e a.target.options.geometry.block a.target.blocks) m c.deref-4.result.now r.accepted r.places.items s) stopped c.in_ok-made.ensures.made) in
     let shown = line ∙ (ap (λ (l : List ℕ). slice_get l r.accepted) numbers ∙ slice_get-map (λ l. l.number) a.lines.items r.accepted) in
-    files_until known _ a.target.page e a.target.options.geometry.block a.target.blocks a.base.now text a.lines.items a.parts.now m r.accepted r.places.items (g.T.Sink.taken a.sink.now) (g.T.Sink.taken a.sink.now) c.in-Some.fault _ _ shown are read mounts made
+    files_until known _ a.target.page e a.target.options.geometry.block a.target.blocks a.base.now text a.lines.items a.parts.now m r.accepted r.places.items (g.T.Sink.taken a.sink.now) (g.T.Sink.taken a.sink.now) c.in-Some.fault _ c.cause_of_run-cause.result shown are read mounts made
+    (run_cause a.target.page e a.target.options.geometry.block a.target.blocks m.image a.base.now c.deref-4.result.now (ops_in e (part_contents a.parts.now) a.lines.items) r.accepted r.stopped c.in-Some.fault
+    c.in_ok-made.made.blocks c.known_blocks-blocks.result c.reason.result c.cause_of_run-cause.result image same stopped c.in_ok-made.ensures.blocks c.known_blocks-blocks.ensures.some c.cause_of_run-cause.ensures)
 
 pub returns-in_err-mounted-clause-files : goal.returns-in_err-mounted-clause-files
 returns-in_err-mounted-clause-files g c = λ known text read are.
@@ -233,18 +234,18 @@ returns-in_err-from-clause-files g c = λ known text read are.
     files_not_resumed known _ a.target.page e a.target.options.geometry.block a.target.blocks a.base.now text a.lines.items a.parts.now m _ _ c.in_err-from.field-0.0.fault c.in_err-from.field-0.0.cause _
     refused c.from_residual-in_err-from.ensures.1 are read
 
-pub returns-in_err-report-clause-files : goal.returns-in_err-report-clause-files
-returns-in_err-report-clause-files g c = λ known text read are.
+pub returns-in_err-made-clause-files : goal.returns-in_err-made-clause-files
+returns-in_err-made-clause-files g c = λ known text read are.
     let e = g.E.Order.order in
     let a = c.args in
     let m = c.in_ok-mounted.mounted in
     let same : c.deref-4.result.now ≡ ops_in e (part_contents a.parts.now) a.lines.items = search rules in
     let image : m.image ≡ a.base.now = search rules in
     let held : Held = (g.M.Maker.held a.maker.now, g.M.Maker.held c.make_image.new.maker) in
-    let cut : HoldsCut held (image_form a.target.page e a.target.options.geometry.block a.target.blocks) m.image (ops_in e (part_contents a.parts.now) a.lines.items) c.in_err-report.field-0.0 =
-    subst (λ (o : List Op). HoldsCut held (image_form a.target.page e a.target.options.geometry.block a.target.blocks) m.image o c.in_err-report.field-0.0) same c.in_err-report.ensures.cut in
-    files_not_made known held a.target.page e a.target.options.geometry.block a.target.blocks a.target.output.now a.base.now text a.lines.items a.parts.now m _ _ c.in_err-report.field-0.0 _
-    c.from_residual-in_err-report.ensures.1 image are read c.in_err-report.ensures.fault cut
+    let cut : HoldsCut held (image_form a.target.page e a.target.options.geometry.block a.target.blocks) m.image (ops_in e (part_contents a.parts.now) a.lines.items) c.in_err-made.field-0.0 =
+    subst (λ (o : List Op). HoldsCut held (image_form a.target.page e a.target.options.geometry.block a.target.blocks) m.image o c.in_err-made.field-0.0) same c.in_err-made.ensures.cut in
+    files_not_made known held a.target.page e a.target.options.geometry.block a.target.blocks a.target.output.now a.base.now text a.lines.items a.parts.now m _ _ c.in_err-made.field-0.0 _
+    c.from_residual-in_err-made.ensures.1 image are read c.in_err-made.ensures.fault cut
 
 pub take-requires-clause-mount : goal.take-requires-clause-mount
 take-requires-clause-mount g c =
@@ -264,7 +265,7 @@ returns-clause-weak g c = λ asked.
     let e = g.E.Order.order in
     let a = c.args in
     let m = c.in_ok-mounted.mounted in
-    let r = c.in_ok-report.report in
+    let r = c.in_ok-made.made.report in
     let flash : Flash = record { geometry = a.target.options.geometry; blocks = a.target.blocks; page = a.target.page } in
     let ops : List Op = ops_in e (part_contents a.parts.now) a.lines.items in
     let first : c.deref-2.result.now ≡ ops = search rules in
@@ -274,6 +275,6 @@ returns-clause-weak g c = λ asked.
     let held : Held = (g.M.Maker.held a.maker.now, g.M.Maker.held c.make_image.new.maker) in
     let made : IsMade held (image_form a.target.page e a.target.options.geometry.block a.target.blocks) m ops r.accepted r.places.items None =
     subst (λ (o : List Op). IsMade held (image_form a.target.page e a.target.options.geometry.block a.target.blocks) m o r.accepted r.places.items None) same
-    (subst (λ s. IsMade held (image_form a.target.page e a.target.options.geometry.block a.target.blocks) m c.deref-4.result.now r.accepted r.places.items s) stopped c.in_ok-report.ensures.made) in
+    (subst (λ s. IsMade held (image_form a.target.page e a.target.options.geometry.block a.target.blocks) m c.deref-4.result.now r.accepted r.places.items s) stopped c.in_ok-made.ensures.made) in
     subst (λ (l : List ℕ). AreNotes e flash l ops c.take.new.self) image
     (noted_at e c.flash_of.result flash m c.deref-2.result.now ops c.take.new.self c.flash_of.ensures first (c.in_ok-take.ensures.noted asked) (all_taken held e flash m ops r.accepted r.places.items made))
