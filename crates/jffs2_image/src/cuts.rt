@@ -22,7 +22,7 @@ use jcommand::{Cuts, Outcome};
 use jcuts::{CutsFault, Flash, Telling, put_cuts};
 use jlisting::{Line, listing};
 use jlog::SessionFault;
-use jmount::{Mounted, Mounted, mount};
+use jmount::Mounted;
 use jnode::{Endian, Order};
 use jreport::{Cause, Plan, ProgramFault, Reason, cause_of, mount_or_tell};
 use jsteps::Op;

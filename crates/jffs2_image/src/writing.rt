@@ -16,13 +16,13 @@ ghost use Rattle.jffs2_image.specs.Tasks.{passage};
 use crate::host::{FileFault, Loader, MakeFault, Maker};
 use crate::output::Output;
 use crate::weak::Notes;
-use flashbase::{LoadFault, Sink, Sink};
+use flashbase::{LoadFault, Sink};
 use jbuild::{Emitted, Parts, emit, operations, put_accepted};
 use jcommand::Target;
 use jcuts::Flash;
 use jlisting::{Line, listing};
-use jlog::{RunReport, SessionFault, page_fits, resume_at};
-use jmount::{Mounted, Mounted, mount};
+use jlog::{SessionFault, page_fits, resume_at};
+use jmount::Mounted;
 use jnode::Order;
 use jreport::{
     Cause, Plan, ProgramFault, Reason, Refused, Unopened, cause_of, mount_or_tell, noted,
