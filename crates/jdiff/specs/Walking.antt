@@ -3,6 +3,7 @@ use Rattle.std.specs.Prelude.{◌≡◌, ℕ, ◌+◌, ◌*◌, ◌<◌, ◌&&�
 use Rattle.std.specs.BTreeSet.{BTreeSet}
 use Rattle.std.specs.Io.KnownBytes.{Appends}
 use Rattle.flashbase.specs.Device.{PutsPart, next_count}
+use Rattle.flashbase.specs.Sinks.{SinkChange}
 use Rattle.jmount.specs.Tree.{State, object, is_directory}
 use Rattle.jmount.specs.Shown.{readable, shown}
 use Rattle.jmount.specs.Find.{way_up}
@@ -104,13 +105,6 @@ pub record BothMet : Type 0 where
   pub left : BTreeSet ℕ
   pub right : BTreeSet ℕ
 
--- a sink before and after: what is known of its bytes, and how often it failed
-pub record SinkStep : Type 0 where
-  pub old : Option (List ℕ)
-  pub new : Option (List ℕ)
-  pub before : ℕ
-  pub now : ℕ
-
 -- the lines on it
 abbrev pub spot_lines : Bool → State → State → BTreeSet ℕ → BTreeSet ℕ → Spot → List (List ℕ)
 spot_lines times s t left right spot = changes times (spot_entry s (met_of left) spot.0 spot.1)
@@ -120,7 +114,7 @@ abbrev pub spot_text : Bool → State → State → BTreeSet ℕ → BTreeSet �
 spot_text times s t left right spot = flat_map (λ line. line) (spot_lines times s t left right spot)
 
 -- Its lines are put. The answer is how many, and which directories are entered.
-abbrev pub PutsSpot : Bool → State → State → BothMet → BothMet → Spot → SinkStep
+abbrev pub PutsSpot : Bool → State → State → BothMet → BothMet → Spot → SinkChange
     → Result Visited ProgramFault → Type 0
 PutsSpot times s t met after spot sink (Ok v) =
     (v.lines ≡ length (spot_lines times s t met.left met.right spot))
@@ -187,7 +181,7 @@ PutsPartOfLeft times s t w old new =
     (places : List Place) × AreLeft s t w places × PutsPart old new (text_on times places)
 
 -- `None`: nothing is still to compare. At a fault a beginning of what was to put went out.
-abbrev pub PutsPairStep : Bool → State → State → Walk → Walk → SinkStep
+abbrev pub PutsPairStep : Bool → State → State → Walk → Walk → SinkChange
     → Result (Option ℕ) ProgramFault → Type 0
 PutsPairStep times s t w w_after sink (Ok (Some n)) =
     LeavesPlaces times s t w w_after sink.old sink.new n
