@@ -43,7 +43,7 @@ fn named<'a>(
     image: &'a str,
     reason: Reason,
 ) -> Result<u64, ProgramFault<'a>>
-    ensures { NamesUnread image.entry.now answer result }
+    ensures { NamesUnread image.entry.now answer.entry result }
 {
     match answer {
         Err(ProgramFault::Load(LoadFault::Device)) => Err(ProgramFault::NotRead(Unopened {
@@ -56,7 +56,7 @@ fn named<'a>(
 
 /// Whether `check` found anything, as a number.
 fn found_number(answer: Result<bool, ProgramFault<'static>>) -> Result<u64, ProgramFault<'static>>
-    ensures { result ≡ found_answer answer }
+    ensures { result ≡ found_answer answer.entry }
 {
     match answer {
         Ok(found) => Ok(u64::from(found)),
