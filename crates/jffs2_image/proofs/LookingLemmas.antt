@@ -10,7 +10,7 @@ use Rattle.jscan.specs.declared.geometry.ScanFault.TheVariants as scan
 use Rattle.jcommand.specs.Parsed.{ScanParsed, CheckParsed, ListParsed, CatParsed}
 use Rattle.jcommand.specs.declared.parsed.Options.{Options}
 use Rattle.jreport.specs.Paths.{path_of}
-use Rattle.jreport.specs.Stream.{PutsStream}
+use Rattle.jreport.specs.Stream.{HandsBack, PutsStream}
 use Rattle.jreport.specs.WholeImage.{OfSomeImage, PutsCheck, PutsFile, PutsListing, ReadsWhole, list_request}
 use Rattle.jreport.specs.declared.faults.ProgramFault.{ProgramFault}
 use Rattle.jreport.specs.declared.faults.ProgramFault.TheVariants as program
@@ -99,6 +99,29 @@ pub whole_host : (name : List ℕ) (told rest new : Option (List ℕ)) (before o
 whole_host name told rest new before opened closed now answer result same after gives reads of named =
     reads_named name told before now answer result named (subst (λ (b : ℕ). ReadsSource told b now answer) same
     (subst (λ (n : ℕ). ReadsSource told opened n answer) (sym after) (whole_reads told rest new opened closed answer gives reads of)))
+
+-- a source that was handed back, or is gone
+pub stream_back : (told rest : Option (List ℕ)) (before opened closed now : ℕ) (answer : Result ℕ ProgramFault)
+    → opened ≡ before → now ≡ closed → GivesFile told rest → HandsBack opened (Some closed) answer
+    → (IsErrOf answer (program.Load load.TooLarge) → IfSome rest (λ image. greatest_image < length image)) → IsOfSource answer → ReadsSource told before now answer
+stream_back told rest before opened closed now (Err (program.Load load.Device)) same after gives back long of = after ∙ (back ∙ ap next_count same)
+stream_back told rest before opened closed now (Err (program.Load load.TooLarge)) same after gives back long of = (too_long told rest gives (long refl), after ∙ (back ∙ same))
+stream_back told rest before opened closed now (Err (program.Load load.OutOfMemory)) same after gives back long of = absurd back
+stream_back told rest before opened closed now (Err (program.Scan scan.BlockSize)) same after gives back long of = absurd back
+stream_back told rest before opened closed now (Err (program.File f)) same after gives back long of = absurd of
+stream_back told rest before opened closed now (Err (program.NotRead f)) same after gives back long of = absurd of
+stream_back told rest before opened closed now answer same after gives back long of = after ∙ (back ∙ same)
+
+pub stream_gone : (told : Option (List ℕ)) (before opened now : ℕ) (answer : Result ℕ ProgramFault) → now ≡ before → HandsBack opened None answer → ReadsSource told before now answer
+stream_gone told before opened now (Err (program.Scan scan.BlockSize)) same back = same
+stream_gone told before opened now (Err (program.Load load.OutOfMemory)) same back = same
+stream_gone told before opened now answer same back = absurd back
+
+pub stream_source : (e : Endian) (size : ℕ) (image : List ℕ) (sink : SinkChange) (answer : Result ℕ ProgramFault)
+    → PutsStream e size image sink answer → IsOfSource answer
+stream_source e size image sink (Err (program.File f)) puts = absurd puts
+stream_source e size image sink (Err (program.NotRead f)) puts = absurd puts
+stream_source e size image sink answer puts = tt
 
 check_reads : (e : Endian) (size : ℕ) (shape : Bool) (image : List ℕ) (sink : SinkChange) (told rest new : Option (List ℕ)) (before now : ℕ) (answer : Result Bool ProgramFault)
     → GivesFile told rest → ReadsWhole rest new before now answer → PutsCheck e size image shape sink answer → ReadsSource told before now (found_answer answer)

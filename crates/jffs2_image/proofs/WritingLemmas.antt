@@ -75,7 +75,7 @@ not_made held page e size blocks output base text m program.Output old n same mo
 not_made held page e size blocks output base text m program.OutOfMemory old n same mounts not = (tt, refl, refl)
 
 -- what was made of the lines of a listing
-pub run_on : (held : Held) (page : Page) (e : Endian) (size blocks : ℕ) (base text : List ℕ) (lines : List Line) (files : List ℕ → List ℕ) (m : Mount) (accepted : ℕ) (places : List Place) (stopped : Option SessionFault)
+abbrev pub run_on : (held : Held) (page : Page) (e : Endian) (size blocks : ℕ) (base text : List ℕ) (lines : List Line) (files : List ℕ → List ℕ) (m : Mount) (accepted : ℕ) (places : List Place) (stopped : Option SessionFault)
     → lines_of text ≡ Ok lines → Answers e size base (Ok m) → IsMade held (image_form page e size blocks) m (ops_in e files lines) accepted places stopped
     → IsRunOn held (image_form page e size blocks) base text lines accepted places stopped
 run_on held page e size blocks base text lines files m accepted places stopped read mounts made = record { mount = m; files = files; read = read; mounts = mounts; made = made }
@@ -98,7 +98,7 @@ run_cause page e size blocks image base run ops accepted stopped f answer known 
   where
     known_is : {X : Type 0} (P : Option ℕ → Type 0) (answer : Result (Option ℕ) X) (known : Option ℕ) → IfOk answer P → IfSome known (λ n. answer ≡ Ok (Some n)) → IfSome known (λ n. P (Some n))
     known_is P answer None told some = tt
-    known_is P answer (Some n) told some = subst (λ (r : Result (Option ℕ) X). IfOk r P) some told
+    known_is {X = X} P answer (Some n) told some = subst (λ (r : Result (Option ℕ) X). IfOk r P) some told
 
 -- it stopped at a line
 pub stopped_at : (held : Held) (page : Page) (e : Endian) (size blocks : ℕ) (base text : List ℕ) (lines : List Line) (accepted : ℕ) (places : List Place) (f : SessionFault) (cause : Cause)

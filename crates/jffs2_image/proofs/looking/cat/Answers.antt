@@ -1,13 +1,15 @@
-use Rattle.std.proofs.Common.{None, rules}
+use Rattle.std.proofs.Common.{◌≡◌, ◌∙◌, Some, None, ap, sym, rules}
+use Rattle.jreport.specs.Paths.{path_of}
 use Rattle.jffs2_image.proofs.LookingLemmas.{cat_meets, file_source, whole_host}
 use Rattle.jffs2_image.proofs.looking.cat.Goals as goal
 
 pub returns-clause-meets : goal.returns-clause-meets
 returns-clause-meets g c =
-    cat_meets (g.L.Loader.told c.args.loader.now) (None, None) g.E.Order.order c.args.options c.args.image.now c.args.path.now c.in_ok-path.path.items _ c.args.decompress _
-    c.file_bytes-answer.result c.named.result c.if-decompress.false (search rules) c.in_ok-source.ensures.opened c.named.ensures c.file_bytes-answer.ensures.put
+    let is : path_of c.args.path.now ≡ Some c.in_ok-path.path.items = search rules in
+    cat_meets (g.L.Loader.told c.args.loader.now) (None, None) g.E.Order.order c.args.options c.args.image.now c.args.path.now c.deref.result.now _ c.args.decompress _
+    c.file_bytes-answer.result c.named.result c.if-decompress.false (is ∙ ap Some (sym c.deref.ensures.value)) c.in_ok-source.ensures.opened c.named.ensures c.file_bytes-answer.ensures.put
 
 pub returns-clause-host : goal.returns-clause-host
 returns-clause-host g c =
     whole_host c.args.image.now _ _ _ _ _ _ _ c.file_bytes-answer.result c.named.result c.in_ok-source.ensures.counting c.close.ensures.count c.in_ok-source.ensures.opened c.file_bytes-answer.ensures.read
-    (file_source g.E.Order.order _ c.in_ok-path.path.items _ _ c.file_bytes-answer.result c.file_bytes-answer.ensures.put.2) c.named.ensures
+    (file_source g.E.Order.order _ c.deref.result.now _ _ c.file_bytes-answer.result c.file_bytes-answer.ensures.put.2) c.named.ensures

@@ -12,4 +12,4 @@ returns-clause-meets g c =
 pub returns-clause-host : goal.returns-clause-host
 returns-clause-host g c =
     whole_host c.args.image.now _ _ _ _ _ _ _ c.list_lines-answer.result c.named.result c.in_ok-source.ensures.counting c.close.ensures.count c.in_ok-source.ensures.opened c.list_lines-answer.ensures.read
-    (tree_source g.E.Order.order _ _ _ _ c.list_lines-answer.result c.list_lines-answer.ensures.put.2) c.named.ensures
+    (tree_source g.E.Order.order _ (Some c.as_slice.result.now) _ _ c.list_lines-answer.result c.list_lines-answer.ensures.put.2) c.named.ensures
