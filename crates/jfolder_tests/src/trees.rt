@@ -107,32 +107,38 @@ fn targets_that_are_none_are_left_out(rt: HostRuntime) {
 const NO_TIME: &str = "left out /o: a time before 1970 or after 2106\n";
 
 /// A time, a size and the content of a file; the listing, and the notes.
-fn bounds() -> &'static [((i64, u64, &'static str), &'static str, &'static str)] {
+fn bounds() -> &'static [(i64, u64, &'static str, &'static str, &'static str)] {
     &[
         (
-            (0, 268435456, "abc"),
+            0,
+            268435456,
+            "abc",
             "attr 755 0 0 0 0 /\nfile 0 /o host/o\n",
             "",
         ),
         (
-            (0, 268435457, ""),
+            0,
+            268435457,
+            "",
             ROOT_TEXT,
             "left out /o: more than 268435456 bytes\n",
         ),
         (
-            (4294967295, 0, ""),
+            4294967295,
+            0,
+            "",
             "attr 755 0 0 0 0 /\ntime 4294967295\nfile 0 /o host/o\n",
             "",
         ),
-        ((4294967296, 0, ""), ROOT_TEXT, NO_TIME),
-        ((-1, 0, ""), ROOT_TEXT, NO_TIME),
+        (4294967296, 0, "", ROOT_TEXT, NO_TIME),
+        (-1, 0, "", ROOT_TEXT, NO_TIME),
     ]
 }
 
 /// Files at a time and of a size, the listing, and the notes.
 #[test]
 fn times_and_sizes_have_an_end(rt: HostRuntime) {
-    for &((time, size, content), text, notes) in bounds() {
+    for &(time, size, content, text, notes) in bounds() {
         let objects = with_other(0o100000, time, size, content);
         let left_out = u64::from(!notes.is_empty());
         expect(
@@ -164,29 +170,33 @@ fn names_that_are_none_are_left_out(rt: HostRuntime) {
 }
 
 /// A path, a size and the content of a file; the listing, and the notes.
-fn unlisted() -> &'static [(
-    (&'static str, u64, &'static str),
-    &'static str,
-    &'static str,
-)] {
+fn unlisted() -> &'static [(&'static str, u64, &'static str, &'static str, &'static str)] {
     &[
         (
-            ("o", 1, UNREADABLE),
+            "o",
+            1,
+            UNREADABLE,
             ROOT_TEXT,
             "left out /o: the host refused it\n",
         ),
         (
-            ("o", 0, UNREADABLE),
+            "o",
+            0,
+            UNREADABLE,
             ROOT_TEXT,
             "left out /o: the host refused it\n",
         ),
         (
-            ("o o\n\\\u{e9}", 268435456, "o"),
+            "o o\n\\\u{e9}",
+            268435456,
+            "o",
             "attr 755 0 0 0 0 /\nfile 644 /o\\x20o\\x0a\\x5c\\xc3\\xa9 host/o\\x20o\\x0a\\x5c\\xc3\\xa9\n",
             "",
         ),
         (
-            ("o o", 268435457, "o"),
+            "o o",
+            268435457,
+            "o",
             ROOT_TEXT,
             "left out /o\\x20o: more than 268435456 bytes\n",
         ),
@@ -197,7 +207,7 @@ fn unlisted() -> &'static [(
 /// of any characters.
 #[test]
 fn files_that_are_not_listed(rt: HostRuntime) {
-    for &((path, size, text_in), text, notes) in unlisted() {
+    for &(path, size, text_in, text, notes) in unlisted() {
         let mut other = make_object(path, 0o100644, (0, 0), 0, text_in);
         other.looked.size = size;
         let objects = [make_object("", 0o040755, (0, 0), 0, ""), other];
