@@ -657,7 +657,7 @@ run build --blocks 1 none built; want 1 "" "$(unopened none)"; unmade built
 run build --blocks 1 /proc/self/mem built; want 1 "" "$(unread /proc/self/mem 'was not read to its end')"; unmade built
 lines listing 'create 0644 /b' 'file 0644 /a two\x20folders\x0a'
 mkdir $'two folders\n'
-run build --blocks 1 listing built; want 1 "" "$(unread 'two folders\\\\x0a')"; unmade built
+run build --blocks 1 listing built; want 1 "" "$(unread 'two folders\\x0a')"; unmade built
 rmdir $'two folders\n'
 run build --blocks 1 folder built; want 1 "" "$(unread folder)"; unmade built
 run build --blocks 1 larger built; want 1 "" "jffs2_image: L2 TooLarge"; unmade built
