@@ -14,7 +14,7 @@ use jsteps::{OpFault, Page};
 use std::alloc::Global;
 use std::test::Fail;
 
-const FAULTS: [(ProgramFault<'static>, &str); 26] = [
+const FAULTS: [(ProgramFault<'static>, &str); 27] = [
     (ProgramFault::Load(LoadFault::Device), "L1 Device"),
     (
         ProgramFault::NotRead(Unopened {
