@@ -48,10 +48,13 @@ fn emitted<S: Sink>(
 fn output_of(alloc: Global, row: &Row<'_>) -> Result<Vec<u8>, SessionFault> {
     match emitted(alloc, row, Taker::new(alloc)) {
         None => Err(SessionFault::OutOfMemory),
-        Some(Ok((sink, Emitted { report, .. }))) => match report.stopped {
-            None => Ok(sink.bytes),
-            Some(fault) => Err(fault),
-        },
+        Some(Ok(done)) => {
+            let (sink, emitted) = done;
+            match emitted.report.stopped {
+                None => Ok(sink.bytes),
+                Some(fault) => Err(fault),
+            }
+        }
         Some(Err((fault, _))) => Err(fault),
     }
 }
@@ -172,13 +175,10 @@ fn blocks_that_are_not_told(rt: HostRuntime) {
         text: b"create 0644 /b\n",
         told: b"",
     };
-    let Some(Ok((_sink, Emitted { report, blocks }))) = emitted(
-        rt.alloc(),
-        &row,
-        Taker::new(rt.alloc()),
-    ) else {
+    let Some(Ok(done)) = emitted(rt.alloc(), &row, Taker::new(rt.alloc())) else {
         return;
     };
+    let (_sink, Emitted { report, blocks }) = done;
     match report.stopped {
         Some(SessionFault::Full { .. }) => {
             expect(&rt, matches!(blocks, Ok(Some(2)) | Err(AllocError)));
