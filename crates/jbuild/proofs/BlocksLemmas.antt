@@ -5,10 +5,10 @@ use Rattle.std.proofs.lemmas.Option.{slice_get_within}
 use Rattle.flashbase.specs.Sinks.{SinkChange}
 use Rattle.jnode.specs.declared.order.Endian.{Endian}
 use Rattle.jsteps.specs.Nodes.{Indexed}
-use Rattle.jsteps.specs.Planning.{page_size}
+use Rattle.jscan.specs.Pages.{page_size}
 use Rattle.jsteps.specs.Refusals.{planned_by}
 use Rattle.jsteps.specs.declared.op.Op.{Op}
-use Rattle.jsteps.specs.declared.page.Page.{Page}
+use Rattle.jscan.specs.declared.page.Page.{Page}
 use Rattle.jsteps.specs.declared.step.Step.{Step}
 use Rattle.jlog.specs.Headline.{index_of_image, resume_address}
 use Rattle.jlog.specs.Places.{least_blocks}

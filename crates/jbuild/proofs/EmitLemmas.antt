@@ -5,10 +5,10 @@ use Rattle.std.specs.Io.KnownBytes.{Appends}
 use Rattle.flashbase.specs.Device.{Puts}
 use Rattle.jnode.specs.declared.order.Endian.{Endian}
 use Rattle.jsteps.specs.Nodes.{Indexed}
-use Rattle.jsteps.specs.Planning.{page_size}
+use Rattle.jscan.specs.Pages.{page_size}
 use Rattle.jsteps.specs.Refusals.{steps_of_first}
 use Rattle.jsteps.specs.declared.op.Op.{Op}
-use Rattle.jsteps.specs.declared.page.Page.{Page}
+use Rattle.jscan.specs.declared.page.Page.{Page}
 use Rattle.jlog.specs.Headline.{index_of_image, Survives}
 use Rattle.jlog.specs.Left.{front_of}
 use Rattle.jlog.specs.Session.{IsFresh, attempted}

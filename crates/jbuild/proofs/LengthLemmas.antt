@@ -12,7 +12,7 @@ use Rattle.jnode.specs.Writing.{clean_marker, filled}
 use Rattle.jnode.specs.declared.order.Endian.{Endian}
 use Rattle.jnode.proofs.WritingLemmas.{length-filled}
 use Rattle.jsteps.specs.declared.op.Op.{Op}
-use Rattle.jsteps.specs.declared.page.Page.{Page}
+use Rattle.jscan.specs.declared.page.Page.{Page}
 use Rattle.jlog.specs.Headline.{is_flash_of, resume_address}
 use Rattle.jlog.specs.Output.{gap, output}
 use Rattle.jlog.specs.Places.{place_after, end_after, end_of_all, is_writable_flash, places}

@@ -6,10 +6,10 @@ use Rattle.flashbase.specs.Sinks.{SinkChange}
 use Rattle.jnode.specs.declared.order.Endian.{Endian}
 use Rattle.jmount.specs.Mount.{Mount}
 use Rattle.jsteps.specs.Nodes.{Indexed}
-use Rattle.jsteps.specs.Planning.{page_size}
+use Rattle.jscan.specs.Pages.{page_size}
 use Rattle.jsteps.specs.Refusals.{steps_of_first}
 use Rattle.jsteps.specs.declared.op.Op.{Op}
-use Rattle.jsteps.specs.declared.page.Page.{Page}
+use Rattle.jscan.specs.declared.page.Page.{Page}
 use Rattle.jlog.specs.Headline.{index_of_image, resume_address, Survives}
 use Rattle.jlog.specs.Left.{front_of}
 use Rattle.jlog.specs.Resuming.{resumes_by}

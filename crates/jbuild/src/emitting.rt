@@ -14,8 +14,8 @@ use flashbase::{PutFault, Sink, put_all};
 use jlog::{RunReport, Session, SessionFault, page_fits, put_erased, resume_at};
 use jmount::Mounted;
 use jnode::Order;
-use jscan::Geometry;
-use jsteps::{Op, Page};
+use jscan::{Geometry, Page};
+use jsteps::Op;
 use std::alloc::{AllocError, Global};
 
 /// What a run of operations on an image did.

@@ -7,7 +7,7 @@ use jbuild::{emit, operations};
 use jlisting::listing;
 use jlog::SessionFault;
 use jmount::mount;
-use jsteps::Page;
+use jscan::Page;
 use std::alloc::Global;
 use std::test::Fail;
 use test_support::{FORBIDS, LITTLE_MARKER, MADE, Taker};

@@ -9,7 +9,7 @@ use jbuild::{Emitted, Parts, emit, operations, put_accepted};
 use jlisting::listing;
 use jlog::{RunReport, SessionFault};
 use jmount::mount;
-use jsteps::Page;
+use jscan::Page;
 use std::alloc::{AllocError, Global};
 use test_support::{MADE, Matcher, Taker};
 

@@ -6,8 +6,8 @@ use byteorder::LittleEndian;
 use jbuild::emit;
 use jlog::{SessionFault, page_fits};
 use jmount::mount;
-use jscan::Geometry;
-use jsteps::{Op, Page, Text};
+use jscan::{Geometry, Page};
+use jsteps::{Op, Text};
 use std::test::Fail;
 use test_support::Taker;
 

@@ -6,8 +6,7 @@ use jlisting::listing;
 use jlog::{RunReport, resume_at};
 use jmount::mount;
 use jnode::Order;
-use jscan::Geometry;
-use jsteps::Page;
+use jscan::{Geometry, Page};
 use std::alloc::{AllocError, Global};
 use std::test::Fail;
 

@@ -7,7 +7,7 @@ use jbuild::{Emitted, emit, operations, put_accepted};
 use jlisting::listing;
 use jlog::{Place, SessionFault};
 use jmount::mount;
-use jsteps::Page;
+use jscan::Page;
 use std::alloc::Global;
 use std::test::Fail;
 use test_support::{MADE, Taker};

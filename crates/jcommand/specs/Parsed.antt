@@ -7,9 +7,9 @@ use Rattle.clap.specs.declared.error.ErrorKind.{ErrorKind}
 use Rattle.clap.specs.declared.error.ErrorKind.TheVariants.{DisplayHelp, DisplayVersion}
 use Rattle.jnode.specs.declared.order.Endian.{Endian}
 use Rattle.jnode.specs.declared.order.Endian.TheVariants.{Little, Big}
-use Rattle.jsteps.specs.declared.page.Page.{Page}
-use Rattle.jsteps.specs.declared.page.Page.TheVariants.{P4096, P8192, P16384}
-use Rattle.jword.specs.Words.{◌>>=◌}
+use Rattle.jscan.specs.declared.page.Page.{Page}
+use Rattle.jscan.specs.declared.page.Page.TheVariants.{P4096, P8192, P16384}
+use Rattle.jline.specs.Read.{◌>>=◌}
 use Rattle.jcommand.specs.Commands.{program}
 use Rattle.jcommand.specs.declared.parsed.Options.{Options}
 use Rattle.jcommand.specs.declared.parsed.Owner.{Owner}

@@ -5,8 +5,7 @@ ghost use Rattle.jcommand.specs.Parsed.{decimal_number, endian_of, page_of, numb
 
 use clap::ArgMatches;
 use jnode::Endian;
-use jscan::Geometry;
-use jsteps::Page;
+use jscan::{Geometry, Page};
 
 /// What each subcommand is given.
 #[derive(Clone, Copy)]

@@ -13,7 +13,7 @@ use Rattle.jnode.specs.declared.order.Endian.{Endian}
 use Rattle.jmount.specs.Mount.{Mount}
 use Rattle.jsteps.specs.Nodes.{Indexed}
 use Rattle.jsteps.specs.declared.op.Op.{Op}
-use Rattle.jsteps.specs.declared.page.Page.{Page}
+use Rattle.jscan.specs.declared.page.Page.{Page}
 use Rattle.jsteps.specs.declared.step.Step.{Step}
 use Rattle.jlog.specs.Places.{end_of_all, is_writable_flash}
 use Rattle.jlog.specs.Running.{written}

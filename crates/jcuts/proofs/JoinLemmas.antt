@@ -7,7 +7,7 @@ use Rattle.std.proofs.lemmas.List.Elements.{filter-append}
 use Rattle.std.proofs.lemmas.List.Sums.{length-filter}
 use Rattle.jnode.specs.declared.order.Endian.{Endian}
 use Rattle.jsteps.specs.Nodes.{Indexed, advanced_all}
-use Rattle.jsteps.specs.Planning.{page_size}
+use Rattle.jscan.specs.Pages.{page_size}
 use Rattle.jsteps.specs.Refusals.{planned_by, plans_of, steps_of_first}
 use Rattle.jsteps.specs.declared.fault.OpFault.{OpFault}
 use Rattle.jsteps.specs.declared.op.Op.{Op}

@@ -10,10 +10,10 @@ use Rattle.jnode.specs.declared.order.Endian.{Endian}
 use Rattle.jnode.proofs.WritingLemmas.{writable_is_computed}
 use Rattle.jscan.specs.Image.{is_block_size, greatest_image}
 use Rattle.jsteps.specs.Nodes.{Indexed, node_of, advanced, advanced_all}
-use Rattle.jsteps.specs.Planning.{IsPage, page_size}
+use Rattle.jscan.specs.Pages.{IsPage, page_size}
 use Rattle.jsteps.specs.Laws.{OpFits}
 use Rattle.jsteps.specs.declared.op.Op.{Op}
-use Rattle.jsteps.specs.declared.page.Page.{Page}
+use Rattle.jscan.specs.declared.page.Page.{Page}
 use Rattle.jsteps.specs.declared.step.Step.{Step}
 use Rattle.jlog.specs.Places.{place_after, end_after, places, end_of_all, is_writable_flash}
 use Rattle.jlog.specs.Output.{output}

@@ -10,7 +10,7 @@ use Rattle.jnode.specs.declared.node.NodeRef.{NodeRef}
 use Rattle.jnode.specs.declared.order.Endian.{Endian}
 use Rattle.jmount.specs.Mounts.{plain_nodes, state, MountsAs}
 use Rattle.jsteps.specs.Steps.{bytes, after}
-use Rattle.jsteps.specs.Planning.{page_size}
+use Rattle.jscan.specs.Pages.{page_size}
 use Rattle.jsteps.specs.Refusals.{plans_of, steps_of_first}
 use Rattle.jsteps.specs.Laws.{GoesOn}
 use Rattle.jsteps.specs.declared.step.Step.{Step}

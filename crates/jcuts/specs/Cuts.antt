@@ -9,7 +9,7 @@ use Rattle.jnode.specs.declared.order.Endian.{Endian}
 use Rattle.jnode.specs.declared.order.Order.{Ghosts as OfOrder}
 use Rattle.jmount.specs.Mount.{Mount}
 use Rattle.jsteps.specs.Nodes.{Indexed, advanced_all}
-use Rattle.jsteps.specs.Planning.{page_size}
+use Rattle.jscan.specs.Pages.{page_size}
 use Rattle.jsteps.specs.Refusals.{plans_of, steps_of_first}
 use Rattle.jsteps.specs.declared.op.Op.{Op}
 use Rattle.jsteps.specs.declared.step.Step.{Step}

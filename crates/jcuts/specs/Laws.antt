@@ -6,10 +6,10 @@ use Rattle.jnode.specs.Weak.{IsLeastWeak}
 use Rattle.jnode.specs.declared.order.Endian.{Endian}
 use Rattle.jmount.specs.Mounts.{state, MountsAs}
 use Rattle.jsteps.specs.Steps.{bytes, after}
-use Rattle.jsteps.specs.Planning.{page_size}
+use Rattle.jscan.specs.Pages.{page_size}
 use Rattle.jsteps.specs.Laws.{OpFits}
 use Rattle.jsteps.specs.declared.op.Op.{Op}
-use Rattle.jsteps.specs.declared.page.Page.{Page}
+use Rattle.jscan.specs.declared.page.Page.{Page}
 use Rattle.jlog.specs.Places.{places}
 use Rattle.jlog.specs.Output.{output}
 use Rattle.jlog.specs.Left.{IsLeft, count_whole}

@@ -1,10 +1,10 @@
 -- What is told of the first operations on a base.
 use Rattle.std.specs.Prelude.{ℕ, List, take}
 use Rattle.jnode.specs.declared.order.Endian.{Endian}
-use Rattle.jsteps.specs.Planning.{page_size}
+use Rattle.jscan.specs.Pages.{page_size}
 use Rattle.jsteps.specs.Refusals.{plans_of, steps_of_first}
 use Rattle.jsteps.specs.declared.op.Op.{Op}
-use Rattle.jsteps.specs.declared.page.Page.{Page}
+use Rattle.jscan.specs.declared.page.Page.{Page}
 use Rattle.jsteps.specs.declared.step.Step.{Step}
 use Rattle.jlog.specs.Headline.{index_of_image, resume_address}
 use Rattle.jlog.specs.Running.{written}

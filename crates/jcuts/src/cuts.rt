@@ -14,8 +14,8 @@ use flashbase::Sink;
 use jlog::{Session, SessionFault};
 use jmount::Mounted;
 use jnode::Order;
-use jscan::Geometry;
-use jsteps::{Op, Page};
+use jscan::{Geometry, Page};
+use jsteps::Op;
 use std::alloc::Global;
 
 /// The flash that is written, and the page by which files are cut.

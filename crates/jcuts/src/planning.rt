@@ -1,7 +1,7 @@
 //! Planning one operation: what it would write, and where.
 
 ghost use Rattle.std.specs.Prelude.{◌≡◌, IsFalse, OnOk, IfOk, IfErr, []};
-ghost use Rattle.jsteps.specs.Planning.{page_size};
+ghost use Rattle.jscan.specs.Pages.{page_size};
 ghost use Rattle.jlog.specs.Session.{Declines};
 ghost use Rattle.jlog.specs.View.{base_of, block_size_of, blocks_of, page_of, flash_of_log, cursor_of, index_of_log, is_broken, sink_of};
 ghost use Rattle.jcuts.specs.Planning.{CanPlan, IsPlannedOp, without_sink};

@@ -1,7 +1,7 @@
 -- The lines of `damage`.
 use Rattle.std.specs.Prelude.{ℕ, List, ◌++◌, codes, decimal, Option, Some, None}
 use Rattle.jnode.specs.declared.node.Damage.{Damage}
-use Rattle.jline.specs.Forms.{damage_name}
+use Rattle.jline.specs.Damages.{damage_name}
 use Rattle.jline.specs.Paths.{path_shown}
 use Rattle.jline.specs.Words.{hex, escaped}
 use Rattle.jdamage.specs.Ways.{NameOf}

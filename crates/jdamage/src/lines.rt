@@ -1,13 +1,12 @@
 //! The lines of `damage`.
 
 ghost use Rattle.std.specs.Prelude.{◌≡◌, ◌++◌, ◌≤◌, [], OnOk, length, map, option_map};
-ghost use Rattle.jline.specs.Forms.{damage_name};
 ghost use Rattle.jdamage.specs.Lines.{hides_line, loss_line, loss_start, missing_end, missing_line, missing_start, no_path_line, nothing_line, stretch_start, totals_shown, unknown_line};
 
 use crate::fields::{Loss, Stretch};
 use crate::text::Text;
 use crate::totals::Totals;
-use jline::LineBuffer;
+use jline::{LineBuffer, damage_name};
 use jnode::Damage;
 use std::alloc::AllocError;
 
@@ -99,20 +98,6 @@ pub(crate) fn push_loss(
     text.push(b" in ")?;
     text.push_path(path)?;
     text.push(b"\n")
-}
-
-/// The check that a node fails first.
-fn damage_name(which: Damage) -> &'static [u8]
-    ensures name { result.now ≡ damage_name which }
-    ensures short { length result.now ≤ 8 }
-{
-    match which {
-        Damage::NodeCrc => b"node-crc",
-        Damage::NameCrc => b"name-crc",
-        Damage::DataCrc => b"data-crc",
-        Damage::Length => b"length",
-        Damage::Range => b"range",
-    }
 }
 
 /// The line of a node of other damage.

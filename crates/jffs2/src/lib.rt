@@ -52,7 +52,7 @@ pub use jreport::{
     ProgramFault, content, part_lines, scan_lines, stream_lines, tree_lines, verdict_lines,
 };
 pub use jscan::{
-    Counts, Extent, ExtentKind, Extents, Finding, FindingKind, GREATEST_IMAGE, Geometry, Scan,
-    ScanFault, Sightings, StreamFault, scan, scan_stream,
+    Counts, Extent, ExtentKind, Extents, Finding, FindingKind, GREATEST_IMAGE, Geometry, Page,
+    Scan, ScanFault, Sightings, StreamFault, scan, scan_stream,
 };
-pub use jsteps::{Attributes, Op, OpFault, Page, Text};
+pub use jsteps::{Attributes, Op, OpFault, Text};

@@ -16,7 +16,7 @@ use Rattle.std.proofs.lemmas.List.{take_at}
 use Rattle.std.proofs.lemmas.Option.{slice_get-map}
 use Rattle.flashbase.specs.Device.{PutsPart, next_count}
 use Rattle.jmount.specs.Mounts.{Answers}
-use Rattle.jsteps.specs.declared.page.Page.{Page}
+use Rattle.jscan.specs.declared.page.Page.{Page}
 use Rattle.jlog.specs.Headline.{is_flash_of, resume_address}
 use Rattle.jlog.specs.Resuming.{page_fits, resumes_by}
 use Rattle.jlog.specs.declared.fault.SessionFault.{SessionFault}

@@ -4,7 +4,7 @@ use Rattle.std.specs.Prelude.{IfSome, IsOk}
 use Rattle.std.specs.Io.KnownBytes.{Appends, Keeps}
 use Rattle.flashbase.specs.Sinks.{SinkChange}
 use Rattle.jnode.specs.declared.order.Endian.{Endian}
-use Rattle.jsteps.specs.declared.page.Page.{Page}
+use Rattle.jscan.specs.declared.page.Page.{Page}
 use Rattle.jlisting.specs.declared.line.Line.{Line}
 use Rattle.jlog.specs.declared.report.Place.{Place}
 use Rattle.jbuild.specs.Emitting.{IsEmitted, paged_flash}

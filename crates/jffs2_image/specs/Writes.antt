@@ -12,7 +12,7 @@ use Rattle.jsteps.specs.declared.op.Op.{Op}
 use Rattle.jlisting.specs.Broken.{IsBadLine}
 use Rattle.jlisting.specs.Listing.{file_of, lines_of}
 use Rattle.jlisting.specs.declared.line.Line.{Line}
-use Rattle.jsteps.specs.declared.page.Page.{Page}
+use Rattle.jscan.specs.declared.page.Page.{Page}
 use Rattle.jlog.specs.Headline.{resume_address}
 use Rattle.jlog.specs.Resuming.{resumes_by}
 use Rattle.jlog.specs.Session.{Flash}

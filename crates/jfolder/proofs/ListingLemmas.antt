@@ -11,7 +11,7 @@ use Rattle.std.proofs.lemmas.Str.{IsUtf8-string_bytes, is_utf8-from_IsUtf8}
 use Rattle.jline.specs.Words.{octal, word_of}
 use Rattle.jsteps.specs.declared.device.DeviceKind.{DeviceKind}
 use Rattle.jsteps.specs.declared.op.Op.TheVariants as op
-use Rattle.jword.specs.Words.{◌>>=◌}
+use Rattle.jline.specs.Read.{◌>>=◌}
 use Rattle.jlisting.specs.Listing.{lines_in, lines_of, six_operands, statement_of_words, operation, owner_word, number}
 use Rattle.jlisting.specs.declared.line.Action.{Action}
 use Rattle.jlisting.specs.declared.line.Action.TheVariants as action

@@ -9,7 +9,7 @@ use Rattle.jline.specs.Words.{octal, word_of}
 use Rattle.jsteps.specs.declared.device.DeviceKind.{DeviceKind}
 use Rattle.jsteps.specs.declared.device.DeviceKind.TheVariants.{Character, Block}
 use Rattle.jsteps.specs.declared.op.Op.TheVariants as op
-use Rattle.jword.specs.Words.{◌>>=◌}
+use Rattle.jline.specs.Read.{◌>>=◌}
 use Rattle.jlisting.specs.Listing.{five_operands, major_word, minor_word, one_operand, operation, owner_word, statement_of_words, three_operands, two_operands}
 use Rattle.jlisting.specs.Words.{device_kind_of, escaped_name_of, mode_of, text_of}
 use Rattle.jlisting.specs.declared.line.Action.{Action}

@@ -9,7 +9,7 @@ use Rattle.std.specs.Fmt.{decimal}
 use Rattle.jline.specs.Words.{hex_digit, octal, word_byte, word_of}
 use Rattle.jline.proofs.EscapeLemmas.{word_unescaped}
 use Rattle.jline.proofs.WordLemmas.{length_octal_more, octal_one_digit, octal_more}
-use Rattle.jword.specs.Words.{◌>>=◌, unescaped}
+use Rattle.jline.specs.Read.{◌>>=◌, unescaped}
 use Rattle.jlisting.specs.Words.{as_name, decimal_of, digits_from, escaped_name_of, mode_of, text_of}
 use Rattle.jlisting.proofs.NumberLemmas.{decimals_are_read_back}
 

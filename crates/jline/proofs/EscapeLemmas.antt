@@ -4,8 +4,8 @@ use Rattle.std.specs.List.{All}
 use Rattle.std.proofs.lemmas.List.Elements.{All-head, All-tail}
 use Rattle.std.proofs.lemmas.Bool.Decides.{nat_tests}
 use Rattle.jline.specs.Words.{escaped_byte, hex, hex_digit, hex_of, is_plain, word_byte, word_of}
-use Rattle.jword.specs.Words.{byte_of_digits, digit_of, pairs_of, unescaped}
-use Rattle.jword.proofs.WordLemmas.{pairs_of_pair, unescaped_escape, unescaped_plain}
+use Rattle.jline.specs.Read.{byte_of_digits, digit_of, pairs_of, unescaped}
+use Rattle.jline.proofs.ReadLemmas.{pairs_of_pair, unescaped_escape, unescaped_plain}
 
 -- ---- digits
 

@@ -1,4 +1,5 @@
 pub mod EscapeLemmas
 pub mod PathLemmas
+pub mod ReadLemmas
 pub mod TurnLemmas
 pub mod WordLemmas

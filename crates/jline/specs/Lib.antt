@@ -1,3 +1,4 @@
-pub mod Forms
+pub mod Damages
 pub mod Paths
+pub mod Read
 pub mod Words

@@ -7,7 +7,7 @@ use Rattle.std.specs.Str.{bytes_eq}
 use Rattle.std.proofs.lemmas.Bool.{false≢true}
 use Rattle.std.proofs.lemmas.Bool.Decides.{nat_tests}
 use Rattle.std.proofs.lemmas.Slice.Eq.{bytes_eq-Decides}
-use Rattle.jword.specs.Words.{◌>>=◌}
+use Rattle.jline.specs.Read.{◌>>=◌}
 use Rattle.jlisting.specs.Words.{device_kind_of, mode_of, text_of, hex_data_of, file_name_of, escaped_name_of}
 use Rattle.jlisting.specs.Listing.{is_skipped, number, owner_word, major_word, minor_word, one_operand, two_operands, three_operands, five_operands, six_operands, statement_of, statement_of_words}
 use Rattle.jlisting.specs.Broken.{words_in, operands_of, operation_operands, later_space, space_rule, operands_rule, shape_rule, form_rule, words_rule, or_return, first_broken, new_object, two_texts, a_number, an_owner, word_rule}

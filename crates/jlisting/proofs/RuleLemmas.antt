@@ -7,7 +7,7 @@ use Rattle.std.specs.Str.{bytes_eq, is_utf8}
 use Rattle.std.specs.Str.Parse.{digits_value_after, digits_value}
 use Rattle.std.specs.Char.{digit_value}
 use Rattle.std.proofs.lemmas.Bool.Decides.{nat_tests}
-use Rattle.jword.specs.Words.{unescaped, pairs_of}
+use Rattle.jline.specs.Read.{unescaped, pairs_of}
 use Rattle.jlisting.specs.Words.{as_name, of_word, is_digit, digits_from, number_of, decimal_of, mode_of, device_kind_of, text_of, hex_data_of, file_name_of, escaped_name_of}
 use Rattle.jlisting.specs.Broken.{unless, number_rule, escape_rule, data_rule, kind_rule, text_rule, name_rule, operand_rule, word_rule}
 use Rattle.jlisting.specs.declared.rule.Operand.{Operand}

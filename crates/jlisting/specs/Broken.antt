@@ -4,7 +4,7 @@ use Rattle.std.specs.List.{list_all, slice_split}
 use Rattle.std.specs.Option.{option_or}
 use Rattle.std.specs.Str.{bytes_eq, is_utf8}
 use Rattle.std.specs.Str.Parse.{digits_value}
-use Rattle.jword.specs.Words.{pairs_of, unescaped}
+use Rattle.jline.specs.Read.{pairs_of, unescaped}
 use Rattle.jlisting.specs.Words.{is_digit, device_kind_of, escaped_name_of}
 use Rattle.jlisting.specs.Listing.{is_skipped, lines_of}
 use Rattle.jlisting.specs.declared.fault.BadLine.{BadLine}

@@ -3,7 +3,7 @@ use Rattle.std.specs.Prelude.{ℕ, ◌+◌, ◌==◌, ◌||◌, Bool, List, [], 
 use Rattle.std.specs.List.{slice_split}
 use Rattle.std.specs.Str.{bytes_eq}
 use Rattle.jnode.specs.declared.order.Endian.{Endian}
-use Rattle.jword.specs.Words.{◌>>=◌}
+use Rattle.jline.specs.Read.{◌>>=◌}
 use Rattle.jsteps.specs.Device.{device_number}
 use Rattle.jsteps.specs.declared.op.Op.{Op}
 use Rattle.jsteps.specs.declared.op.Op.TheVariants as op

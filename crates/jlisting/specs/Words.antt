@@ -3,7 +3,7 @@ use Rattle.std.specs.Prelude.{ℕ, ◌+◌, ◌-◌, ◌*◌, ◌==◌, ◌&&◌
 use Rattle.std.specs.Str.{bytes_eq, is_utf8}
 use Rattle.jsteps.specs.declared.device.DeviceKind.{DeviceKind}
 use Rattle.jsteps.specs.declared.device.DeviceKind.TheVariants.{Character, Block}
-use Rattle.jword.specs.Words.{◌>>=◌, pairs_of, unescaped}
+use Rattle.jline.specs.Read.{◌>>=◌, pairs_of, unescaped}
 
 -- ---- numbers
 

@@ -1,6 +1,6 @@
 //! The forms of a line, each by the words after its first.
 
-ghost use Rattle.jword.specs.Words.{IsRead};
+ghost use Rattle.jline.specs.Read.{IsRead};
 ghost use Rattle.jlisting.specs.Listing.{time_line, owner_line, mkdir_line, create_line, file_line, device_line, fifo_line, socket_line, symlink_line, write_line, part_line, truncate_line, link_line, rename_line, replace_line, remove_line, attr_line};
 
 use crate::line::Action;
@@ -9,8 +9,8 @@ use crate::words::{
     data_word, decimal_word, device_kind_word, escaped_file_word, file_word, major_word,
     minor_word, mode_word, owner_word, text_word,
 };
+use jline::WordFault;
 use jsteps::{Attributes, Op};
-use jword::WordFault;
 use std::alloc::Global;
 
 /// `time T`: the time of what follows.

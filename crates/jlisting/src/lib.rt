@@ -7,7 +7,7 @@
 //! A listing is read in one pass, in time linear in its bytes. Its words are lent and not copied,
 //! but for those with an escape and for HEX.
 //!
-//! It is built on `jsteps` (operations) and `jword` (words that stand for bytes). Its promise to
+//! It is built on `jsteps` (operations) and `jline` (words that stand for bytes). Its promise to
 //! the program: `listing` answers the actions of the text with their lines, or the number of the
 //! first line that means nothing and the first rule that it breaks.
 //!

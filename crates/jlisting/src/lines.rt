@@ -12,7 +12,7 @@ use crate::line::Line;
 use crate::reading::read_line;
 use crate::split::split_once;
 use crate::statement::{Settings, Statement};
-use jword::WordFault;
+use jline::WordFault;
 use std::alloc::{AllocError, Global};
 
 /// The first line, and what follows it.

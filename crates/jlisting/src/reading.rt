@@ -2,7 +2,7 @@
 
 ghost use Rattle.std.specs.Prelude.{◌==◌, ◌∷◌};
 ghost use Rattle.std.specs.List.{slice_split};
-ghost use Rattle.jword.specs.Words.{IsRead};
+ghost use Rattle.jline.specs.Read.{IsRead};
 ghost use Rattle.jlisting.specs.Listing.{one_operand, two_operands, three_operands, five_operands, six_operands, statement_of, statement_of_words};
 
 use crate::forms::{
@@ -13,7 +13,7 @@ use crate::forms::{
 use crate::split::split_once;
 use crate::statement::{Settings, Statement};
 use crate::words::is_word;
-use jword::WordFault;
+use jline::WordFault;
 use std::alloc::Global;
 
 /// A line of two words.

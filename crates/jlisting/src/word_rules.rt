@@ -7,7 +7,7 @@ ghost use Rattle.jlisting.specs.Broken.{data_rule, escape_rule, kind_rule, name_
 
 use crate::rule::{Operand, WordRule};
 use crate::words::{data_word, digits, escaped_file_word, is_word, text_word};
-use jword::WordFault;
+use jline::WordFault;
 use std::alloc::{AllocError, Global};
 
 /// Whether each byte is a digit of a base.

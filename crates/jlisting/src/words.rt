@@ -2,12 +2,12 @@
 
 ghost use Rattle.std.specs.Prelude.{◌≡◌, ◌<◌, ◌≤◌, ◌^◌, ◌∷◌, Some, None, Err, IfOk, IfErr, IfSome, length, option_map};
 ghost use Rattle.std.specs.Str.{bytes_eq};
-ghost use Rattle.jword.specs.Words.{IsRead};
+ghost use Rattle.jline.specs.Read.{IsRead};
 ghost use Rattle.jlisting.specs.Words.{digits_from, number_of, decimal_of, device_kind_of, mode_of, text_of, hex_data_of, file_name_of, escaped_name_of};
 
 use crate::line::FileName;
+use jline::{WordFault, unescape, unhex};
 use jsteps::{DeviceKind, Text};
-use jword::{WordFault, unescape, unhex};
 use std::alloc::Global;
 
 /// The number that digits of a base stand for, up to a limit.

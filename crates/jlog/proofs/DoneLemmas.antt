@@ -16,7 +16,7 @@ use Rattle.jmount.specs.Tree.{State}
 use Rattle.jmount.specs.Mounts.{plain_nodes, state, MountsAs}
 use Rattle.jsteps.specs.Steps.{bytes, do_step, after}
 use Rattle.jsteps.specs.Nodes.{Indexed, node_of, nodes_of, advanced, advanced_all}
-use Rattle.jsteps.specs.Planning.{IsPage}
+use Rattle.jscan.specs.Pages.{IsPage}
 use Rattle.jsteps.specs.Refusals.{planned_by, plans_of, steps_of_first}
 use Rattle.jsteps.specs.Laws.{OpFits, GoesOn}
 use Rattle.jsteps.specs.declared.fault.OpFault.{OpFault}

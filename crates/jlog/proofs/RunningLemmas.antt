@@ -12,7 +12,7 @@ use Rattle.flashbase.proofs.BytesLemmas.{le_pad4}
 use Rattle.jnode.specs.Writing.{canonical}
 use Rattle.jnode.specs.declared.order.Endian.{Endian}
 use Rattle.jsteps.specs.Nodes.{Indexed, node_of, nodes_of, advanced, advanced_all}
-use Rattle.jsteps.specs.Planning.{IsPage}
+use Rattle.jscan.specs.Pages.{IsPage}
 use Rattle.jsteps.specs.Laws.{IsPlanned}
 use Rattle.jsteps.specs.declared.step.Step.{Step}
 use Rattle.jsteps.proofs.TakenLemmas.{advanced_all-append}

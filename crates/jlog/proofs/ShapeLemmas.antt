@@ -6,7 +6,7 @@ use Rattle.jnode.specs.declared.order.Endian.{Endian}
 use Rattle.jmount.specs.Shape.{HasShape}
 use Rattle.jsteps.specs.Steps.{sizes, after}
 use Rattle.jsteps.specs.Nodes.{Indexed, advanced_all}
-use Rattle.jsteps.specs.Planning.{IsPage}
+use Rattle.jscan.specs.Pages.{IsPage}
 use Rattle.jsteps.specs.Refusals.{steps_of_first}
 use Rattle.jsteps.specs.Laws.{IsConsistent, OpFits}
 use Rattle.jsteps.specs.declared.op.Op.{Op}

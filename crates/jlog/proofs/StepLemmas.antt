@@ -13,7 +13,7 @@ use Rattle.flashbase.proofs.BytesLemmas.{le_pad4}
 use Rattle.jnode.specs.Writing.{canonical, filled}
 use Rattle.jnode.specs.declared.order.Endian.{Endian}
 use Rattle.jsteps.specs.Nodes.{Indexed, node_of, advanced}
-use Rattle.jsteps.specs.Planning.{IsPage}
+use Rattle.jscan.specs.Pages.{IsPage}
 use Rattle.jsteps.specs.declared.step.Step.{Step}
 use Rattle.jscan.specs.Image.{is_block_size, greatest_image}
 use Rattle.jlog.specs.Places.{place_after, places, end_of_all, is_writable_flash}

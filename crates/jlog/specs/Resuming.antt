@@ -2,8 +2,8 @@
 use Rattle.std.specs.Prelude.{ℕ, ◌+◌, ◌&&◌, Bool, nat_le, if◌then◌else◌, Result, Ok, Err}
 use Rattle.jnode.specs.declared.order.Endian.{Endian}
 use Rattle.jmount.specs.Mount.{Mount}
-use Rattle.jsteps.specs.Planning.{page_size}
-use Rattle.jsteps.specs.declared.page.Page.{Page}
+use Rattle.jscan.specs.Pages.{page_size}
+use Rattle.jscan.specs.declared.page.Page.{Page}
 use Rattle.jlog.specs.Headline.{is_flash_of, resume_address}
 use Rattle.jlog.specs.declared.fault.SessionFault.{SessionFault}
 use Rattle.jlog.specs.declared.fault.SessionFault.TheVariants as fault

@@ -7,10 +7,10 @@ use Rattle.jnode.specs.declared.order.Order.{Ghosts as OfOrder}
 use Rattle.jmount.specs.Shape.{HasShape}
 use Rattle.jsteps.specs.Steps.{sizes, after}
 use Rattle.jsteps.specs.Nodes.{Indexed}
-use Rattle.jsteps.specs.Planning.{page_size}
+use Rattle.jscan.specs.Pages.{page_size}
 use Rattle.jsteps.specs.Refusals.{steps_of_first}
 use Rattle.jsteps.specs.declared.op.Op.{Op}
-use Rattle.jsteps.specs.declared.page.Page.{Page}
+use Rattle.jscan.specs.declared.page.Page.{Page}
 use Rattle.jlog.specs.Running.{log_at}
 use Rattle.jlog.specs.Session.{Flash, LogState, Applies, Runs, TellsBlocks, IsFresh, attempted}
 use Rattle.jlog.specs.Done.{GoesOnBy, SurvivesAfter, steps_on}

@@ -8,8 +8,7 @@ ghost use Rattle.jlog.specs.Resuming.{resumes_at, page_fits};
 use crate::fault::SessionFault;
 use jmount::Mounted;
 use jnode::Order;
-use jscan::{GREATEST_IMAGE, Geometry, blank_from};
-use jsteps::Page;
+use jscan::{GREATEST_IMAGE, Geometry, Page, blank_from};
 
 /// The least size of a block that is written, in bytes.
 const LEAST_WRITTEN: u32 = 8192;

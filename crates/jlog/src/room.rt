@@ -1,7 +1,8 @@
 //! Whether there is room for the nodes of steps.
 
 ghost use Rattle.std.specs.Prelude.{◌≡◌, ◌≤◌, ◌+◌, ◌*◌, ◌%◌, ℕ, IsTrue, length};
-ghost use Rattle.jsteps.specs.Planning.{IsPage, most_steps};
+ghost use Rattle.jscan.specs.Pages.{IsPage};
+ghost use Rattle.jsteps.specs.Planning.{most_steps};
 ghost use Rattle.jlog.specs.Places.{is_writable_flash, fit, last_end_within, least_blocks, needed, free};
 ghost use Rattle.jlog.specs.Running.{written, CanWriteAll, CanWriteIn};
 

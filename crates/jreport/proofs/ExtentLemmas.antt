@@ -19,7 +19,7 @@ use Rattle.jscan.specs.declared.extent.ExtentKind.{ExtentKind}
 use Rattle.jscan.specs.declared.extent.ExtentKind.TheVariants.{Tiled, Erased, OtherOrder, Dirt}
 use Rattle.jscan.specs.declared.extent.Extent.{Extent}
 use Rattle.jscan.specs.Counts.{count_in}
-use Rattle.jline.specs.Forms.{shown_name}
+use Rattle.jreport.specs.Forms.{shown_name}
 
 -- a tile has a byte of its own
 length_tiling_from : (e : Endian) (place inside : ℕ) (rest : List ℕ) → length (tiling_from e place inside rest) ≤ length rest

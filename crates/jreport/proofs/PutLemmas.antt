@@ -15,7 +15,7 @@ use Rattle.jscan.specs.declared.extent.Extent.{Extent}
 use Rattle.jscan.specs.Counts.{is_entry_tile, is_inode_tile, is_found, count_in, one_if, counted, block_counted}
 use Rattle.jscan.specs.declared.counts.Counts.{Counts}
 use Rattle.jscan.specs.declared.extent.ExtentKind.{ExtentKind}
-use Rattle.jline.specs.Forms.{block_line, extent_line}
+use Rattle.jreport.specs.Forms.{block_line, extent_line}
 use Rattle.jreport.specs.Report.{lines_of_block, CountsHaveRoom}
 use Rattle.jreport.proofs.ExtentLemmas.{count_in-le}
 

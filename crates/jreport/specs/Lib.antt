@@ -5,6 +5,7 @@ pub mod FoundIn
 pub mod Content
 pub mod ExtractionNotes
 pub mod Faults
+pub mod Forms
 pub mod WholeImage
 pub mod ListedOnce
 pub mod Notes

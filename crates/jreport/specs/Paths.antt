@@ -4,7 +4,7 @@ use Rattle.jmount.specs.declared.fault.FindFault.TheVariants as find
 use Rattle.jreport.specs.declared.faults.ProgramFault.{ProgramFault}
 use Rattle.jreport.specs.declared.faults.ProgramFault.TheVariants.{Path, OutOfMemory}
 use Rattle.jline.specs.Words.{escaped}
-use Rattle.jword.specs.Words.{unescaped}
+use Rattle.jline.specs.Read.{unescaped}
 
 -- the path that a word stands for: escapes are bytes, so an escaped slash is a separator too
 abbrev pub path_of : List ℕ → Option (List ℕ)

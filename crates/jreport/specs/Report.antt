@@ -8,7 +8,7 @@ use Rattle.jscan.specs.Image.{block_count}
 use Rattle.jscan.specs.declared.counts.Counts.{Counts}
 use Rattle.jscan.specs.declared.extent.ExtentKind.{ExtentKind}
 use Rattle.jscan.specs.declared.extent.Extent.{Extent}
-use Rattle.jline.specs.Forms.{block_line, extent_line, total_line}
+use Rattle.jreport.specs.Forms.{block_line, extent_line, total_line}
 
 -- ---- what is counted
 

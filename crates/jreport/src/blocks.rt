@@ -6,11 +6,12 @@ ghost use Rattle.jscan.specs.Counts.{block_counted, counted, no_counts};
 ghost use Rattle.jscan.specs.Extents.{extents};
 ghost use Rattle.jscan.specs.PartialScans.{HasScanned};
 ghost use Rattle.jscan.specs.declared.extent.Extent.{Extent};
-ghost use Rattle.jline.specs.Forms.{extent_line, shown_name};
+ghost use Rattle.jreport.specs.Forms.{extent_line, shown_name};
 ghost use Rattle.jreport.specs.Report.{lines_of_block, totals_line, CountsHaveRoom};
 
+use crate::forms::{write_block, write_extent, write_total};
 use flashbase::{DeviceFault, Part, Sink};
-use jline::{LineBuffer, put_text, write_block, write_extent, write_total};
+use jline::{LineBuffer, put_text};
 use jnode::Order;
 use jscan::{Counts, Extent, Extents, PartialScan};
 

@@ -4,8 +4,7 @@ ghost use Rattle.jreport.specs.Causes.{cause_of, first_limit};
 
 use crate::reason::Reason;
 use jlog::{SessionFault, page_fits};
-use jscan::{GREATEST_IMAGE, Geometry};
-use jsteps::Page;
+use jscan::{GREATEST_IMAGE, Geometry, Page};
 
 /// What a flash that is written does not keep.
 #[derive(Clone, Copy, Debug, PartialEq, Eq)]

@@ -25,6 +25,7 @@ pub mod fault_examples;
 mod faults;
 mod files;
 mod findings;
+mod forms;
 mod listing;
 mod notes;
 pub mod path_laws;

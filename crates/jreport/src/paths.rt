@@ -5,8 +5,8 @@ ghost use Rattle.jmount.specs.Find.{parts, path_names};
 ghost use Rattle.jreport.specs.Paths.{path_of, IsWordFault};
 
 use crate::faults::ProgramFault;
+use jline::{WordFault, unescape};
 use jmount::{FindFault, after_slash};
-use jword::{WordFault, unescape};
 use std::alloc::{AllocError, Global};
 
 /// The bytes that a word stands for: `\x` and two hexadecimal digits are one byte.

@@ -9,8 +9,8 @@ use jreport::{
     Cause, Limit, Plan, ProgramFault, Reason, Refused, Unopened, cause_of, fault_line, fault_lines,
     fault_text, first_limit,
 };
-use jscan::{Geometry, ScanFault};
-use jsteps::{OpFault, Page};
+use jscan::{Geometry, Page, ScanFault};
+use jsteps::OpFault;
 use std::alloc::Global;
 use std::test::Fail;
 

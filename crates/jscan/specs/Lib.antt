@@ -15,3 +15,4 @@ pub mod Scans
 pub mod PartialScans
 pub mod ImageLeft
 pub mod ImageLaws
+pub mod Pages

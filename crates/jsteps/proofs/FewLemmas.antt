@@ -7,15 +7,16 @@ use Rattle.flashbase.specs.Lists.{below}
 use Rattle.flashbase.proofs.ListLemmas.{length-below}
 use Rattle.jmount.specs.Tree.{Outline}
 use Rattle.jsteps.specs.Nodes.{Indexed}
-use Rattle.jsteps.specs.Planning.{IsPage, page_size, plain_page, spelling_len, most_steps, piece_puts, page_puts, puts, zeros_to, first_len, write_steps, resize_steps, file_steps, move_steps, size_named, steps_of}
+use Rattle.jscan.specs.Pages.{IsPage, page_size}
+use Rattle.jsteps.specs.Planning.{plain_page, spelling_len, most_steps, piece_puts, page_puts, puts, zeros_to, first_len, write_steps, resize_steps, file_steps, move_steps, size_named, steps_of}
 use Rattle.jsteps.specs.Refusals.{planned_by, greatest_size}
 use Rattle.jsteps.specs.Where.{parent, last_name, number_or_zero, is_one_entry}
 use Rattle.std.specs.declared.alloc.Global.{Global}
 use Rattle.jsteps.specs.declared.fault.OpFault.{OpFault}
 use Rattle.jsteps.specs.declared.op.Op.{Op}
 use Rattle.jsteps.specs.declared.op.Op.TheVariants as op
-use Rattle.jsteps.specs.declared.page.Page.{Page}
-use Rattle.jsteps.specs.declared.page.Page.TheVariants.{P4096, P8192, P16384}
+use Rattle.jscan.specs.declared.page.Page.{Page}
+use Rattle.jscan.specs.declared.page.Page.TheVariants.{P4096, P8192, P16384}
 use Rattle.jsteps.specs.declared.step.Step.{Step}
 use Rattle.jsteps.specs.declared.step.Step.TheVariants as step
 use Rattle.jsteps.proofs.PlanLemmas.{accepted, first_is}

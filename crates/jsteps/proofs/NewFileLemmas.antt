@@ -10,7 +10,8 @@ use Rattle.std.proofs.lemmas.List.Folds.{list_any-append}
 use Rattle.jmount.specs.Shown.{top_at}
 use Rattle.jmount.specs.Tree.{Outline}
 use Rattle.jsteps.specs.Nodes.{Indexed, node_of, nodes_of, advanced, advanced_all}
-use Rattle.jsteps.specs.Planning.{IsPage, first_len, write_steps, bytes_steps, steps_of}
+use Rattle.jscan.specs.Pages.{IsPage}
+use Rattle.jsteps.specs.Planning.{first_len, write_steps, bytes_steps, steps_of}
 use Rattle.jsteps.specs.Refusals.{is_bad_path, is_exhausted, is_long, is_past, greatest_size, planned_by}
 use Rattle.jsteps.specs.Site.{IsSiteOf}
 use Rattle.jsteps.specs.Tests.{first_refusal, full_by, listed, tests_of, file_tests}

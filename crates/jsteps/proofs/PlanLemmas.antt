@@ -11,7 +11,8 @@ use Rattle.jmount.specs.Tree.{ObjectOf, Outline, object, directory_bits}
 use Rattle.jsteps.specs.Device.{device_mode}
 use Rattle.jsteps.specs.Steps.{is_device, own_bytes}
 use Rattle.jsteps.specs.Nodes.{Indexed, object_at, advanced, advanced_all}
-use Rattle.jsteps.specs.Planning.{IsPage, plain_page, spelling_len, first_len, size_named, write_steps, make_steps, bytes_steps, file_steps, move_steps, steps_of}
+use Rattle.jscan.specs.Pages.{IsPage}
+use Rattle.jsteps.specs.Planning.{plain_page, spelling_len, first_len, size_named, write_steps, make_steps, bytes_steps, file_steps, move_steps, steps_of}
 use Rattle.jsteps.specs.Refusals.{paths, has_bad_path, is_bad_path, is_long, is_not_found, meets_nothing, meets_other, is_wrong_kind, is_into_itself, is_too_large, is_bad_mode, is_bad_target, greatest_size, is_exhausted, refusals, unless_refused, planned_by}
 use Rattle.jsteps.specs.Where.{last_name, above, parent, ends_in_directory, number_or_zero, object_named, is_missing, is_unnamed, number_reached, is_unreached, is_one_entry}
 use Rattle.jsteps.specs.Laws as law

@@ -6,7 +6,7 @@ use Rattle.jmount.specs.StateOf.{state_of}
 use Rattle.jmount.proofs.ShapePathLemmas.{shape_is_of_outline}
 use Rattle.jsteps.specs.Steps.{sizes, after}
 use Rattle.jsteps.specs.Nodes.{Indexed, index_of, nodes_of, advanced_all}
-use Rattle.jsteps.specs.Planning.{IsPage}
+use Rattle.jscan.specs.Pages.{IsPage}
 use Rattle.jsteps.specs.Refusals.{planned_by, plans_of, steps_of_first}
 use Rattle.jsteps.specs.Laws.{IsConsistent, OpFits}
 use Rattle.jmount.specs.Shape.{HasShape}

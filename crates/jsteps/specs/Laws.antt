@@ -14,7 +14,7 @@ use Rattle.jmount.specs.StateOf.{owner, version_of, top, state_of}
 use Rattle.jsteps.specs.Steps.{bytes, sizes, do_step, after, IsDefined}
 use Rattle.jsteps.specs.Nodes.{Indexed, indexed, index_of, node_of, nodes_of, advanced, advanced_all}
 use Rattle.jsteps.specs.Ready.{IsReady, AllReady, AllRoom}
-use Rattle.jsteps.specs.Planning.{IsPage}
+use Rattle.jscan.specs.Pages.{IsPage}
 use Rattle.jsteps.specs.Refusals.{planned_by, steps_of_first}
 use Rattle.jsteps.specs.declared.op.Attributes.{Attributes}
 use Rattle.jsteps.specs.declared.op.Op.{Op}

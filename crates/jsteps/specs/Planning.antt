@@ -6,24 +6,12 @@ use Rattle.jsteps.specs.Device.{device_mode}
 use Rattle.jsteps.specs.Where.{parent, last_name, number_or_zero, number_reached, object_named, is_one_entry}
 use Rattle.jsteps.specs.declared.op.Op.{Op}
 use Rattle.jsteps.specs.declared.op.Op.TheVariants as op
-use Rattle.jsteps.specs.declared.page.Page.{Page}
-use Rattle.jsteps.specs.declared.page.Page.TheVariants.{P4096, P8192, P16384}
 use Rattle.jsteps.specs.declared.step.Step.{Step}
 use Rattle.jsteps.specs.declared.step.Step.TheVariants as step
 
 -- the page of a plain plan: the bytes of one Put lie in one page of the file
 abbrev pub plain_page : ℕ
 plain_page = 4096
-
--- the pages that plans may have
-pub record IsPage (page : ℕ) : Type 0 where
-  pub least : 4096 ≤ page
-  pub most : page ≤ 16384
-
-abbrev pub page_size : Page → ℕ
-page_size P4096 = plain_page
-page_size P8192 = 8192
-page_size P16384 = 16384
 
 -- the length of a piece whose node is 0x1985 bytes long, so that its length spells the magic of a
 -- header

@@ -6,7 +6,7 @@ use Rattle.jmount.specs.Tree.{Outline, named, is_directory}
 use Rattle.jmount.specs.StateOf.{state_of}
 use Rattle.jsteps.specs.Steps.{bytes, sizes, do_step, after}
 use Rattle.jsteps.specs.Nodes.{Indexed, index_of}
-use Rattle.jsteps.specs.Planning.{IsPage}
+use Rattle.jscan.specs.Pages.{IsPage}
 use Rattle.jsteps.specs.Refusals.{planned_by, steps_of_first}
 use Rattle.jsteps.specs.Laws.{IsConsistent, OpFits, AllFit}
 use Rattle.jmount.specs.Shape.{HasShape}

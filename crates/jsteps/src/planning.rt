@@ -3,7 +3,8 @@
 ghost use Rattle.std.specs.Prelude.{◌≡◌, ◌==◌, ◌||◌, ◌&&◌, ◌≤◌, ◌+◌, ◌++◌, ℕ, nat_lt, length, [], ◌∷◌, IfOk, IfErr, Ok, Err, ◌≢◌};
 ghost use Rattle.std.specs.List.{list_any};
 ghost use Rattle.jmount.specs.Shown.{top_at};
-ghost use Rattle.jsteps.specs.Planning.{IsPage, page_size, most_steps, bytes_steps};
+ghost use Rattle.jscan.specs.Pages.{IsPage, page_size};
+ghost use Rattle.jsteps.specs.Planning.{most_steps, bytes_steps};
 ghost use Rattle.jsteps.specs.Refusals.{planned, planned_by, greatest_size};
 ghost use Rattle.jsteps.specs.Tests.{GivesPlan, made_plan, new_of, full_by, spent_by, into_itself_at};
 ghost use Rattle.jsteps.specs.declared.fault.OpFault.TheVariants as refused;
@@ -14,7 +15,6 @@ use crate::device::{DeviceKind, DeviceNumber};
 use crate::fault::OpFault;
 use crate::index::Index;
 use crate::op::{Attributes, Op};
-use crate::page::Page;
 use crate::puts::{first_len, push_resize, push_write};
 use crate::refusal::{
     tests_of_attributes, tests_of_file, tests_of_name, tests_of_new, tests_of_new_file,

@@ -1,7 +1,8 @@
 //! Operations and their answers as lines of text.
 
 use jnode::Part;
-use jsteps::{Attributes, Index, OpFault, Page, Step, plan, plan_paged};
+use jscan::Page;
+use jsteps::{Attributes, Index, OpFault, Step, plan, plan_paged};
 use std::alloc::Global;
 use std::test::Fail;
 use test_operations::{By, op_of};

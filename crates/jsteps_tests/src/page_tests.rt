@@ -3,7 +3,7 @@
 use crate::checks::{equal, equal_at};
 use crate::lines::answer_by;
 use crate::trees::{index_of, small};
-use jsteps::Page;
+use jscan::Page;
 use std::test::Fail;
 
 fn rows() -> &'static [(Page, &'static str, &'static str)] {

@@ -9,7 +9,8 @@ use Rattle.flashbase.specs.Lists.{below}
 use Rattle.flashbase.proofs.ListLemmas.{length-below}
 use Rattle.jmount.specs.Tree.{ObjectOf, State, object}
 use Rattle.jsteps.specs.Steps.{bytes, do_step, after, with_body}
-use Rattle.jsteps.specs.Planning.{IsPage, plain_page, spelling_len, piece_puts, page_puts, puts, zeros_to, write_steps}
+use Rattle.jscan.specs.Pages.{IsPage}
+use Rattle.jsteps.specs.Planning.{plain_page, spelling_len, piece_puts, page_puts, puts, zeros_to, write_steps}
 use Rattle.jsteps.specs.declared.step.Step.{Step}
 use Rattle.jsteps.specs.declared.step.Step.TheVariants as step
 use Rattle.jtree.proofs.CountLemmas.{not_above}

@@ -13,7 +13,8 @@ use Rattle.jmount.specs.Tree.{ObjectOf, State, named, object, has_bits, director
 use Rattle.jmount.proofs.NumbersLemmas.{object-state_of, named-state_of}
 use Rattle.jmount.proofs.ShapeLemmas.{walk_step}
 use Rattle.jsteps.specs.Nodes.{index_of, nodes_of}
-use Rattle.jsteps.specs.Planning.{IsPage, steps_of}
+use Rattle.jscan.specs.Pages.{IsPage}
+use Rattle.jsteps.specs.Planning.{steps_of}
 use Rattle.jsteps.specs.Refusals.{is_past, takes_attributes}
 use Rattle.jsteps.specs.Steps.{bytes, after, reattributed, with_attributes, with_permissions}
 use Rattle.jsteps.specs.declared.op.Op.{Op}

@@ -7,7 +7,8 @@ use Rattle.jmount.specs.Tree.{ObjectOf, State, object, sized, type_bits, regular
 use Rattle.jmount.specs.declared.fault.FindFault.{FindFault}
 use Rattle.jmount.proofs.ShapeLemmas.{there_of_directory}
 use Rattle.jsteps.specs.Nodes.{Indexed}
-use Rattle.jsteps.specs.Planning.{IsPage, steps_of}
+use Rattle.jscan.specs.Pages.{IsPage}
+use Rattle.jsteps.specs.Planning.{steps_of}
 use Rattle.jsteps.specs.Refusals.{is_exhausted}
 use Rattle.jsteps.specs.Where.{last_name, number_or_none, number_or_zero}
 use Rattle.jsteps.specs.declared.op.Op.TheVariants as op

@@ -12,7 +12,8 @@ use Rattle.jmount.specs.Find.{walk}
 use Rattle.jmount.specs.declared.fault.FindFault.{FindFault}
 use Rattle.jmount.proofs.ShapeLemmas.{there_of_directory}
 use Rattle.jsteps.specs.Nodes.{Indexed, nodes_of}
-use Rattle.jsteps.specs.Planning.{IsPage, bytes_steps, first_len, page_puts, piece_puts, plain_page, puts, spelling_len, steps_of, write_steps, zeros_to}
+use Rattle.jscan.specs.Pages.{IsPage}
+use Rattle.jsteps.specs.Planning.{bytes_steps, first_len, page_puts, piece_puts, plain_page, puts, spelling_len, steps_of, write_steps, zeros_to}
 use Rattle.jsteps.specs.Refusals.{is_exhausted, is_past}
 use Rattle.jsteps.specs.Laws.{OpFits}
 use Rattle.jsteps.specs.Steps.{bytes, do_step, after, is_device, own_bytes}

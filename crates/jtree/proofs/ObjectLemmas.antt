@@ -7,7 +7,7 @@ use Rattle.jnode.specs.declared.order.Endian.{Endian}
 use Rattle.jmount.specs.Find.{IsPath, path_text}
 use Rattle.jmount.specs.Tree.{ObjectOf, State, type_bits, regular_bits, directory_bits}
 use Rattle.jsteps.specs.Nodes.{Indexed}
-use Rattle.jsteps.specs.Planning.{IsPage}
+use Rattle.jscan.specs.Pages.{IsPage}
 use Rattle.jsteps.specs.Where.{names_on_path}
 use Rattle.jnode.specs.Order.{bytes_in}
 use Rattle.jnode.specs.declared.order.Endian.TheVariants.{Little, Big}

@@ -11,7 +11,7 @@ use Rattle.jmount.proofs.OutlineLemmas.{object-outline, is_directory-outline, is
 use Rattle.jmount.proofs.ShapePathLemmas.{shape_is_of_outline}
 use Rattle.jsteps.specs.Steps.{bytes, sizes, do_step, after, IsDefined}
 use Rattle.jsteps.specs.Nodes.{Indexed, advanced, advanced_all}
-use Rattle.jsteps.specs.Planning.{IsPage}
+use Rattle.jscan.specs.Pages.{IsPage}
 use Rattle.jsteps.specs.Ready.{AllReady}
 use Rattle.jsteps.specs.Refusals.{planned_by, plans_of}
 use Rattle.jsteps.specs.Laws.{IsConsistent, OpFits}

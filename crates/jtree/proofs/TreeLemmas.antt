@@ -6,7 +6,7 @@ use Rattle.std.proofs.lemmas.Bool.{false≢true}
 use Rattle.std.specs.List.{AllByRecursion}
 use Rattle.jmount.specs.Mounts.{MountsAs, plain_nodes}
 use Rattle.jsteps.specs.Laws.{OpFits}
-use Rattle.jsteps.specs.Planning.{IsPage}
+use Rattle.jscan.specs.Pages.{IsPage}
 use Rattle.jsteps.specs.Refusals.{plans_of, steps_of_first}
 use Rattle.jnode.specs.declared.order.Endian.{Endian}
 use Rattle.jlisting.specs.Listing.{lines_of}

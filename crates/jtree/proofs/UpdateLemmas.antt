@@ -15,7 +15,8 @@ use Rattle.jmount.specs.declared.fault.FindFault.{FindFault}
 use Rattle.jsteps.specs.Device.{device_mode}
 use Rattle.jsteps.specs.Steps.{is_device, own_bytes, bytes, do_step, after, renamed, rewritten, with_body, with_attributes, reattributed}
 use Rattle.jsteps.specs.Nodes.{Indexed}
-use Rattle.jsteps.specs.Planning.{IsPage, spelling_len, first_len, piece_puts, page_puts, puts, zeros_to, write_steps, make_steps, file_steps, move_steps, steps_of}
+use Rattle.jscan.specs.Pages.{IsPage}
+use Rattle.jsteps.specs.Planning.{spelling_len, first_len, piece_puts, page_puts, puts, zeros_to, write_steps, make_steps, file_steps, move_steps, steps_of}
 use Rattle.jsteps.specs.Where.{above, last_name, named_there, number_or_zero, object_named, parent, is_one_entry}
 use Rattle.jsteps.specs.Laws.{IsConsistent}
 use Rattle.jsteps.specs.declared.device.DeviceKind.{DeviceKind}

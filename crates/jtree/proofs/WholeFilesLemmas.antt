@@ -11,7 +11,7 @@ use Rattle.jmount.specs.Tree.{State, outline, named, is_directory, has_bits, dir
 use Rattle.jmount.proofs.ShapeLemmas.{walk_begins, same_ok}
 use Rattle.jsteps.specs.Steps.{bytes, after}
 use Rattle.jsteps.specs.Nodes.{Indexed, index_of, advanced_all}
-use Rattle.jsteps.specs.Planning.{IsPage}
+use Rattle.jscan.specs.Pages.{IsPage}
 use Rattle.jsteps.specs.Refusals.{planned_by, plans_of, steps_of_first}
 use Rattle.jsteps.specs.Laws.{IsConsistent, OpFits}
 use Rattle.jsteps.specs.declared.fault.OpFault.{OpFault}

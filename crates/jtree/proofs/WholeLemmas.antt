@@ -9,7 +9,7 @@ use Rattle.jnode.specs.declared.order.Endian.{Endian}
 use Rattle.jmount.specs.Find.{IsPath}
 use Rattle.jmount.specs.Tree.{ObjectOf, State}
 use Rattle.jsteps.specs.Nodes.{Indexed, advanced_all}
-use Rattle.jsteps.specs.Planning.{IsPage}
+use Rattle.jscan.specs.Pages.{IsPage}
 use Rattle.jsteps.specs.Steps.{bytes, after}
 use Rattle.jsteps.specs.Where.{names_on_path}
 use Rattle.jlisting.specs.declared.line.Action.{Action}

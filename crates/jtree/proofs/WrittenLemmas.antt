@@ -13,10 +13,10 @@ use Rattle.jmount.specs.Mounts.{MountsAs, plain_nodes}
 use Rattle.jmount.specs.Tree.{State}
 use Rattle.jsteps.specs.Laws.{GoesOn}
 use Rattle.jsteps.specs.Nodes.{Indexed, index_of}
-use Rattle.jsteps.specs.Planning.{page_size}
+use Rattle.jscan.specs.Pages.{page_size}
 use Rattle.jsteps.specs.Refusals.{plans_of, steps_of_first}
 use Rattle.jsteps.specs.declared.op.Op.{Op}
-use Rattle.jsteps.specs.declared.page.Page.{Page}
+use Rattle.jscan.specs.declared.page.Page.{Page}
 use Rattle.jsteps.specs.declared.step.Step.{Step}
 use Rattle.jsteps.proofs.FewLemmas.{sizes_are_pages}
 use Rattle.jsteps.proofs.GoesOnLemmas.{planned_goes_on}

@@ -5,7 +5,7 @@ use Rattle.jnode.specs.Writing.{canonical}
 use Rattle.jnode.specs.declared.order.Endian.{Endian}
 use Rattle.jmount.specs.Mounts.{MountsAs, plain_nodes}
 use Rattle.jmount.specs.Tree.{State}
-use Rattle.jsteps.specs.Planning.{IsPage}
+use Rattle.jscan.specs.Pages.{IsPage}
 use Rattle.jsteps.specs.Refusals.{steps_of_first}
 use Rattle.jsteps.specs.declared.op.Op.{Op}
 use Rattle.jlisting.specs.Listing.{lines_of}

@@ -3,7 +3,7 @@ use Rattle.std.specs.Prelude.{◌≡◌, ℕ, List, [], length, Ok}
 use Rattle.jnode.specs.declared.order.Endian.{Endian}
 use Rattle.jmount.specs.StateOf.{state_of}
 use Rattle.jsteps.specs.Nodes.{index_of, nodes_of}
-use Rattle.jsteps.specs.Planning.{IsPage}
+use Rattle.jscan.specs.Pages.{IsPage}
 use Rattle.jsteps.specs.Refusals.{plans_of, steps_of_first}
 use Rattle.jsteps.specs.Steps.{bytes, after}
 use Rattle.jsteps.specs.declared.op.Op.{Op}

@@ -11,7 +11,7 @@ use Rattle.jmount.specs.StateOf.{state_of}
 use Rattle.jmount.specs.Tree.{ObjectOf, State, object, named, is_directory, has_bits, regular_bits}
 use Rattle.jsteps.specs.Laws.{AllFit, OpFits}
 use Rattle.jsteps.specs.Nodes.{index_of}
-use Rattle.jsteps.specs.Planning.{IsPage}
+use Rattle.jscan.specs.Pages.{IsPage}
 use Rattle.jsteps.specs.Refusals.{steps_of_first}
 use Rattle.jsteps.specs.Steps.{bytes, after}
 use Rattle.jsteps.specs.declared.op.Op.{Op}

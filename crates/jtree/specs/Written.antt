@@ -4,7 +4,7 @@ use Rattle.jnode.specs.declared.order.Endian.{Endian}
 use Rattle.jmount.specs.Mount.{Mount}
 use Rattle.jmount.specs.Mounts.{Answers, MountsAs}
 use Rattle.jmount.specs.Tree.{State}
-use Rattle.jsteps.specs.declared.page.Page.{Page}
+use Rattle.jscan.specs.declared.page.Page.{Page}
 use Rattle.jlisting.specs.Listing.{lines_of}
 use Rattle.jlisting.specs.declared.line.Line.{Line}
 use Rattle.jlog.specs.Resuming.{resumes_by}

@@ -2,7 +2,7 @@ use Rattle.std.proofs.Common.{rules, ◌≡◌, [], Ok, subst, sym, ◌∙◌}
 use Rattle.jlog.specs.Resuming.{resumes_at, resumes_by}
 use Rattle.std.proofs.Common.{List, ℕ}
 use Rattle.std.specs.Io.KnownBytes.{Appends}
-use Rattle.jsteps.specs.Planning.{page_size}
+use Rattle.jscan.specs.Pages.{page_size}
 use Rattle.jlog.proofs.Parts.{RunsBy, flash_by, state_by}
 use Rattle.jlog.specs.Left.{front_of}
 use Rattle.std.specs.Prelude.{Option, IsOk}

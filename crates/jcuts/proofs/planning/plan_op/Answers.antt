@@ -1,6 +1,6 @@
 use Rattle.std.proofs.Common.{◌∙◌, ℕ, List, Some, [], refl, sym, ap, subst}
 use Rattle.std.proofs.lemmas.Result.{IfOk-from_err, err_from_is_err_and}
-use Rattle.jsteps.specs.Planning.{page_size}
+use Rattle.jscan.specs.Pages.{page_size}
 use Rattle.jsteps.proofs.FewLemmas.{sizes_are_pages}
 use Rattle.jlog.specs.Session.{Declines}
 use Rattle.jlog.specs.View.{block_size_of, blocks_of, page_of, cursor_of, index_of_log, is_broken, sink_of}

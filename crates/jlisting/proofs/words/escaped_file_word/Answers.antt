@@ -4,7 +4,7 @@ use Rattle.std.specs.Str.{IsUtf8, is_utf8}
 use Rattle.std.proofs.lemmas.Bool.{false≢true}
 use Rattle.std.specs.declared.alloc.Global.{Global}
 use Rattle.std.proofs.lemmas.Str.{IsUtf8-string_bytes, is_utf8-from_IsUtf8}
-use Rattle.jword.specs.Words.{unescaped}
+use Rattle.jline.specs.Read.{unescaped}
 use Rattle.jlisting.proofs.WordLemmas.{unescaped_all_plain, plain_is_read, name_is_read, text_is_name, none_is_name}
 use Rattle.jlisting.proofs.words.escaped_file_word.Goals as goal
 

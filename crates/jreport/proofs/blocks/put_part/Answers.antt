@@ -11,7 +11,7 @@ use Rattle.jscan.specs.ExtentsLeft.{extents_left}
 use Rattle.jscan.specs.declared.extent.Extent.{Extent}
 use Rattle.jscan.specs.Counts.{block_counted, counted}
 use Rattle.jscan.specs.declared.counts.Counts.{Counts}
-use Rattle.jline.specs.Forms.{block_line, extent_line}
+use Rattle.jreport.specs.Forms.{block_line, extent_line}
 use Rattle.jreport.specs.Report.{lines_of_block}
 use Rattle.jreport.proofs.ExtentLemmas.{short_extents, length_extents}
 use Rattle.jreport.proofs.PutLemmas.{turn, all_given, puts_err, lines_more, part_of_lines, split_behind, block_counted_more, counted_has_room}

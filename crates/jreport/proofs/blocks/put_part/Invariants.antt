@@ -5,7 +5,7 @@ use Rattle.std.specs.Io.KnownBytes.{Appends}
 use Rattle.jscan.specs.Counts.{block_counted}
 use Rattle.jscan.specs.PartialScans.{HasScanned}
 use Rattle.jscan.specs.declared.extent.Extent.{Extent}
-use Rattle.jline.specs.Forms.{block_line, extent_line}
+use Rattle.jreport.specs.Forms.{block_line, extent_line}
 use Rattle.jreport.proofs.blocks.put_part.Given as goal
 
 abbrev pub invariant-loop-extent : goal.invariant-loop-extent

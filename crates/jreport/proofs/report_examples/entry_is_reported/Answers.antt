@@ -8,7 +8,7 @@ use Rattle.jnode.specs.Reading.{seen_of, entry_seen, inode_seen, passed_seen, pl
 use Rattle.jscan.specs.Tiling.{tile_at}
 use Rattle.jscan.specs.Extents.{class_of, extents_from}
 use Rattle.jline.specs.Words.{hex}
-use Rattle.jline.specs.Forms.{block_line, extent_line}
+use Rattle.jreport.specs.Forms.{block_line, extent_line}
 use Rattle.jreport.specs.Report.{block_lines, scan_text}
 use Rattle.jreport.proofs.report_examples.entry_is_reported.Goals as goal
 

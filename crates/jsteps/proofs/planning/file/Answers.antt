@@ -1,7 +1,8 @@
 use Rattle.std.proofs.Common.{◌≡◌, ◌∙◌, refl, sym, ap, subst, ◌+◌, ◌≤◌, ◌++◌, [], ◌∷◌, ℕ, List, Result, arith}
 use Rattle.std.specs.Prelude.{length, nat_lt}
 use Rattle.jsteps.specs.Nodes.{Indexed}
-use Rattle.jsteps.specs.Planning.{IsPage, bytes_steps}
+use Rattle.jscan.specs.Pages.{IsPage}
+use Rattle.jsteps.specs.Planning.{bytes_steps}
 use Rattle.jsteps.specs.Refusals.{greatest_size, planned_by}
 use Rattle.jsteps.specs.Site.{IsSiteOf}
 use Rattle.jsteps.specs.declared.fault.OpFault.{OpFault}

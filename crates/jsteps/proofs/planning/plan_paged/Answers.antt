@@ -1,5 +1,5 @@
 use Rattle.std.proofs.Common.{rules}
-use Rattle.jsteps.specs.Planning.{page_size}
+use Rattle.jscan.specs.Pages.{page_size}
 use Rattle.jsteps.proofs.FewLemmas.{few_of, sizes_are_pages}
 use Rattle.jsteps.proofs.planning.plan_paged.Goals as goal
 

@@ -1,6 +1,6 @@
 use Rattle.std.proofs.Common.{List, subst, sym}
 use Rattle.jsteps.specs.declared.step.Step.{Step}
-use Rattle.jsteps.specs.Planning.{page_size}
+use Rattle.jscan.specs.Pages.{page_size}
 use Rattle.jsteps.proofs.FewLemmas.{sizes_are_pages}
 use Rattle.jlog.specs.Running.{CanWriteAll}
 use Rattle.jlog.specs.Session.{IsGoing}

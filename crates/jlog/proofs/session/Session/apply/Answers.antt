@@ -1,5 +1,5 @@
 use Rattle.std.proofs.Common.{rules, ◌≡◌, [], ◌∷◌, ◌++◌, take, Ok, Err, sym}
-use Rattle.jsteps.specs.Planning.{page_size}
+use Rattle.jscan.specs.Pages.{page_size}
 use Rattle.jsteps.proofs.FewLemmas.{sizes_are_pages}
 use Rattle.jlog.proofs.SurviveLemmas.{apply_survives, apply_goes_on, moved}
 use Rattle.jlog.proofs.ShapeLemmas.{apply_keeps_shape}

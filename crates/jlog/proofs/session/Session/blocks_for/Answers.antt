@@ -1,7 +1,7 @@
 use Rattle.std.proofs.Common.{rules, List, subst, sym}
 use Rattle.std.specs.Prelude.{IsFalse}
 use Rattle.jsteps.specs.declared.step.Step.{Step}
-use Rattle.jsteps.specs.Planning.{page_size}
+use Rattle.jscan.specs.Pages.{page_size}
 use Rattle.jsteps.proofs.FewLemmas.{sizes_are_pages}
 use Rattle.jlog.specs.Running.{CanWriteAll}
 use Rattle.jlog.specs.Session.{IsGoing}

@@ -1,7 +1,7 @@
 use Rattle.std.proofs.Common.{◌≡◌, ◌+◌, Ok, subst, true}
 use Rattle.std.proofs.lemmas.Bool.{leb-true}
 use Rattle.flashbase.specs.Ranges.{AreBytes}
-use Rattle.jsteps.specs.Planning.{page_size}
+use Rattle.jscan.specs.Pages.{page_size}
 use Rattle.jlog.specs.Resuming.{resumes_at, page_fits}
 use Rattle.jlog.proofs.ResumeLemmas.{resumed_by, fresh_by}
 use Rattle.jlog.proofs.SurviveLemmas.{fresh_has_done}

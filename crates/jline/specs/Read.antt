@@ -1,7 +1,7 @@
 -- The bytes that a word of text stands for.
 use Rattle.std.specs.Prelude.{◌≡◌, Result, Ok, Err, ℕ, ◌+◌, ◌-◌, ◌*◌, ◌==◌, ◌&&◌, Bool, nat_le, List, [], ◌∷◌, Option, Some, None, option_map, option_and_then, if◌then◌else◌}
-use Rattle.jword.specs.declared.fault.WordFault.{WordFault}
-use Rattle.jword.specs.declared.fault.WordFault.TheVariants.{Invalid, OutOfMemory}
+use Rattle.jline.specs.declared.fault.WordFault.{WordFault}
+use Rattle.jline.specs.declared.fault.WordFault.TheVariants.{Invalid, OutOfMemory}
 
 -- one reading after another, where each may find nothing
 infixl 10 ◌>>=◌

@@ -1,7 +1,7 @@
 //! Into which pages a file is cut.
 
 ghost use Rattle.std.specs.Prelude.{◌≡◌};
-ghost use Rattle.jsteps.specs.Planning.{IsPage, page_size};
+ghost use Rattle.jscan.specs.Pages.{IsPage, page_size};
 
 /// The page of a file: the bytes of one node lie in one page. Linux takes that of the device's
 /// memory (`jffs2_write_inode_range` of `fs/jffs2/write.c`), most often of 4,096 bytes, and

@@ -1,14 +1,14 @@
 //! Words of hexadecimal digits.
 
 ghost use Rattle.std.specs.Prelude.{◌≡◌, ◌<◌, ◌∷◌, Some, None, IfOk, IfErr, IfSome, length, option_map};
-ghost use Rattle.jword.specs.Words.{IsFaultOf, pairs_of};
+ghost use Rattle.jline.specs.Read.{IsFaultOf, pairs_of};
 
 use crate::digits::byte_of;
 use crate::fault::WordFault;
 use std::alloc::Global;
 
 /// The first byte of pairs of hexadecimal digits, and the rest of them.
-#[tactic(auto, using(crate::proofs::WordLemmas::pairs_of_pair))]
+#[tactic(auto, using(crate::proofs::ReadLemmas::pairs_of_pair))]
 fn next_pair(word: &[u8]) -> Option<(u8, &[u8])>
     requires { 0 < length word.now }
     ensures some { IfSome result

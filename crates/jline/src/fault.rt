@@ -1,7 +1,7 @@
 //! Why a word is not read.
 
 ghost use Rattle.std.specs.Prelude.{◌≡◌};
-ghost use Rattle.jword.specs.declared.fault.WordFault.TheVariants.{OutOfMemory};
+ghost use Rattle.jline.specs.declared.fault.WordFault.TheVariants.{OutOfMemory};
 
 use std::alloc::{AllocError, AllocFailed};
 use thiserror::Error;

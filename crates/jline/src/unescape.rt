@@ -1,14 +1,14 @@
 //! Words with escapes.
 
 ghost use Rattle.std.specs.Prelude.{◌≡◌, ◌<◌, ◌∷◌, Some, None, IfOk, IfErr, IfSome, length, option_map};
-ghost use Rattle.jword.specs.Words.{IsFaultOf, unescaped};
+ghost use Rattle.jline.specs.Read.{IsFaultOf, unescaped};
 
 use crate::digits::byte_of;
 use crate::fault::WordFault;
 use std::alloc::Global;
 
 /// What is after a backslash: the byte that it begins, and the rest of the word.
-#[tactic(auto, using(crate::proofs::WordLemmas::unescaped_escape))]
+#[tactic(auto, using(crate::proofs::ReadLemmas::unescaped_escape))]
 fn escaped_byte(behind: &[u8]) -> Option<(u8, &[u8])>
     ensures some { IfSome result
         (λ r. unescaped (92 ∷ behind.now) ≡ option_map (λ bytes. r.0 ∷ bytes) (unescaped r.1.now)) }
@@ -25,7 +25,7 @@ fn escaped_byte(behind: &[u8]) -> Option<(u8, &[u8])>
 }
 
 /// The first byte that a word stands for, and the rest of the word.
-#[tactic(auto, using(crate::proofs::WordLemmas::unescaped_plain))]
+#[tactic(auto, using(crate::proofs::ReadLemmas::unescaped_plain))]
 fn next_byte(word: &[u8]) -> Option<(u8, &[u8])>
     requires { 0 < length word.now }
     ensures some { IfSome result

@@ -1,7 +1,7 @@
 //! Hexadecimal digits.
 
 ghost use Rattle.std.specs.Prelude.{◌≡◌};
-ghost use Rattle.jword.specs.Words.{byte_of_digits, digit_of};
+ghost use Rattle.jline.specs.Read.{byte_of_digits, digit_of};
 
 /// What a hexadecimal digit stands for, in either case.
 fn digit(byte: u8) -> Option<u8>

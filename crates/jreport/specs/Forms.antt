@@ -1,7 +1,6 @@
 -- The lines that `check --scan` prints, each as a function of what it tells of.
 use Rattle.std.specs.Prelude.{ℕ, List, [], ◌++◌, codes, decimal}
 use Rattle.jnode.specs.declared.node.Damage.{Damage}
-use Rattle.jnode.specs.declared.node.Damage.TheVariants as damage
 use Rattle.jnode.specs.declared.node.Dirent.{Dirent}
 use Rattle.jnode.specs.declared.node.Fill.{Fill}
 use Rattle.jnode.specs.declared.node.Fill.TheVariants as fill
@@ -11,6 +10,7 @@ use Rattle.jnode.specs.declared.node.Seen.TheVariants as seen
 use Rattle.jscan.specs.declared.extent.ExtentKind.{ExtentKind}
 use Rattle.jscan.specs.declared.extent.ExtentKind.TheVariants.{Tiled, Erased, OtherOrder, Dirt}
 use Rattle.jscan.specs.declared.extent.Extent.{Extent}
+use Rattle.jline.specs.Damages.{damage_name}
 use Rattle.jline.specs.Words.{hex, octal, escaped}
 
 -- ---- the line forms
@@ -53,13 +53,6 @@ inode_line addr n i = line_start addr (codes "inode") n ++ codes " ino " ++ deci
 abbrev pub compressed_line : ℕ → ℕ → ℕ → List ℕ
 compressed_line addr n compr =
     line_start addr (codes "compressed") n ++ codes " compr " ++ decimal compr ++ codes "\n"
-
-abbrev pub damage_name : Damage → List ℕ
-damage_name damage.NodeCrc = codes "node-crc"
-damage_name damage.NameCrc = codes "name-crc"
-damage_name damage.DataCrc = codes "data-crc"
-damage_name damage.Length = codes "length"
-damage_name damage.Range = codes "range"
 
 abbrev pub damaged_line : ℕ → ℕ → Damage → List ℕ
 damaged_line addr n which =

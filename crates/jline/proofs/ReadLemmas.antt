@@ -1,7 +1,7 @@
 -- Words, byte by byte.
 use Rattle.std.proofs.Common.{◌≡◌, ◌≢◌, ℕ, List, [], ◌∷◌, ◌++◌, ap, sym, ◌∙◌, append_assoc, Option, Some, None, option_map, arith}
 use Rattle.std.proofs.lemmas.Grind.{common_steps}
-use Rattle.jword.specs.Words.{unescaped, pairs_of, byte_of_digits, and_byte}
+use Rattle.jline.specs.Read.{unescaped, pairs_of, byte_of_digits, and_byte}
 
 pub unescaped_plain : (a : ℕ) (word : List ℕ) → a ≢ 92 → unescaped (a ∷ word) ≡ option_map (λ (bytes : List ℕ). a ∷ bytes) (unescaped word)
 unescaped_plain a [] plain = grind (arith, common_steps)

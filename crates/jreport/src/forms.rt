@@ -2,15 +2,15 @@
 //! buffer had.
 
 ghost use Rattle.std.specs.Prelude.{◌≡◌, ◌≤◌, length};
-ghost use Rattle.jline.specs.Forms.{block_line, line_start, plain_line, typed_line, entry_line, fill_name, inode_line, compressed_line, damage_name, damaged_line, total_line, seen_line, kind_line, extent_line, shown_name};
+ghost use Rattle.jreport.specs.Forms.{block_line, line_start, plain_line, typed_line, entry_line, fill_name, inode_line, compressed_line, damaged_line, total_line, seen_line, kind_line, extent_line, shown_name};
 
-use crate::line::LineBuffer;
+use jline::{LineBuffer, damage_name};
 use jnode::{Damage, Dirent, Fill, InodeNode, Seen};
 use jscan::{Extent, ExtentKind};
 
 /// The line before those of block `k`.
 #[tactic(auto, unfolding(crate::specs::Forms::block_line))]
-pub fn write_block(line: &mut LineBuffer, k: u64)
+pub(crate) fn write_block(line: &mut LineBuffer, k: u64)
     ensures { line.new ≡ block_line k }
 {
     line.clear();
@@ -115,20 +115,6 @@ fn write_compressed(line: &mut LineBuffer, addr: u32, len: u32, compr: u8)
     line.push_text(b"\n");
 }
 
-/// The check that a node fails first.
-fn damage_name(which: Damage) -> &'static [u8]
-    ensures name { result.now ≡ damage_name which }
-    ensures short { length result.now ≤ 8 }
-{
-    match which {
-        Damage::NodeCrc => b"node-crc",
-        Damage::NameCrc => b"name-crc",
-        Damage::DataCrc => b"data-crc",
-        Damage::Length => b"length",
-        Damage::Range => b"range",
-    }
-}
-
 /// The line of a node that fails one of its checks.
 fn write_damaged(line: &mut LineBuffer, addr: u32, len: u32, which: Damage)
     ensures { line.new ≡ damaged_line addr len which }
@@ -161,7 +147,7 @@ fn write_seen(line: &mut LineBuffer, addr: u32, len: u32, seen: &Seen<'_>)
 
 /// The line of an extent.
 #[tactic(auto, unfolding(crate::specs::Forms::extent_line))]
-pub fn write_extent(line: &mut LineBuffer, extent: &Extent<'_>)
+pub(crate) fn write_extent(line: &mut LineBuffer, extent: &Extent<'_>)
     requires { length (shown_name extent.now.kind) ≤ 255 }
     ensures { line.new ≡ extent_line extent.now }
 {
@@ -175,7 +161,13 @@ pub fn write_extent(line: &mut LineBuffer, extent: &Extent<'_>)
 }
 
 /// The last line.
-pub fn write_total(line: &mut LineBuffer, blocks: u64, entries: u64, inodes: u64, findings: u64)
+pub(crate) fn write_total(
+    line: &mut LineBuffer,
+    blocks: u64,
+    entries: u64,
+    inodes: u64,
+    findings: u64,
+)
     ensures { line.new ≡ total_line blocks entries inodes findings }
 {
     line.clear();

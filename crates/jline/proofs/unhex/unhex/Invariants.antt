@@ -1,6 +1,6 @@
 use Rattle.std.proofs.Common.{◌≡◌, ◌++◌, List, option_map, length, ℕ}
-use Rattle.jword.specs.Words.{pairs_of}
-use Rattle.jword.proofs.hex.unhex.Given as goal
+use Rattle.jline.specs.Read.{pairs_of}
+use Rattle.jline.proofs.unhex.unhex.Given as goal
 
 abbrev pub invariant-loop-left : goal.invariant-loop-left
 invariant-loop-left l = pairs_of l.word ≡ option_map (λ (more : List ℕ). l.bytes.items ++ more) (pairs_of l.left)
