@@ -1,4 +1,4 @@
--- What goes out without nodes that clash is an image of those that stay.
+-- Nodes with their addresses, and what holds of those that stay.
 use Rattle.std.proofs.Common.{◌≡◌, ℕ, ◌<◌, List, [], ◌∷◌, arith, length, map, filter_map, refl, sym, ap, ap₂, subst, ◌∙◌, Option, None, Some, Err, option_map, Contains, ⊎_elim}
 use Rattle.std.specs.Prelude.{IsTrue, IsFalse}
 use Rattle.std.specs.List.{cons_option, AllByRecursion}
@@ -9,23 +9,17 @@ use Rattle.jnode.specs.declared.node.Seen.{Seen}
 use Rattle.jnode.specs.declared.order.Endian.{Endian}
 use Rattle.jscan.specs.Image.{sightings}
 use Rattle.jscan.proofs.AddressLaws.{sightings_ascend}
-use Rattle.jmount.specs.StateOf.{state_of}
-use Rattle.jmount.specs.Tree.{is_directory}
 use Rattle.jmount.proofs.FaultLemmas.{Rises, rises, ascends_from_splits}
 use Rattle.jclash.specs.Parting.{AreByAddress, Parts}
 use Rattle.jclash.specs.declared.parting.LeftOut.{LeftOut}
-use Rattle.jclash.proofs.PartLemmas.{staying_do_not_clash}
 use Rattle.jlog.specs.Laws.{FitsBlock}
-use Rattle.jlog.specs.LeftLaws.{IsStorable, AreStorable}
 use Rattle.jlog.specs.Places.{end_of_all}
 use Rattle.jlog.proofs.IntactLemmas.{output_is_long}
-use Rattle.jlog.proofs.AnewLemmas.{output_is_image, output_is_sound, output_mounts}
 use Rattle.jexpand.specs.Expanded.{expanded_node, expanded_nodes}
 use Rattle.jconvert.specs.Apart.{located_node, located_nodes, image_of_nodes}
-use Rattle.jconvert.specs.ApartLaws.{LocatedAreByAddress, LocatedAreExpanded, IsParted, ApartIsImage, ApartMounts, ApartHasNoRoot}
-use Rattle.jconvert.specs.Converting.{convert_fault, greatest_blocks}
+use Rattle.jconvert.specs.ApartLaws.{LocatedAreByAddress, LocatedAreExpanded}
+use Rattle.jconvert.specs.Converting.{convert_fault}
 use Rattle.jconvert.proofs.JudgeLemmas.{accepted}
-use Rattle.jconvert.proofs.LawLemmas.{are_storable, greatest_small}
 use Rattle.jconvert.proofs.WriteLemmas.{forms_fit}
 use Rattle.jexpand.proofs.SightedLemmas.{size_words}
 
@@ -71,7 +65,7 @@ located_are_in_order e size image =
 
 -- ---- what holds of all holds of those that stay
 
-kept_all : (P : NodeRef → Type 0) (ns : List (ℕ × NodeRef)) (stay : List NodeRef) (left : List LeftOut) → Parts ns stay left
+pub kept_all : (P : NodeRef → Type 0) (ns : List (ℕ × NodeRef)) (stay : List NodeRef) (left : List LeftOut) → Parts ns stay left
     → AllByRecursion P (map (λ (n : ℕ × NodeRef). n.1) ns) → AllByRecursion P stay
 kept_all P [] stay left parts all = subst (AllByRecursion P) (sym parts.0) tt
 kept_all P (n ∷ ns) stay left parts all =
@@ -79,33 +73,6 @@ kept_all P (n ∷ ns) stay left parts all =
     (λ here. subst (AllByRecursion P) (sym here.1.1) (all.0, kept_all P ns here.1.0 left here.1.2 all.1))
     (λ out. kept_all P ns stay out.2.0 out.2.2 all.1)
     parts
-
-pub stay_storable : (e : Endian) (size : ℕ) (image : List ℕ) (stay : List NodeRef) (left : List LeftOut) → IsParted e size image stay left
-    → AreStorable e size (greatest_blocks size) stay
-stay_storable e size image stay left is =
-    let all = are_storable e size image is.bytes is.accepted in
-    record {
-      size_is = all.size_is;
-      nodes = kept_all (IsStorable e size) (located_nodes e size image) stay left is.parts
-          (subst (AllByRecursion (IsStorable e size)) (sym (located_are_expanded e size image)) all.nodes);
-      room = is.room;
-    }
-
--- ---- the laws
-
-pub apart_is_image : ApartIsImage
-apart_is_image e size image stay left is = output_is_image e size (greatest_blocks size) stay (stay_storable e size image stay left is)
-
-pub apart_mounts : ApartMounts
-apart_mounts e size image stay left is root =
-    output_mounts e size (greatest_blocks size) stay (stay_storable e size image stay left is) (greatest_small size)
-    (staying_do_not_clash (located_nodes e size image) stay left is.parts) root
-
-pub apart_has_no_root : ApartHasNoRoot
-apart_has_no_root e size image stay left is root =
-    let sound = output_is_sound e size (greatest_blocks size) stay (stay_storable e size image stay left is) (greatest_small size)
-    (staying_do_not_clash (located_nodes e size image) stay left is.parts) in
-    (sound.sound, ap (λ (ns : List NodeRef). is_directory (state_of ns) 1) sound.nodes ∙ root)
 
 -- ---- how long it is
 

@@ -101,7 +101,7 @@ compressed_are_nodes e size image h = (plain_tiles e size image (sightings e siz
 
 -- ---- shorter forms fit where longer ones do
 
-place_before : (size a b short long : ℕ) → size % 4 ≡ 0 → 0 < short → short ≤ long → header_len + long ≤ size → a ≤ b → place_after size a short ≤ place_after size b long
+pub place_before : (size a b short long : ℕ) → size % 4 ≡ 0 → 0 < short → short ≤ long → header_len + long ≤ size → a ≤ b → place_after size a short ≤ place_after size b long
 place_before size a b short long words some less room up =
     let at : IsPlace size b long (place_after size b long) = (place_is_least size b long words (omega arith) room).place in
     (place_is_least size a short words some (omega arith)).least (place_after size b long) (record {
@@ -111,7 +111,7 @@ place_before size a b short long words some less room up =
       within = omega (arith, at.within);
     })
 
-end_before : (size a b short long : ℕ) → size % 4 ≡ 0 → 0 < short → short ≤ long → header_len + long ≤ size → a ≤ b → end_after size a short ≤ end_after size b long
+pub end_before : (size a b short long : ℕ) → size % 4 ≡ 0 → 0 < short → short ≤ long → header_len + long ≤ size → a ≤ b → end_after size a short ≤ end_after size b long
 end_before size a b short long words some less room up =
     let place = place_before size a b short long words some less room up in
     let padded : pad4_of short ≤ pad4_of long = pad4_least short (pad4_of long) (omega (arith, le_pad4 long)) (pad4_words long) in

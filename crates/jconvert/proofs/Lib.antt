@@ -1,4 +1,5 @@
 pub mod ApartLemmas
+pub mod ApartLawLemmas
 pub mod LocateLemmas
 pub mod KeepLemmas
 pub mod TallyLemmas
@@ -11,6 +12,7 @@ pub mod TileLemmas
 pub mod HoldingLemmas
 pub mod PackLemmas
 pub mod RestLemmas
+pub mod RoomLemmas
 pub mod ShownLemmas
 pub mod WalkLemmas
 pub mod BackLemmas

@@ -24,14 +24,18 @@ abbrev pub LocatedAreExpanded : Type 0
 LocatedAreExpanded = (e : Endian) (size : ℕ) (image : List ℕ)
     → map (λ n. n.1) (located_nodes e size image) ≡ expanded_nodes e size image
 
--- An image that is not refused, and its nodes: those that stay, for which there is room, and those
--- that are left out.
+-- Of an image that is not refused there is room for those that stay.
+abbrev pub StayHaveRoom : Type 0
+StayHaveRoom = (e : Endian) (size : ℕ) (image : List ℕ) (stay : List NodeRef) (left : List LeftOut)
+    → convert_fault e size image ≡ None → Parts (located_nodes e size image) stay left
+    → HaveRoom e size stay
+
+-- An image that is not refused, and its nodes: those that stay, and those that are left out.
 pub record IsParted (e : Endian) (size : ℕ) (image : List ℕ) (stay : List NodeRef)
     (left : List LeftOut) : Type 0 where
   pub bytes : AreBytes image
   pub accepted : convert_fault e size image ≡ None
   pub parts : Parts (located_nodes e size image) stay left
-  pub room : HaveRoom e size stay
 
 -- What goes out for those that stay is an image of just these, in order,
 abbrev pub ApartIsImage : Type 0

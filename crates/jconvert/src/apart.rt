@@ -3,7 +3,7 @@
 ghost use Rattle.std.specs.Prelude.{◌≡◌, None, Some, Ok, Err, IfOk, IfErr};
 ghost use Rattle.jclash.specs.Parting.{Parts};
 ghost use Rattle.jexpand.specs.declared.fault.ConvertFault.TheVariants.{OutOfMemory};
-ghost use Rattle.jconvert.specs.Apart.{located_nodes, DecompressesApart};
+ghost use Rattle.jconvert.specs.Apart.{located_nodes, DecompressesApart, HaveRoom};
 ghost use Rattle.jconvert.specs.Converting.{convert_fault};
 ghost use Rattle.jconvert.specs.Holding.{IsHeldOf};
 ghost use Rattle.flashbase.specs.Sinks.{change_of};
@@ -44,6 +44,9 @@ pub fn part<'a, E: Order>(
     ensures parts { IfOk result
         (λ parted. Parts (located_nodes E.order geometry.block image.now) parted.stay.items
         parted.left.items) }
+    // There is room for those that stay, since there is for all.
+    ensures room { IfOk result
+        (λ parted. HaveRoom E.order geometry.block parted.stay.items) }
     ensures memory { IfErr result (λ fault. fault ≡ OutOfMemory) }
 {
     let nodes = match located::<E>(alloc, image, geometry, held) {

@@ -1,6 +1,6 @@
 //! Laws of what goes out. Each function's contract is a law, and its body is empty.
 
-ghost use Rattle.jconvert.specs.ApartLaws.{LocatedAreByAddress, LocatedAreExpanded, ApartIsImage, ApartMounts, ApartHasNoRoot};
+ghost use Rattle.jconvert.specs.ApartLaws.{LocatedAreByAddress, LocatedAreExpanded, StayHaveRoom, ApartIsImage, ApartMounts, ApartHasNoRoot};
 ghost use Rattle.jconvert.specs.CompressingLaws.{CompressedAreNodes, CompressedGivesBack, CompressedMounts};
 ghost use Rattle.jconvert.specs.Laws.{ConvertedIsImage, ConvertedMounts, ConvertedHasNoRoot, ConvertedClashes};
 
@@ -26,6 +26,7 @@ pub fn compressed_gives_back()
 pub fn apart_mounts()
     ensures order { LocatedAreByAddress }
     ensures expanded { LocatedAreExpanded }
+    ensures room { StayHaveRoom }
     ensures image { ApartIsImage }
     ensures mounts { ApartMounts }
     ensures root { ApartHasNoRoot }

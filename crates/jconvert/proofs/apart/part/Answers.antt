@@ -1,6 +1,7 @@
 use Rattle.std.proofs.Common.{◌∙◌, sym, subst}
 use Rattle.jclash.specs.Parting.{AreByAddress}
 use Rattle.jconvert.proofs.ApartLemmas.{located_are_in_order}
+use Rattle.jconvert.proofs.RoomLemmas.{stay_have_room}
 use Rattle.jconvert.proofs.apart.part.Goals as goal
 
 pub without_clashing-requires : goal.without_clashing-requires
