@@ -1,11 +1,11 @@
--- Bytes that are escaped or put as digits, and read again.
+-- Bytes that are escaped, and read again.
 use Rattle.std.proofs.Common.{◌≡◌, ◌≢◌, ℕ, ◌+◌, ◌*◌, ◌/◌, ◌%◌, ◌<◌, Bool, true, false, cond, List, [], ◌∷◌, ◌++◌, ap, ◌∙◌, Option, Some, option_map, option_and_then, refl, arith, ◌==◌}
 use Rattle.std.specs.List.{All}
 use Rattle.std.proofs.lemmas.List.Elements.{All-head, All-tail}
 use Rattle.std.proofs.lemmas.Bool.Decides.{nat_tests}
-use Rattle.jline.specs.Words.{escaped_byte, hex, hex_digit, hex_of, is_plain, word_byte, word_of}
-use Rattle.jline.specs.Read.{byte_of_digits, digit_of, pairs_of, unescaped}
-use Rattle.jline.proofs.ReadLemmas.{pairs_of_pair, unescaped_escape, unescaped_plain}
+use Rattle.jline.specs.Words.{escaped_byte, hex_digit, is_plain, word_byte, word_of}
+use Rattle.jline.specs.Read.{byte_of_digits, digit_of, unescaped}
+use Rattle.jline.proofs.ReadLemmas.{unescaped_escape, unescaped_plain}
 
 -- ---- digits
 
@@ -50,18 +50,3 @@ word_unescaped [] all = refl
 word_unescaped (b ∷ bytes) all =
     word_byte_read_back b (word_of bytes) (All-head (λ b. b < 256) b bytes all)
     ∙ ap (option_map (λ (more : List ℕ). b ∷ more)) (word_unescaped bytes (All-tail (λ b. b < 256) b bytes all))
-
--- ---- pairs of digits
-
-pair_read_back : (b : ℕ) (rest : List ℕ) → b < 256 → pairs_of (hex 2 b ++ rest) ≡ option_map (λ (bytes : List ℕ). b ∷ bytes) (pairs_of rest)
-unfolding hex
-pair_read_back b rest small =
-    let high : (b / 16) % 16 ≡ b / 16 = omega arith in
-    ap (λ (d : ℕ). pairs_of (hex_digit d ∷ hex_digit (b % 16) ∷ rest)) high
-    ∙ pairs_of_pair (hex_digit (b / 16)) (hex_digit (b % 16)) b rest (byte_of_hex_digits b small)
-
-pub pairs_read_back : (bytes : List ℕ) → All (λ b. b < 256) bytes → pairs_of (hex_of bytes) ≡ Some bytes
-pairs_read_back [] all = refl
-pairs_read_back (b ∷ bytes) all =
-    pair_read_back b (hex_of bytes) (All-head (λ b. b < 256) b bytes all)
-    ∙ ap (option_map (λ (more : List ℕ). b ∷ more)) (pairs_read_back bytes (All-tail (λ b. b < 256) b bytes all))

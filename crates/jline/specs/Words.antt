@@ -52,17 +52,12 @@ word_byte b = if b == 47 then b ∷ [] else escaped_byte b
 abbrev pub word_of : List ℕ → List ℕ
 word_of bytes = flat_map word_byte bytes
 
--- two hexadecimal digits for each byte
-abbrev pub hex_of : List ℕ → List ℕ
-hex_of bytes = flat_map (hex 2) bytes
-
 -- ---- each of them, by its name
 
 abbrev pub spelled_byte : Spelling → ℕ → List ℕ
 spelled_byte spelling.Escaped = escaped_byte
 spelled_byte spelling.InLine = in_line_byte
 spelled_byte spelling.Word = word_byte
-spelled_byte spelling.Hex = hex 2
 
 abbrev pub spelled : Spelling → List ℕ → List ℕ
 spelled way bytes = flat_map (spelled_byte way) bytes

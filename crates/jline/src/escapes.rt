@@ -2,7 +2,7 @@
 
 ghost use Rattle.std.specs.Prelude.{◌≡◌, ◌+◌, ◌*◌, ◌≤◌, ◌++◌, length};
 ghost use Rattle.flashbase.specs.Sinks.{PutsTo};
-ghost use Rattle.jline.specs.Words.{escaped, hex_of, in_line, spelled, word_of};
+ghost use Rattle.jline.specs.Words.{escaped, in_line, spelled, word_of};
 
 use crate::line::LineBuffer;
 use crate::spelling::Spelling;
@@ -57,11 +57,4 @@ pub fn put_word<T: Sink>(sink: &mut T, bytes: &[u8]) -> Result<(), DeviceFault>
     ensures { PutsTo T.Sink sink.old sink.new (word_of bytes.now) result }
 {
     put_spelled(sink, Spelling::Word, bytes)
-}
-
-/// Puts bytes, each as two hexadecimal digits. Takes no memory.
-pub fn put_hex<T: Sink>(sink: &mut T, bytes: &[u8]) -> Result<(), DeviceFault>
-    ensures { PutsTo T.Sink sink.old sink.new (hex_of bytes.now) result }
-{
-    put_spelled(sink, Spelling::Hex, bytes)
 }

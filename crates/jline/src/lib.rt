@@ -3,7 +3,7 @@
 //!
 //! `unescape` reads a word in which `\x` and two hexadecimal digits are one byte, and `unhex` one
 //! that is pairs of hexadecimal digits. Both take digits in either case, one buffer, and time
-//! linear in the word. `put_word` and `put_hex` are their inverses.
+//! linear in the word. What `put_word` puts, `unescape` reads back.
 //!
 //! It is built on `jnode` (names with an erased tail, and how a node is damaged). Its promise to the
 //! crates above: what a call leaves in a line is that line's definition; a name goes out escaped, or
@@ -26,7 +26,7 @@ mod texts;
 mod words;
 
 pub use crate::damage::damage_name;
-pub use crate::escapes::{put_escaped, put_hex, put_in_line, put_word};
+pub use crate::escapes::{put_escaped, put_in_line, put_word};
 pub use crate::fault::WordFault;
 pub use crate::line::{LineBuffer, MAX_LINE};
 pub use crate::pairs::unhex;

@@ -174,7 +174,6 @@ impl LineBuffer {
             Spelling::Escaped => self.push_escaped_byte(byte),
             Spelling::InLine => self.push_in_line_byte(byte),
             Spelling::Word => self.push_word_byte(byte),
-            Spelling::Hex => self.push_hex(2, u64::from(byte)),
         }
     }
 

@@ -9,6 +9,4 @@ pub(crate) enum Spelling {
     InLine,
     /// As in a name, but for slashes, as in a path or a target.
     Word,
-    /// Each byte as two hexadecimal digits.
-    Hex,
 }

@@ -5,7 +5,7 @@ use crate::checks::{equal, expect, expect_at};
 use crate::images::{BLOCK, GEOMETRY, TREE, image_of};
 use byteorder::LittleEndian;
 use flashbase::{FromReader, PutFault};
-use jline::{put_escaped, put_hex, put_in_line, put_text, put_word};
+use jline::{put_escaped, put_in_line, put_text, put_word};
 use jmount::{FindFault, MountFault, mount};
 use jreport::{
     ProgramFault, content, fault_line, fault_lines, fault_text, note_line, part_lines,
@@ -36,10 +36,9 @@ enum Text {
     Escaped,
     InLine,
     Word,
-    Hex,
 }
 
-const TEXTS: [Text; 18] = [
+const TEXTS: [Text; 17] = [
     Text::Report,
     Text::Stream,
     Text::Verdict,
@@ -57,7 +56,6 @@ const TEXTS: [Text; 18] = [
     Text::Escaped,
     Text::InLine,
     Text::Word,
-    Text::Hex,
 ];
 
 const FAULT: ProgramFault<'static> = ProgramFault::Path(FindFault::NotFound);
@@ -130,7 +128,6 @@ fn put(
         Text::Escaped => put_escaped(sink, BYTES)?,
         Text::InLine => put_in_line(sink, BYTES)?,
         Text::Word => put_word(sink, BYTES)?,
-        Text::Hex => put_hex(sink, BYTES)?,
     }
     Ok(())
 }
