@@ -25,6 +25,7 @@ use crate::step::Step;
 use crate::stored::DIRECTORY;
 use crate::text::Text;
 use flashbase::Part;
+use jscan::Page;
 use std::alloc::{AllocError, Global};
 
 /// The greatest size of a file.
