@@ -18,6 +18,8 @@ use Rattle.jlog.specs.Session.{Flash, Runs, attempted}
 use Rattle.jlog.specs.declared.fault.SessionFault.{SessionFault}
 use Rattle.jlog.specs.declared.fault.SessionFault.TheVariants as fault
 use Rattle.jlog.specs.declared.report.Place.{Place}
+use Rattle.jbuild.specs.declared.emitting.EmitFault.{EmitFault}
+use Rattle.jbuild.specs.declared.emitting.EmitFault.TheVariants as emit
 
 -- the base's bytes up to where writing goes on
 abbrev pub front_before : Endian → ℕ → ℕ → List ℕ → List ℕ
@@ -56,6 +58,21 @@ pub record IsEmitted (flash : Flash) (base : List ℕ) (ops : List Op) (accepted
       (record sink { old = between }) stopped
   pub survives : Survives flash.order flash.size flash.blocks base
       (steps_of_first flash.page (index_on flash base) ops (attempted accepted broken))
+
+-- the fault of a session that says the same
+abbrev pub session_fault : EmitFault → SessionFault
+session_fault emit.Sink = fault.Sink
+session_fault emit.OutOfMemory = fault.OutOfMemory
+
+-- Nothing was run: only a beginning of the base's bytes up to there went out, or all of them and then
+-- memory ran out.
+abbrev pub IsNotRun : Flash → List ℕ → SinkChange → EmitFault → Type 0
+IsNotRun flash base sink emit.Sink =
+    PutsPart sink.old sink.new (front_before flash.order flash.size flash.blocks base)
+    × (sink.now ≡ next_count sink.before)
+IsNotRun flash base sink emit.OutOfMemory =
+    Appends sink.old sink.new (front_before flash.order flash.size flash.blocks base)
+    × (sink.now ≡ sink.before)
 
 -- Nothing was run: only a beginning of the base's bytes went out, or all of them and then memory
 -- ran out; or the image is not gone on from, and nothing went out.

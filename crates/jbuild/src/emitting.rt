@@ -5,18 +5,19 @@ ghost use Rattle.flashbase.specs.Sinks.{PutsTo, change_of};
 ghost use Rattle.jmount.specs.Mounts.{IsMountOf};
 ghost use Rattle.jlog.specs.Left.{front_of};
 ghost use Rattle.jlog.specs.Resuming.{resumes_by};
-ghost use Rattle.jlog.specs.View.{flash_of_log, state_with};
+ghost use Rattle.jlog.specs.View.{written_flash, mount_of, flash_of_start, flash_of_log, state_with};
 ghost use Rattle.jbuild.specs.Blocks.{IsFull, TellsRefused, TellsRefusedOn};
-ghost use Rattle.jbuild.specs.Emitting.{IsEmitted, IsNotEmitted, paged_flash};
+ghost use Rattle.jbuild.specs.Emitting.{IsEmitted, IsNotEmitted, IsNotRun, paged_flash, session_fault};
 ghost use Rattle.jbuild.specs.Length.{TellsLength};
 
 use flashbase::{PutFault, Sink, put_all};
-use jlog::{RunReport, Session, SessionFault, page_fits, put_erased, resume_at};
+use jlog::{Flash, RunReport, Session, SessionFault, Start, put_erased};
 use jmount::Mounted;
 use jnode::Order;
 use jscan::{Geometry, Page};
 use jsteps::Op;
 use std::alloc::{AllocError, Global};
+use thiserror::Error;
 
 /// What a run of operations on an image did.
 #[derive(Drop)]
@@ -25,6 +26,28 @@ pub struct Emitted {
     /// Where the run stopped at `Full`: the least number of blocks that hold the operation that was
     /// refused, and nothing where the greatest flash does not hold it. Nothing where it did not.
     pub blocks: Result<Option<u32>, AllocError>,
+}
+
+/// Why no operation was run.
+#[derive(Clone, Copy, Debug, PartialEq, Eq, Error)]
+pub enum EmitFault {
+    /// The sink failed at the image's bytes.
+    #[error("S4 Sink")]
+    Sink,
+    /// Out of memory, after all of them.
+    #[error("S5 OutOfMemory")]
+    OutOfMemory,
+}
+
+impl From<EmitFault> for SessionFault {
+    ghost from_gives = { λ given fault. fault ≡ session_fault given };
+
+    fn from(fault: EmitFault) -> SessionFault {
+        match fault {
+            EmitFault::Sink => SessionFault::Sink,
+            EmitFault::OutOfMemory => SessionFault::OutOfMemory,
+        }
+    }
 }
 
 /// Puts a base's bytes up to an address, and erased flash for those that it lacks.
@@ -63,14 +86,55 @@ fn blocks_for_refused<E: Order, S: Sink>(
 }
 
 /// Puts a mounted image's bytes up to where writing goes on, erased flash for those that it lacks,
-/// and then runs operations on it, with bytes cut where a page of this size of a file ends. Answers
-/// the sink, what the run did, and how many blocks would hold an operation that was refused for want
-/// of room. It is in `E`'s order and of the geometry that the image was mounted with.
+/// and then runs operations on it. Answers the sink, what the run did, and how many blocks would hold
+/// an operation that was refused for want of room.
 ///
 /// # Errors
-/// Nothing was run, and the sink is handed back. `ReadOnly` and `Geometry` as
-/// [`Session::resume_paged`] answers them: the sink is as it was. `Sink`: it failed at the image's
-/// bytes. Out of memory: after all of them.
+/// Nothing was run, and the sink is handed back.
+pub fn emit_from<E: Order, S: Sink>(
+    alloc: Global,
+    start: &Start<'_, '_, E>,
+    ops: &[Op<'_>],
+    mut sink: S,
+) -> Result<(S, Emitted), (EmitFault, S)>
+    ensures emitted { IfOk result (λ done. IsEmitted
+        (written_flash E.order (flash_of_start start.now)) (mount_of start.now).image ops.now
+        done.1.report.accepted done.1.report.places.items done.1.report.stopped
+        (change_of S.Sink sink done.0)) }
+    // The places end where what went out for all operations does.
+    ensures long { IfOk result (λ done. done.1.report.stopped ≡ None
+        → TellsLength (written_flash E.order (flash_of_start start.now)) (mount_of start.now).image
+        ops.now done.1.report.accepted done.1.report.places.items) }
+    // What would hold the operation that was refused for want of room, from where the run ended.
+    ensures blocks { IfOk result (λ done. IfOk done.1.blocks (TellsRefusedOn
+        (written_flash E.order (flash_of_start start.now)) (mount_of start.now).image ops.now
+        done.1.report.accepted done.1.report.stopped)) }
+    ensures memory { IfOk result
+        (λ done. OnErr done.1.blocks (IsFull done.1.report.stopped)) }
+    ensures refused { IfErr result (λ refused. IsNotRun
+        (written_flash E.order (flash_of_start start.now)) (mount_of start.now).image
+        (change_of S.Sink sink refused.1) refused.0) }
+{
+    let from = start.address();
+    if put_front(&mut sink, start.mounted().image(), from as usize).is_err() {
+        return Err((EmitFault::Sink, sink));
+    }
+    let mut session = match Session::<E, S>::begin(alloc, start, sink) {
+        Ok(session) => session,
+        Err((_, sink)) => return Err((EmitFault::OutOfMemory, sink)),
+    };
+    let report = session.run(alloc, ops);
+    let blocks = blocks_for_refused(alloc, &session, ops, &report);
+    Ok((session.finish(), Emitted { report, blocks }))
+}
+
+/// As [`emit_from`] from where a log goes on in a mounted image, with bytes cut where a page of this
+/// size of a file ends. It is in `E`'s order and of the geometry that the image was mounted with.
+///
+/// # Errors
+/// Nothing was run, and the sink is handed back. `ReadOnly` and `Geometry` as [`Start::of`] answers
+/// them: the sink is as it was. `Sink`: it failed at the image's bytes. Out of memory: after all of
+/// them.
 pub fn emit<E: Order, S: Sink>(
     alloc: Global,
     mounted: &Mounted<'_>,
@@ -78,7 +142,7 @@ pub fn emit<E: Order, S: Sink>(
     blocks: u32,
     page: Page,
     ops: &[Op<'_>],
-    mut sink: S,
+    sink: S,
 ) -> Result<(S, Emitted), (SessionFault, S)>
     requires { IsMountOf E.order geometry.block mounted.now }
     ensures resumes { OnOk result
@@ -106,23 +170,17 @@ pub fn emit<E: Order, S: Sink>(
         resumes_by page E.order geometry.block blocks mounted.now ≡ Err refused.0
         → refused.1 ≡ sink) }
 {
-    let from = match resume_at::<E>(mounted, geometry, blocks) {
-        Ok(from) => from,
+    let flash = Flash {
+        geometry,
+        blocks,
+        page,
+    };
+    let start = match Start::<E>::of(mounted, flash) {
+        Ok(start) => start,
         Err(fault) => return Err((fault, sink)),
     };
-    if !page_fits(geometry, page) {
-        return Err((SessionFault::Geometry, sink));
+    match emit_from(alloc, &start, ops, sink) {
+        Ok(done) => Ok(done),
+        Err((fault, sink)) => Err((SessionFault::from(fault), sink)),
     }
-    if put_front(&mut sink, mounted.image(), from as usize).is_err() {
-        return Err((SessionFault::Sink, sink));
-    }
-    let mut session = match Session::<E, S>::resume_or_return(
-        alloc, mounted, geometry, blocks, page, sink,
-    ) {
-        Ok(session) => session,
-        Err(refused) => return Err(refused),
-    };
-    let report = session.run(alloc, ops);
-    let blocks = blocks_for_refused(alloc, &session, ops, &report);
-    Ok((session.finish(), Emitted { report, blocks }))
 }

@@ -19,6 +19,6 @@ mod reading;
 mod span;
 
 pub use crate::accepted::put_accepted;
-pub use crate::emitting::{Emitted, emit};
+pub use crate::emitting::{EmitFault, Emitted, emit, emit_from};
 pub use crate::listed::operations;
 pub use crate::parts::Parts;

@@ -10,7 +10,6 @@ use Rattle.flashbase.specs.Device.{PutsPart, next_count}
 use Rattle.flashbase.proofs.DeviceLemmas.{part_behind}
 use Rattle.flashbase.specs.Sinks.{SinkChange}
 use Rattle.jnode.specs.declared.order.Endian.{Endian}
-use Rattle.jmount.specs.Mount.{Mount}
 use Rattle.jsteps.specs.Nodes.{Indexed}
 use Rattle.jsteps.specs.declared.op.Op.{Op}
 use Rattle.jscan.specs.declared.page.Page.{Page}
@@ -19,33 +18,19 @@ use Rattle.jlog.specs.Places.{end_of_all, is_writable_flash}
 use Rattle.jlog.specs.Running.{written}
 use Rattle.jlog.specs.Session.{IsFresh}
 use Rattle.jlog.specs.declared.fault.SessionFault.{SessionFault}
-use Rattle.jlog.specs.declared.fault.SessionFault.TheVariants as session
+use Rattle.jlog.specs.declared.start.Flash.{Flash}
 use Rattle.jlog.proofs.CodeLemmas.{flash_limits}
 use Rattle.jcuts.specs.Lines.{step_nodes, text_of_node, text_of_nodes, weak_count, end_text}
 use Rattle.jcuts.specs.Planning.{CanPlan}
-use Rattle.jcuts.specs.Cuts.{Point, Asked, base_point, resumes, IsNotResumed, IsPlannedAt, IsCounted, told_of_op, TellsOp, AdvancesTo, first_standings, first_nodes, first_text, last_text, AreAllTold, TellsOps, PutsCuts}
+use Rattle.jcuts.specs.Cuts.{Point, Asked, base_point, IsPlannedAt, IsCounted, told_of_op, TellsOp, AdvancesTo, first_standings, first_nodes, first_text, last_text, AreAllTold, TellsOps, PutsCuts}
 use Rattle.jcuts.specs.declared.cuts.Counts.{Counts}
 use Rattle.jcuts.specs.declared.cuts.CutsFault.{CutsFault}
 use Rattle.jcuts.specs.declared.cuts.CutsFault.TheVariants as told
-use Rattle.jcuts.specs.declared.cuts.Flash.{Flash}
 use Rattle.jcuts.specs.declared.lines.StepNode.{StepNode}
 use Rattle.jcuts.specs.declared.lines.Telling.{Telling}
 use Rattle.jcuts.specs.declared.standing.Standing.{Standing}
 use Rattle.jcuts.proofs.CountLemmas.{count_yes, count_no}
 use Rattle.jcuts.proofs.JoinLemmas.{OneMore, next_standings, one_more, leads_nowhere, standings_long, count_on}
-
--- ---- where a log goes on
-
-pub not_resumed : (e : Endian) (flash : Flash) (m : Mount) (f : SessionFault)
-    → (f ≢ session.OutOfMemory → resumes e flash m ≡ Err f) → (f ≡ session.OutOfMemory → IsOk (resumes e flash m))
-    → IsNotResumed e flash m f
-not_resumed e flash m session.OutOfMemory other memory = inr (memory refl, refl)
-not_resumed e flash m (session.Refused f) other memory = inl (other (λ is. cc))
-not_resumed e flash m (session.Full n k) other memory = inl (other (λ is. cc))
-not_resumed e flash m session.ReadOnly other memory = inl (other (λ is. cc))
-not_resumed e flash m session.Sink other memory = inl (other (λ is. cc))
-not_resumed e flash m session.Broken other memory = inl (other (λ is. cc))
-not_resumed e flash m session.Geometry other memory = inl (other (λ is. cc))
 
 -- ---- records of equal parts
 
@@ -218,11 +203,11 @@ all_told e flash asked from n at sink counts all first = record {
 
 -- ---- all of them
 
-pub cuts_stop : (e : Endian) (flash : Flash) (m : Mount) (asked : Asked) (to : Point) (sink : SinkChange) (fault : CutsFault)
-    → IsOk (resumes e flash m) → TellsOps e flash asked (base_point e flash m.image) to sink (Err fault) → PutsCuts e flash m asked sink (Err fault)
-cuts_stop e flash m asked to sink (told.Session fault None) ok did = absurd did
-cuts_stop e flash m asked to sink (told.Session fault (Some l)) ok did = (ok, did)
-cuts_stop e flash m asked to sink told.Output ok did = (ok, inl did)
+pub cuts_stop : (e : Endian) (flash : Flash) (base : List ℕ) (asked : Asked) (to : Point) (sink : SinkChange) (fault : CutsFault)
+    → TellsOps e flash asked (base_point e flash base) to sink (Err fault) → PutsCuts e flash base asked sink (Err fault)
+cuts_stop e flash base asked to sink (told.Session fault None) did = absurd did
+cuts_stop e flash base asked to sink (told.Session fault (Some l)) did = did
+cuts_stop e flash base asked to sink told.Output did = inl did
 
 -- the last text by the numbers that are known
 last_is : (e : Endian) (flash : Flash) (asked : Asked) (from to : Point) (sink : SinkChange) (counts : Counts) → AreAllTold e flash asked from to sink counts
@@ -234,32 +219,26 @@ last_is e flash asked from to sink counts all =
     ∙ (ap (λ (i : ℕ). end_text asked.telling n (length nodes) from.address i counts.weak) all.leads.address
     ∙ ap (λ (i : ℕ). end_text asked.telling n (length nodes) from.address (end_of_all flash.geometry.block from.address (first_nodes e flash from asked.ops n)) i) all.counted.weak)
 
-pub cuts_end : (e : Endian) (flash : Flash) (m : Mount) (asked : Asked) (to : Point) (a b c : Option (List ℕ)) (f g h : ℕ) (counts : Counts)
-    → IsOk (resumes e flash m) → AreAllTold e flash asked (base_point e flash m.image) to (record { old = a; new = b; before = f; now = g }) counts
-    → Appends b c (end_text asked.telling (length asked.ops) counts.nodes (base_point e flash m.image).address to.address counts.weak) → h ≡ g
-    → PutsCuts e flash m asked (record { old = a; new = c; before = f; now = h }) (Ok counts.weak)
-cuts_end e flash m asked to a b c f g h counts ok all put same = (
-  ok,
-  record {
-    to = to;
-    leads = all.leads;
-    counted = all.counted.weak;
-    put = Appends-trans a b c _ _ all.put (subst (Appends b c) (last_is e flash asked (base_point e flash m.image) to _ counts all) put);
-    failed = same ∙ all.failed;
-  },
-)
+pub cuts_end : (e : Endian) (flash : Flash) (base : List ℕ) (asked : Asked) (to : Point) (a b c : Option (List ℕ)) (f g h : ℕ) (counts : Counts)
+    → AreAllTold e flash asked (base_point e flash base) to (record { old = a; new = b; before = f; now = g }) counts
+    → Appends b c (end_text asked.telling (length asked.ops) counts.nodes (base_point e flash base).address to.address counts.weak) → h ≡ g
+    → PutsCuts e flash base asked (record { old = a; new = c; before = f; now = h }) (Ok counts.weak)
+cuts_end e flash base asked to a b c f g h counts all put same = record {
+  to = to;
+  leads = all.leads;
+  counted = all.counted.weak;
+  put = Appends-trans a b c _ _ all.put (subst (Appends b c) (last_is e flash asked (base_point e flash base) to _ counts all) put);
+  failed = same ∙ all.failed;
+}
 
-pub cuts_end_failed : (e : Endian) (flash : Flash) (m : Mount) (asked : Asked) (to : Point) (a b c : Option (List ℕ)) (f g h : ℕ) (counts : Counts)
-    → IsOk (resumes e flash m) → AreAllTold e flash asked (base_point e flash m.image) to (record { old = a; new = b; before = f; now = g }) counts
-    → PutsPart b c (end_text asked.telling (length asked.ops) counts.nodes (base_point e flash m.image).address to.address counts.weak) → h ≡ next_count g
-    → PutsCuts e flash m asked (record { old = a; new = c; before = f; now = h }) (Err told.Output)
-cuts_end_failed e flash m asked to a b c f g h counts ok all part failed = (
-  ok,
-  inr (
-    (to, all.leads),
-    part_behind a b c _ _ all.put (subst (PutsPart b c) (last_is e flash asked (base_point e flash m.image) to _ counts all) part),
-    failed ∙ ap next_count all.failed,
-  ),
+pub cuts_end_failed : (e : Endian) (flash : Flash) (base : List ℕ) (asked : Asked) (to : Point) (a b c : Option (List ℕ)) (f g h : ℕ) (counts : Counts)
+    → AreAllTold e flash asked (base_point e flash base) to (record { old = a; new = b; before = f; now = g }) counts
+    → PutsPart b c (end_text asked.telling (length asked.ops) counts.nodes (base_point e flash base).address to.address counts.weak) → h ≡ next_count g
+    → PutsCuts e flash base asked (record { old = a; new = c; before = f; now = h }) (Err told.Output)
+cuts_end_failed e flash base asked to a b c f g h counts all part failed = inr (
+  (to, all.leads),
+  part_behind a b c _ _ all.put (subst (PutsPart b c) (last_is e flash asked (base_point e flash base) to _ counts all) part),
+  failed ∙ ap next_count all.failed,
 )
 
 -- ---- the same at equal values
@@ -273,6 +252,3 @@ pub end_at : (telling : Telling) (ops nodes from' from end' end weak : ℕ) → 
     → end_text telling ops nodes from' end' weak ≡ end_text telling ops nodes from end weak
 end_at telling ops nodes from' from end' end weak from_is end_is =
     ap (λ (i : ℕ). end_text telling ops nodes i end' weak) from_is ∙ ap (λ (i : ℕ). end_text telling ops nodes from i weak) end_is
-
-pub does_resume : (e : Endian) (flash : Flash) (m : Mount) (at : ℕ) → resumes e flash m ≡ Ok at → IsOk (resumes e flash m)
-does_resume e flash m at is = subst (λ (r : Result ℕ SessionFault). IsOk r) (sym is) refl

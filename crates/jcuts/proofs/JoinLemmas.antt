@@ -21,7 +21,7 @@ use Rattle.jlog.proofs.RunningLemmas.{written_on, StepsGoOn, steps_go_on}
 use Rattle.jcuts.specs.Standing.{standings, standing_at}
 use Rattle.jcuts.specs.Lines.{step_nodes, nodes_told}
 use Rattle.jcuts.specs.Cuts.{Point, first_standings, AdvancesTo}
-use Rattle.jcuts.specs.declared.cuts.Flash.{Flash}
+use Rattle.jlog.specs.declared.start.Flash.{Flash}
 use Rattle.jcuts.specs.Laws.{StandingsHavePlaces}
 use Rattle.jcuts.specs.declared.lines.StepNode.{StepNode}
 use Rattle.jcuts.specs.declared.standing.Standing.{Standing}

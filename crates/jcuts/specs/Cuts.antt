@@ -1,5 +1,5 @@
 -- What is told of operations that follow one another.
-use Rattle.std.specs.Prelude.{◌≡◌, ◌⊎◌, ℕ, ◌≤◌, IsTrue, IsFalse, List, [], ◌++◌, length, take, slice_get, Option, Some, None, Result, Ok, Err, IsOk}
+use Rattle.std.specs.Prelude.{◌≡◌, ◌⊎◌, ℕ, ◌≤◌, IsTrue, IsFalse, List, [], ◌++◌, length, take, slice_get, Option, Some, None, Result, Ok, Err}
 use Rattle.std.specs.Io.KnownBytes.{Appends}
 use Rattle.byteorder.specs.declared.ByteOrder.{Ghosts as OfByteOrder}
 use Rattle.flashbase.specs.Device.{PutsPart, next_count}
@@ -7,7 +7,6 @@ use Rattle.flashbase.specs.Sinks.{SinkChange}
 use Rattle.flashbase.specs.declared.sink.Sink.{Ghosts as OfSink}
 use Rattle.jnode.specs.declared.order.Endian.{Endian}
 use Rattle.jnode.specs.declared.order.Order.{Ghosts as OfOrder}
-use Rattle.jmount.specs.Mount.{Mount}
 use Rattle.jsteps.specs.Nodes.{Indexed, advanced_all}
 use Rattle.jscan.specs.Pages.{page_size}
 use Rattle.jsteps.specs.Refusals.{plans_of, steps_of_first}
@@ -15,20 +14,19 @@ use Rattle.jsteps.specs.declared.op.Op.{Op}
 use Rattle.jsteps.specs.declared.step.Step.{Step}
 use Rattle.jlog.specs.Headline.{index_of_image, resume_address}
 use Rattle.jlog.specs.Places.{end_of_all, fit}
-use Rattle.jlog.specs.Resuming.{resumes_by}
 use Rattle.jlog.specs.Running.{written}
-use Rattle.jlog.specs.Session.{Declines, Flash as LogFlash}
-use Rattle.jlog.specs.View.{block_size_of, blocks_of, page_of, cursor_of, index_of_log, is_broken, sink_of}
+use Rattle.jlog.specs.Session.{Declines}
+use Rattle.jlog.specs.View.{block_size_of, blocks_of, page_of, cursor_of, index_of_log, is_broken, sink_of, written_flash}
 use Rattle.jlog.specs.declared.fault.SessionFault.{SessionFault}
 use Rattle.jlog.specs.declared.fault.SessionFault.TheVariants as session
 use Rattle.jlog.specs.declared.session.Session.{Session}
+use Rattle.jlog.specs.declared.start.Flash.{Flash}
 use Rattle.jcuts.specs.Standing.{standings}
 use Rattle.jcuts.specs.Lines.{step_nodes, nodes_told, text_of_nodes, weak_count, end_text}
 use Rattle.jcuts.specs.Planning.{CanPlan, IsPlannedOp}
 use Rattle.jcuts.specs.declared.cuts.Counts.{Counts}
 use Rattle.jcuts.specs.declared.cuts.CutsFault.{CutsFault}
 use Rattle.jcuts.specs.declared.cuts.CutsFault.TheVariants as told
-use Rattle.jcuts.specs.declared.cuts.Flash.{Flash}
 use Rattle.jcuts.specs.declared.held.Held.{Held}
 use Rattle.jcuts.specs.declared.lines.Telling.{Telling}
 use Rattle.jcuts.specs.declared.standing.Standing.{Standing}
@@ -80,26 +78,7 @@ module _ {E : Type 0} {order : OfOrder E} {numbers : OfByteOrder E} {sink : OfSi
         (cursor_of plan) (index_of_log plan)
     pub none : (sink_of plan).bytes.items ≡ []
 
--- where writing goes on in a mounted image
-abbrev pub resumes : Endian → Flash → Mount → Result ℕ SessionFault
-resumes e flash m = resumes_by flash.page e flash.geometry.block flash.blocks m
-
--- it does not; or it does, and memory ran out
-abbrev pub IsNotResumed : Endian → Flash → Mount → SessionFault → Type 0
-IsNotResumed e flash m fault =
-    (resumes e flash m ≡ Err fault)
-    ⊎ (IsOk (resumes e flash m) × (fault ≡ session.OutOfMemory))
-
 -- ---- one operation
-
--- a flash as a log that writes it in this order sees it
-abbrev pub written_flash : Endian → Flash → LogFlash
-written_flash e flash = record {
-  order = e;
-  size = flash.geometry.block;
-  blocks = flash.blocks;
-  page = page_size flash.page;
-}
 
 -- The operation is accepted: these are the nodes of its steps, and writing goes on after them.
 abbrev pub IsPlannedAt : Endian → Flash → Point → Op → Point → List Standing → Type 0
@@ -240,17 +219,15 @@ TellsAllButEnd e flash asked from sink =
     (first_text e flash asked from (length asked.ops) ++ last_text e flash asked from)
     × (sink.now ≡ next_count sink.before)
 
--- Operations on a mounted image: writing does not go on there, and nothing is told; or it does, and
--- they are told, or those up to one that is declined; or the sink failed, and a beginning went out.
--- The answer is how many nodes are weak.
-abbrev pub PutsCuts : Endian → Flash → Mount → Asked → SinkChange → Result ℕ CutsFault → Type 0
-PutsCuts e flash m asked sink (Ok weak) =
-    IsOk (resumes e flash m) × AreCutsTold e flash asked (base_point e flash m.image) sink weak
-PutsCuts e flash m asked sink (Err (told.Session fault None)) =
-    IsNotResumed e flash m fault × (sink.new ≡ sink.old) × (sink.now ≡ sink.before)
-PutsCuts e flash m asked sink (Err (told.Session fault (Some line))) =
-    IsOk (resumes e flash m) × TellsUpTo e flash asked (base_point e flash m.image) sink fault line
-PutsCuts e flash m asked sink (Err told.Output) =
-    IsOk (resumes e flash m)
-    × (TellsPart e flash asked (base_point e flash m.image) sink
-    ⊎ TellsAllButEnd e flash asked (base_point e flash m.image) sink)
+-- Operations on a base are told, or those up to one that is declined; or memory ran out, and nothing
+-- is told; or the sink failed, and a beginning went out. The answer is how many nodes are weak.
+abbrev pub PutsCuts : Endian → Flash → List ℕ → Asked → SinkChange → Result ℕ CutsFault → Type 0
+PutsCuts e flash base asked sink (Ok weak) =
+    AreCutsTold e flash asked (base_point e flash base) sink weak
+PutsCuts e flash base asked sink (Err (told.Session fault None)) =
+    (fault ≡ session.OutOfMemory) × (sink.new ≡ sink.old) × (sink.now ≡ sink.before)
+PutsCuts e flash base asked sink (Err (told.Session fault (Some line))) =
+    TellsUpTo e flash asked (base_point e flash base) sink fault line
+PutsCuts e flash base asked sink (Err told.Output) =
+    TellsPart e flash asked (base_point e flash base) sink
+    ⊎ TellsAllButEnd e flash asked (base_point e flash base) sink

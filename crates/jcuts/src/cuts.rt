@@ -1,9 +1,9 @@
 //! What stands after a stop, told for operations that follow one another.
 
-ghost use Rattle.std.specs.Prelude.{◌≡◌, IfOk, IfErr, OnOk, Ok, length};
-ghost use Rattle.jmount.specs.Mounts.{IsMountOf};
+ghost use Rattle.std.specs.Prelude.{◌≡◌, IfOk, OnOk, length};
+ghost use Rattle.jlog.specs.View.{mount_of, flash_of_start};
 ghost use Rattle.jcuts.specs.Lines.{weak_count};
-ghost use Rattle.jcuts.specs.Cuts.{base_point, flash_of, point_of, resumes, IsReady, IsNotResumed, TellsOp, TellsOps, PutsCuts};
+ghost use Rattle.jcuts.specs.Cuts.{base_point, flash_of, point_of, IsReady, TellsOp, TellsOps, PutsCuts};
 ghost use Rattle.flashbase.specs.Sinks.{change_of};
 
 use crate::held::Held;
@@ -11,20 +11,10 @@ use crate::lines::{Telling, put_end, put_nodes};
 use crate::planning::{Plan, plan_op};
 use crate::standing::Standing;
 use flashbase::Sink;
-use jlog::{Session, SessionFault};
-use jmount::Mounted;
+use jlog::{Session, SessionFault, Start};
 use jnode::Order;
-use jscan::{Geometry, Page};
 use jsteps::Op;
-use std::alloc::Global;
-
-/// The flash that is written, and the page by which files are cut.
-#[derive(Clone, Copy, Debug, PartialEq, Eq)]
-pub struct Flash {
-    pub geometry: Geometry,
-    pub blocks: u32,
-    pub page: Page,
-}
+use std::alloc::{AllocError, Global};
 
 /// How many nodes are told, and how many of them are weak.
 #[derive(Clone, Copy, Debug, PartialEq, Eq)]
@@ -57,31 +47,19 @@ fn count_weak(nodes: &[Standing]) -> usize
 
 /// A log that goes on from a mounted image, and is not written.
 #[tactic(none)]
-fn resume_plan<'a, E: Order>(
+fn plan_from<'a, E: Order>(
     alloc: Global,
-    mounted: &Mounted<'a>,
-    flash: Flash,
-) -> Result<Plan<'a, E>, SessionFault>
-    requires { IsMountOf E.order flash.geometry.block mounted.now }
+    start: &Start<'_, 'a, E>,
+) -> Result<Plan<'a, E>, AllocError>
     ensures ready { IfOk result IsReady }
-    ensures flash { IfOk result (λ plan. flash_of plan ≡ flash) }
-    ensures resumes { IfOk result (λ plan.
-        resumes E.order flash mounted.now ≡ Ok (point_of plan).address) }
-    ensures point { IfOk result (λ plan.
-        point_of plan ≡ base_point E.order flash mounted.now.image) }
-    ensures fault { IfErr result (IsNotResumed E.order flash mounted.now) }
+    ensures flash { IfOk result (λ plan. flash_of plan ≡ flash_of_start start.now) }
+    ensures point { IfOk result (λ plan. point_of plan
+        ≡ base_point E.order (flash_of_start start.now) (mount_of start.now).image) }
 {
     let held = Held::new(alloc);
-    match Session::<E, Held>::resume_paged(
-        alloc,
-        mounted,
-        flash.geometry,
-        flash.blocks,
-        flash.page,
-        held,
-    ) {
+    match Session::<E, Held>::begin(alloc, start, held) {
         Ok(plan) => Ok(plan),
-        Err(fault) => Err(fault),
+        Err((error, _)) => Err(error),
     }
 }
 
@@ -153,33 +131,32 @@ fn tell_ops<E: Order, T: Sink>(
 
 /// Plans operations on a mounted image as [`jlog::Session::run`] would write them, and writes
 /// nothing of it: what is told of each one's nodes goes out, and after the last of them the line on
-/// all. Answers how many nodes are weak. Operations have the numbers of their lines. The image was
-/// mounted in `E`'s order, and with the flash's geometry. At one time the nodes of one operation
-/// are held.
+/// all. Answers how many nodes are weak. Operations have the numbers of their lines. At one time
+/// the nodes of one operation are held.
 ///
 /// # Errors
-/// `Session` without a line as [`jlog::Session::resume_paged`] answers it, and nothing is told;
-/// with one as a session answers that operation, and those before it are told. `Output`: the sink
-/// failed, and took a beginning.
+/// `Session` without a line: out of memory, and nothing is told; with one as a session answers that
+/// operation, and those before it are told. `Output`: the sink failed, and took a beginning.
 #[tactic(none)]
 pub fn put_cuts<E: Order, T: Sink>(
     alloc: Global,
-    mounted: &Mounted<'_>,
-    flash: Flash,
+    start: &Start<'_, '_, E>,
     telling: Telling,
     ops: &[Op<'_>],
     lines: &[usize],
     sink: &mut T,
 ) -> Result<usize, CutsFault>
-    requires mount { IsMountOf E.order flash.geometry.block mounted.now }
-    requires numbered { length lines.now ≡ length ops.now }
-    ensures { PutsCuts E.order flash mounted.now
+    requires { length lines.now ≡ length ops.now }
+    ensures { PutsCuts E.order (flash_of_start start.now) (mount_of start.now).image
         (record { telling = telling; ops = ops.now; lines = lines.now })
         (change_of T.Sink sink.old sink.new) result }
 {
-    let mut plan = match resume_plan::<E>(alloc, mounted, flash) {
+    let mut plan = match plan_from::<E>(alloc, start) {
         Ok(plan) => plan,
-        Err(fault) => return Err(CutsFault::Session { fault, line: None }),
+        Err(_) => {
+            let fault = SessionFault::OutOfMemory;
+            return Err(CutsFault::Session { fault, line: None });
+        }
     };
     let from = plan.cursor();
     let counts = match tell_ops::<E, T>(alloc, &mut plan, telling, ops, lines, sink) {

@@ -20,7 +20,7 @@ mod lines;
 mod planning;
 mod standing;
 
-pub use crate::cuts::{CutsFault, Flash, put_cuts};
+pub use crate::cuts::{CutsFault, put_cuts};
 pub use crate::held::Held;
 pub use crate::lines::{StepNode, Telling, put_end, put_nodes};
 pub use crate::planning::{Plan, plan_op};

@@ -7,6 +7,7 @@ use Rattle.jscan.specs.declared.page.Page.{Page}
 use Rattle.jlog.specs.Headline.{is_flash_of, resume_address}
 use Rattle.jlog.specs.declared.fault.SessionFault.{SessionFault}
 use Rattle.jlog.specs.declared.fault.SessionFault.TheVariants as fault
+use Rattle.jlog.specs.declared.start.Flash.{Flash}
 
 -- An image that may not be written is not resumed, nor is one that a flash of so many blocks does
 -- not hold; any other is at the block from which on the flash is blank.
@@ -26,3 +27,7 @@ resumes_by page e size blocks mount =
     if mount.read_only then Err fault.ReadOnly else
     if is_flash_of size blocks mount.image && page_fits size page then Ok
     (resume_address e size blocks mount.image) else Err fault.Geometry
+
+-- the same on a flash, by its page
+abbrev pub resumes : Endian → Flash → Mount → Result ℕ SessionFault
+resumes e flash mount = resumes_by flash.page e flash.geometry.block flash.blocks mount

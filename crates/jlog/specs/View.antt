@@ -1,24 +1,55 @@
--- What contracts see of a session.
-use Rattle.std.specs.Prelude.{◌≡◌, ℕ, ◌+◌, ◌≤◌, Bool, IsTrue, IsFalse, List, [], ◌++◌, take, slice_get, vec_capacity, option_map, Option, Result}
+-- What contracts see of where a session begins, and of a session.
+use Rattle.std.specs.Prelude.{◌≡◌, ℕ, ◌+◌, ◌≤◌, Bool, IsTrue, IsFalse, List, [], ◌++◌, take, slice_get, vec_capacity, option_map, Option, Result, Ok}
 use Rattle.byteorder.specs.declared.ByteOrder.{Ghosts as OfByteOrder}
 use Rattle.flashbase.specs.Sinks.{change_of}
 use Rattle.flashbase.specs.declared.sink.Sink.{Ghosts as OfSink}
+use Rattle.jnode.specs.declared.order.Endian.{Endian}
 use Rattle.jnode.specs.declared.order.Order.{Ghosts as OfOrder}
+use Rattle.jmount.specs.Mount.{Mount}
 use Rattle.jmount.specs.Shape.{HasShape}
 use Rattle.jsteps.specs.Steps.{sizes, after}
-use Rattle.jsteps.specs.Nodes.{Indexed}
+use Rattle.jsteps.specs.Nodes.{Indexed, indexed}
 use Rattle.jscan.specs.Pages.{page_size}
 use Rattle.jsteps.specs.Refusals.{steps_of_first}
 use Rattle.jsteps.specs.declared.op.Op.{Op}
 use Rattle.jscan.specs.declared.page.Page.{Page}
+use Rattle.jlog.specs.Resuming.{resumes}
 use Rattle.jlog.specs.Running.{log_at}
-use Rattle.jlog.specs.Session.{Flash, LogState, Applies, Runs, TellsBlocks, IsFresh, attempted}
+use Rattle.jlog.specs.Session.{Flash as LogFlash, LogState, Applies, Runs, TellsBlocks, IsFresh, attempted}
 use Rattle.jlog.specs.Done.{GoesOnBy, SurvivesAfter, steps_on}
 use Rattle.jlog.specs.declared.fault.SessionFault.{SessionFault}
 use Rattle.jlog.specs.declared.fault.SessionFault.TheVariants as fault
 use Rattle.jlog.specs.declared.report.Place.{Place}
 use Rattle.jlog.specs.declared.report.RunReport.{RunReport}
 use Rattle.jlog.specs.declared.session.Session.{Session}
+use Rattle.jlog.specs.declared.start.Flash.{Flash}
+use Rattle.jlog.specs.declared.start.Start.{Start}
+
+-- a flash as a log that writes it in this order sees it
+abbrev pub written_flash : Endian → Flash → LogFlash
+written_flash e flash = record {
+  order = e;
+  size = flash.geometry.block;
+  blocks = flash.blocks;
+  page = page_size flash.page;
+}
+
+-- ---- where a session begins
+
+module _ {E : Type 0} {order : OfOrder E} {numbers : OfByteOrder E} where
+  -- the mounted image that is gone on from
+  abbrev pub mount_of : Start E order numbers → Mount
+  mount_of start = start.mounted.now
+
+  -- the flash that is written, and the page by which files are cut
+  abbrev pub flash_of_start : Start E order numbers → Flash
+  flash_of_start start = start.flash
+
+  -- the address where writing goes on
+  abbrev pub address_of : Start E order numbers → ℕ
+  address_of start = start.address
+
+-- ---- a session
 
 module _ {E : Type 0} {S : Type 0} {order : OfOrder E} {numbers : OfByteOrder E}
     {sink : OfSink S} where
@@ -62,7 +93,7 @@ module _ {E : Type 0} {S : Type 0} {order : OfOrder E} {numbers : OfByteOrder E}
       (base_of session) (cursor_of session) (index_of_log session)
 
   -- the flash that it writes
-  abbrev pub flash_of_log : Session E S order numbers sink → Flash
+  abbrev pub flash_of_log : Session E S order numbers sink → LogFlash
   flash_of_log session = record {
     order = order.order;
     size = block_size_of session;
@@ -115,6 +146,22 @@ module _ {E : Type 0} {S : Type 0} {order : OfOrder E} {numbers : OfByteOrder E}
   HasDone session done =
       GoesOnBy (page_size (page_of session)) order.order (block_size_of session) (blocks_of session)
       (base_of session) done (cursor_of session) (index_of_log session)
+
+  -- It goes on from a mounted image on a flash, and puts what it writes to a sink. So it has the
+  -- base's own index and resume address, and no operation was done yet.
+  pub record IsBegunOn (mount : Mount) (flash : Flash) (given : S)
+      (session : Session E S order numbers sink) : Type 0 where
+    pub base : base_of session ≡ mount.image
+    pub block : block_size_of session ≡ flash.geometry.block
+    pub blocks : blocks_of session ≡ flash.blocks
+    pub page : page_of session ≡ flash.page
+    pub index : index_of_log session ≡ indexed mount
+    pub cursor : resumes order.order flash mount ≡ Ok (cursor_of session)
+    pub whole : IsFalse (is_broken session)
+    pub sink : sink_of session ≡ given
+    pub buffer : HoldsLongestNode session
+    pub resumed : IsResumed session
+    pub begins : HasDone session []
 
   -- Whatever was done before: its steps, and then those of the operations that were attempted,
   -- survive on the session's base.

@@ -21,6 +21,7 @@ mod report;
 mod resuming;
 mod room;
 mod session;
+mod start;
 mod writing;
 
 pub use crate::fault::SessionFault;
@@ -29,3 +30,4 @@ pub use crate::putting::{put_erased, put_node};
 pub use crate::report::{Applied, Place, RunReport};
 pub use crate::resuming::{page_fits, resume_at};
 pub use crate::session::Session;
+pub use crate::start::{Flash, Start};

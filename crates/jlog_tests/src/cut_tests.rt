@@ -3,9 +3,10 @@
 
 use crate::checks::expect_at;
 use crate::plain::{Change, Plain};
-use crate::sessions::{BY, Flash, Outcome, run_in_turn, run_paged};
+use crate::sessions::{BY, Outcome, run_in_turn, run_paged};
 use crate::stopped::Log;
 use byteorder::{BigEndian, LittleEndian};
+use jlog::Flash;
 use jmount::mount;
 use jnode::{Damage, Order};
 use jscan::{Finding, FindingKind, Geometry, Page};

@@ -4,15 +4,21 @@ use crate::checks::expect;
 use crate::sessions::BY;
 use byteorder::LittleEndian;
 use flashbase::pad4;
-use jlog::{Place, Session, SessionFault};
-use jmount::mount;
-use jscan::Geometry;
+use jlog::{Flash, Place, Session, SessionFault, Start};
+use jmount::{Mounted, mount};
+use jscan::{Geometry, Page};
 use jsteps::Op;
 use std::alloc::Global;
 use test_operations::ops_of;
 use test_support::{Matcher, Taker};
 
 const GEOMETRY: Geometry = Geometry { block: 8192 };
+
+const FLASH: Flash = Flash {
+    geometry: GEOMETRY,
+    blocks: 2,
+    page: Page::P4096,
+};
 
 /// Over two blocks, with a name that an index cannot keep without memory.
 const LINES: [&str; 7] = [
@@ -79,21 +85,46 @@ fn are_run(alloc: Global, mut log: Log<'_, '_>, ops: &[Op<'_>], len: usize) -> b
     }
 }
 
-/// A session on an empty flash puts these bytes for these operations. One that is refused its
-/// memory is asked for again.
+/// A session on a mounted image, begun or resumed. One that is refused its memory hands its sink
+/// back, and is asked for again.
+fn log_on<'a, 'b>(
+    alloc: Global,
+    mounted: &Mounted<'a>,
+    sink: Matcher<'b>,
+    is_begun: bool,
+) -> Result<Log<'a, 'b>, Matcher<'b>> {
+    if is_begun {
+        let Ok(start) = Start::<LittleEndian>::of(mounted, FLASH) else {
+            return Err(sink);
+        };
+        return match Log::begin(alloc, &start, sink) {
+            Ok(log) => Ok(log),
+            Err((_, sink)) => Log::begin(alloc, &start, sink).map_err(|(_, sink)| sink),
+        };
+    }
+    let Flash {
+        geometry,
+        blocks,
+        page,
+    } = FLASH;
+    match Log::resume_or_return(alloc, mounted, geometry, blocks, page, sink) {
+        Ok(log) => Ok(log),
+        Err((_, sink)) => Log::resume_or_return(
+            alloc, mounted, geometry, blocks, page, sink,
+        ).map_err(|(_, sink)| sink),
+    }
+}
+
+/// A session on an empty flash puts these bytes for these operations.
 fn are_put(alloc: Global, ops: &[Op<'_>], whole: &[u8], in_one_run: bool) -> bool {
     let Ok(mounted) = mount::<LittleEndian>(alloc, &[], GEOMETRY) else {
         return true;
     };
-    let sink = || Matcher {
+    let sink = Matcher {
         rest: whole,
         failures: 0,
     };
-    let mut resumed = Log::resume(alloc, &mounted, GEOMETRY, 2, sink());
-    if matches!(resumed, Err(SessionFault::OutOfMemory)) {
-        resumed = Log::resume(alloc, &mounted, GEOMETRY, 2, sink());
-    }
-    match resumed {
+    match log_on(alloc, &mounted, sink, in_one_run) {
         Ok(log) if in_one_run => are_run(alloc, log, ops, whole.len()),
         Ok(log) => are_applied(alloc, log, ops, whole.len()),
         Err(_) => false,

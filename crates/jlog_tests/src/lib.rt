@@ -3,8 +3,8 @@
 //!
 //! `sessions` runs operations onto an image, `cut_tests` mounts what a stop at each byte leaves
 //! (`stopped`) and compares it with a plain file system (`plain`), `sink_tests` lets a sink fail,
-//! `refusal_tests` has where a session may begin, `place_tests` single nodes, and `growth` memory
-//! that is refused. Where nodes go, byte for byte, tests/listings.py shows.
+//! `start_tests` has where a session begins, `refusal_tests` where it may not, `place_tests` single
+//! nodes, and `growth` memory that is refused. Where nodes go, byte for byte, tests/listings.py shows.
 #![tactic(auto)]
 
 #[cfg(test)]
@@ -23,5 +23,7 @@ mod refusal_tests;
 mod sessions;
 #[cfg(test)]
 mod sink_tests;
+#[cfg(test)]
+mod start_tests;
 #[cfg(test)]
 mod stopped;

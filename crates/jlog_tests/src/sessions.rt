@@ -1,10 +1,9 @@
 //! Operations run onto an image.
 
 use flashbase::FromWriter;
-use jlog::{RunReport, Session};
+use jlog::{Flash, RunReport, Session};
 use jmount::mount;
 use jnode::Order;
-use jscan::{Geometry, Page};
 use jsteps::Op;
 use std::alloc::Global;
 use std::test::Fail;
@@ -32,14 +31,6 @@ pub const CUT_LINES: [&str; 4] = [
     "truncate /a 4",
     "write /a 8 1",
 ];
-
-/// A flash, and the page that bytes are cut by.
-#[derive(Clone, Copy)]
-pub struct Flash {
-    pub geometry: Geometry,
-    pub blocks: u32,
-    pub page: Page,
-}
 
 /// Runs operations in a session.
 fn run_in<E: Order>(

@@ -1,7 +1,7 @@
 use Rattle.std.proofs.Common.{rules, ◌≡◌, ◌∙◌, ◌+◌, ◌<◌, ◌≤◌, ℕ, suc, Ok, Err, length, get_or, refl, subst, arith}
 use Rattle.jscan.specs.Pages.{page_size}
 use Rattle.jcuts.specs.Cuts.{Asked, Point, TellsOp, flash_of, point_of}
-use Rattle.jcuts.specs.declared.cuts.Flash.{Flash}
+use Rattle.jlog.specs.declared.start.Flash.{Flash}
 use Rattle.jcuts.proofs.CutsLemmas.{Told, all_told, next_fits, none_told, told_next, told_stop}
 use Rattle.jcuts.proofs.cuts.tell_ops.Goals as goal
 
