@@ -12,13 +12,13 @@
 
 mod accepted;
 mod emitting;
+mod host_files;
 pub mod laws;
 mod listed;
-mod parts;
 mod reading;
 mod span;
 
 pub use crate::accepted::put_accepted;
 pub use crate::emitting::{Emitted, emit};
+pub use crate::host_files::HostFiles;
 pub use crate::listed::operations;
-pub use crate::parts::Parts;
