@@ -12,6 +12,7 @@
 
 mod accepted;
 mod emitting;
+mod host_files;
 pub mod laws;
 mod listed;
 mod host_files;
