@@ -2,7 +2,7 @@
 use Rattle.std.proofs.Common.{◌≡◌, ℕ, suc, ◌+◌, ◌-◌, ◌*◌, ◌/◌, ◌%◌, ◌<◌, ◌≤◌, max, leb, Bool, true, false, List, [], ◌∷◌, ◌++◌, length, map, refl, sym, ap, subst, ◌∙◌, arith, inl, inr, length-append}
 use Rattle.std.proofs.lemmas.Bool.{cond-true, cond-false, le-leb, lt-leb, cases_lt, and_parts, eqb-true}
 use Rattle.std.proofs.lemmas.List.{length-replicate}
-use Rattle.std.specs.Prelude.{◌&&◌, ◌==◌, IsTrue, nat_le, nat_lt, slice_get, Ok, Err, IsOk, if◌then◌else◌}
+use Rattle.std.specs.Prelude.{◌&&◌, ◌==◌, IsTrue, nat_le, nat_lt, slice_get, Ok}
 use Rattle.std.specs.Option.{option_map_or}
 use Rattle.jscan.specs.Image.{is_block_size, greatest_image}
 use Rattle.jsteps.specs.Refusals.{steps_of_first}
@@ -17,13 +17,13 @@ use Rattle.jlog.specs.Headline.{is_flash_of, resume_address}
 use Rattle.jlog.specs.Output.{gap, output}
 use Rattle.jlog.specs.Places.{place_after, end_after, end_of_all, is_writable_flash, places}
 use Rattle.jmount.specs.Mount.{Mount}
-use Rattle.jlog.specs.Resuming.{resumes_by, page_fits}
-use Rattle.jlog.specs.declared.fault.SessionFault.TheVariants as session
+use Rattle.jlog.specs.Resuming.{resumes_by}
 use Rattle.jlog.specs.Running.{places_of, shown_place, written}
 use Rattle.jlog.specs.Session.{Flash}
 use Rattle.jlog.specs.declared.report.Place.{Place}
 use Rattle.jlog.proofs.CodeLemmas.{flash_limits}
 use Rattle.jlog.proofs.PlaceLemmas.{block_floor, div_at, pad4_behind, times_words}
+use Rattle.jlog.proofs.ResumeLemmas.{resumed_at, resumed_paged}
 use Rattle.jlog.proofs.SightLemmas.{marker_long}
 use Rattle.jbuild.specs.Accepted.{end_of_places}
 use Rattle.jbuild.specs.Emitting.{index_on, resume_on}
@@ -160,10 +160,5 @@ pub line_tells_length : LineTellsLength
 line_tells_length flash base ops accepted told sink fits emitted = tells_length flash base ops accepted told fits emitted.runs.2.wrote.places
 
 -- an image that is gone on from fits its flash
-pub goes_on_flash : (page : Page) (e : Endian) (size blocks : ℕ) (m : Mount) → IsOk (resumes_by page e size blocks m) → IsTrue (is_flash_of size blocks m.image)
-goes_on_flash page e size blocks m ok = by m.read_only (is_flash_of size blocks m.image) (page_fits size page) ok
-  where
-    by : (b c d : Bool) → IsOk (if b then Err session.ReadOnly else (if c && d then Ok (resume_address e size blocks m.image) else Err session.Geometry)) → IsTrue c
-    by true c d is = cc
-    by false true d is = refl
-    by false false d is = cc
+pub goes_on_flash : (page : Page) (e : Endian) (size blocks : ℕ) (m : Mount) (at : ℕ) → resumes_by page e size blocks m ≡ Ok at → IsTrue (is_flash_of size blocks m.image)
+goes_on_flash page e size blocks m at is = (resumed_at e size blocks m at (resumed_paged page e size blocks m at is).0).flash

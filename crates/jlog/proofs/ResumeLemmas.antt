@@ -1,6 +1,6 @@
 -- A session that goes on from a mounted image.
-use Rattle.std.proofs.Common.{◌≡◌, ℕ, Bool, true, false, cond, Result, Ok, Err, ◌*◌, ◌≤◌, List, length, refl, sym, ap, ◌∙◌, subst, arith}
-use Rattle.std.specs.Prelude.{IsTrue, nat_le, nat_lt, ◌&&◌}
+use Rattle.std.proofs.Common.{◌≡◌, ℕ, Bool, true, false, cond, Result, Ok, Err, ◌*◌, ◌≤◌, List, length, inl, inr, refl, sym, ap, ◌∙◌, subst, arith}
+use Rattle.std.specs.Prelude.{IsTrue, IsOk, nat_le, nat_lt, ◌&&◌, ◌⊎◌}
 use Rattle.std.proofs.Math.Nat.{mul-le-mul_right}
 use Rattle.std.proofs.lemmas.Bool.{and_parts, leb-true}
 use Rattle.flashbase.specs.Ranges.{AreBytes}
@@ -15,7 +15,8 @@ use Rattle.jsteps.specs.Laws.{IsConsistent}
 use Rattle.jsteps.proofs.ConsistentLemmas.{index_is_consistent, index_is_of_nodes}
 use Rattle.jlog.specs.Places.{is_writable_flash}
 use Rattle.jlog.specs.Headline.{is_flash_of, resume_address}
-use Rattle.jlog.specs.Resuming.{resumes_at}
+use Rattle.jscan.specs.declared.page.Page.{Page}
+use Rattle.jlog.specs.Resuming.{resumes_at, resumes_by, page_fits}
 use Rattle.jlog.specs.Session.{IsGoing, IsFresh}
 use Rattle.jlog.specs.declared.fault.SessionFault.{SessionFault}
 use Rattle.jlog.specs.declared.fault.SessionFault.TheVariants as fault
@@ -113,3 +114,37 @@ fresh_by e size blocks m image at x is mount image_is index_is =
     subst (λ (l : List ℕ). IsFresh e size blocks l at x) (sym image_is)
     (subst (IsFresh e size blocks m.image at) (sym index_is)
     (subst (λ (n : ℕ). IsFresh e size blocks m.image n (indexed m)) (sym ok.cursor) (fresh e size blocks m ok.flash mount)))
+
+-- ---- by a page
+
+-- an address by a page is one without
+pub resumed_paged : (page : Page) (e : Endian) (size blocks : ℕ) (m : Mount) (at : ℕ) → resumes_by page e size blocks m ≡ Ok at
+    → (resumes_at e size blocks m ≡ Ok at) × IsTrue (page_fits size page)
+resumed_paged page e size blocks m at is = by m.read_only (is_flash_of size blocks m.image) (page_fits size page) is
+  where
+    by : (r ok fits : Bool) → answer r (ok && fits) (resume_address e size blocks m.image) ≡ Ok at → (answer r ok (resume_address e size blocks m.image) ≡ Ok at) × IsTrue fits
+    by true ok fits is = cc
+    by false true true is = (is, refl)
+    by false true false is = cc
+    by false false fits is = cc
+
+-- why an image is not gone on from
+pub why_not : (page : Page) (e : Endian) (size blocks : ℕ) (m : Mount) (f : SessionFault) → resumes_by page e size blocks m ≡ Err f → (f ≡ fault.ReadOnly) ⊎ (f ≡ fault.Geometry)
+why_not page e size blocks m f is = by m.read_only (is_flash_of size blocks m.image && page_fits size page) is
+  where
+    by : (r ok : Bool) → answer r ok (resume_address e size blocks m.image) ≡ Err f → (f ≡ fault.ReadOnly) ⊎ (f ≡ fault.Geometry)
+    by true ok is = inl cc
+    by false true is = cc
+    by false false is = inr cc
+
+-- it is not for want of memory
+pub not_of_memory : (page : Page) (e : Endian) (size blocks : ℕ) (m : Mount) (f : SessionFault) → resumes_by page e size blocks m ≡ Err f → f ≡ fault.OutOfMemory → IsOk (resumes_by page e size blocks m)
+not_of_memory page e size blocks m f is memory = elim (why_not page e size blocks m f is) [
+  | inl other ↦ absurd (apart_read_only (sym other ∙ memory))
+  | inr other ↦ absurd (apart_geometry (sym other ∙ memory))
+]
+  where
+    apart_read_only : fault.ReadOnly ≡ fault.OutOfMemory → ⊥
+    apart_read_only is = cc
+    apart_geometry : fault.Geometry ≡ fault.OutOfMemory → ⊥
+    apart_geometry is = cc
