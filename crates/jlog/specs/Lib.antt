@@ -1,4 +1,5 @@
 pub mod Places
+pub mod OneProof
 pub mod Output
 pub mod Left
 pub mod Examples

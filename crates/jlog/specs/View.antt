@@ -53,48 +53,48 @@ module _ {E : Type 0} {order : OfOrder E} {numbers : OfByteOrder E} where
 -- ---- a session
 
 module _ {E : Type 0} {S : Type 0} {order : OfOrder E} {numbers : OfByteOrder E}
-    {sink : OfSink S} where
+    {sinks : OfSink S} where
   -- the bytes that were mounted
-  abbrev pub base_of : Session E S order numbers sink → List ℕ
+  abbrev pub base_of : Session E S order numbers sinks → List ℕ
   base_of session = session.base.now
 
   -- how the flash is divided: so many bytes a block, and so many blocks
-  abbrev pub block_size_of : Session E S order numbers sink → ℕ
+  abbrev pub block_size_of : Session E S order numbers sinks → ℕ
   block_size_of session = session.block
 
-  abbrev pub blocks_of : Session E S order numbers sink → ℕ
+  abbrev pub blocks_of : Session E S order numbers sinks → ℕ
   blocks_of session = session.blocks
 
   -- the page by which writes are planned
-  abbrev pub page_of : Session E S order numbers sink → Page
+  abbrev pub page_of : Session E S order numbers sinks → Page
   page_of session = session.page
 
   -- the address where writing goes on
-  abbrev pub cursor_of : Session E S order numbers sink → ℕ
+  abbrev pub cursor_of : Session E S order numbers sinks → ℕ
   cursor_of session = session.cursor
 
   -- what operations are planned on
-  abbrev pub index_of_log : Session E S order numbers sink → Indexed
+  abbrev pub index_of_log : Session E S order numbers sinks → Indexed
   index_of_log session = session.index
 
   -- an operation was written in part
-  abbrev pub is_broken : Session E S order numbers sink → Bool
+  abbrev pub is_broken : Session E S order numbers sinks → Bool
   is_broken session = session.broken
 
-  abbrev pub sink_of : Session E S order numbers sink → S
+  abbrev pub sink_of : Session E S order numbers sinks → S
   sink_of session = session.sink
 
   -- its buffer holds the longest node: the fields of an inode node, and the bytes of a page
-  abbrev pub HoldsLongestNode : Session E S order numbers sink → Type 0
+  abbrev pub HoldsLongestNode : Session E S order numbers sinks → Type 0
   HoldsLongestNode session = page_size (page_of session) + inode_len ≤ vec_capacity session.buffer
 
   -- it goes on from its base, as resuming gives it
-  abbrev pub IsResumed : Session E S order numbers sink → Type 0
+  abbrev pub IsResumed : Session E S order numbers sinks → Type 0
   IsResumed session = IsFresh order.order (block_size_of session) (blocks_of session)
       (base_of session) (cursor_of session) (index_of_log session)
 
   -- the flash that it writes
-  abbrev pub flash_of_log : Session E S order numbers sink → LogFlash
+  abbrev pub flash_of_log : Session E S order numbers sinks → LogFlash
   flash_of_log session = record {
     order = order.order;
     size = block_size_of session;
@@ -103,7 +103,7 @@ module _ {E : Type 0} {S : Type 0} {order : OfOrder E} {numbers : OfByteOrder E}
   }
 
   -- its state, with the places told of its nodes
-  abbrev pub state_with : Session E S order numbers sink → List Place → LogState
+  abbrev pub state_with : Session E S order numbers sinks → List Place → LogState
   state_with session places = record {
     log = log_at (cursor_of session) (index_of_log session) places;
     broken = is_broken session;
@@ -111,30 +111,30 @@ module _ {E : Type 0} {S : Type 0} {order : OfOrder E} {numbers : OfByteOrder E}
 
   -- Applying an operation to the one leaves the other, and the places of its nodes are added to
   -- those before.
-  abbrev pub AppliesTo : {T : Type 0} → Session E S order numbers sink → Op
-      → Session E S order numbers sink → List Place → List Place → Result T SessionFault → Type 0
+  abbrev pub AppliesTo : {T : Type 0} → Session E S order numbers sinks → Op
+      → Session E S order numbers sinks → List Place → List Place → Result T SessionFault → Type 0
   AppliesTo old o new before after result =
       Applies (flash_of_log old) (state_with old before) o (state_with new after)
-      (change_of sink (sink_of old) (sink_of new)) result
+      (change_of sinks (sink_of old) (sink_of new)) result
 
   -- This is answered of the blocks that an operation needs.
-  abbrev pub TellsBlocksFor : Session E S order numbers sink → Op
+  abbrev pub TellsBlocksFor : Session E S order numbers sinks → Op
       → Result (Option ℕ) SessionFault → Type 0
   TellsBlocksFor session o result =
       TellsBlocks (flash_of_log session) (state_with session []) o result
 
   -- Running operations on the one leaves the other: so many were accepted, their nodes have these
   -- places, and this stopped it.
-  abbrev pub RunsOn : Session E S order numbers sink → List Op → Session E S order numbers sink → ℕ
+  abbrev pub RunsOn : Session E S order numbers sinks → List Op → Session E S order numbers sinks → ℕ
       → List Place → Option SessionFault → Type 0
   RunsOn old ops new accepted places stopped =
       Runs (flash_of_log old) (state_with old []) ops accepted (state_with new places)
-      (change_of sink (sink_of old) (sink_of new)) stopped
+      (change_of sinks (sink_of old) (sink_of new)) stopped
 
   -- A broken session does nothing: it accepts no operation, tells no place, and leaves its sink
   -- alone. The first operation, where there is one, meets S6.
-  pub record IsHalted (old : Session E S order numbers sink) (ops : List Op)
-      (new : Session E S order numbers sink) (report : RunReport) : Type 0 where
+  pub record IsHalted (old : Session E S order numbers sinks) (ops : List Op)
+      (new : Session E S order numbers sinks) (report : RunReport) : Type 0 where
     pub none_accepted : report.accepted ≡ 0
     pub no_places : report.places.items ≡ []
     pub same_sink : sink_of new ≡ sink_of old
@@ -143,7 +143,7 @@ module _ {E : Type 0} {S : Type 0} {order : OfOrder E} {numbers : OfByteOrder E}
 
   -- Since it was resumed these operations were done, in whatever calls, and the session goes on
   -- after them.
-  abbrev pub HasDone : Session E S order numbers sink → List Op → Type 0
+  abbrev pub HasDone : Session E S order numbers sinks → List Op → Type 0
   HasDone session done =
       GoesOnBy (page_size (page_of session)) order.order (block_size_of session) (blocks_of session)
       (base_of session) done (cursor_of session) (index_of_log session)
@@ -151,7 +151,7 @@ module _ {E : Type 0} {S : Type 0} {order : OfOrder E} {numbers : OfByteOrder E}
   -- It goes on from a mounted image on a flash, and puts what it writes to a sink. So it has the
   -- base's own index and resume address, and no operation was done yet.
   pub record IsBegunOn (mount : Mount) (flash : Flash) (given : S)
-      (session : Session E S order numbers sink) : Type 0 where
+      (session : Session E S order numbers sinks) : Type 0 where
     pub base : base_of session ≡ mount.image
     pub block : block_size_of session ≡ flash.geometry.block
     pub blocks : blocks_of session ≡ flash.blocks
@@ -166,7 +166,7 @@ module _ {E : Type 0} {S : Type 0} {order : OfOrder E} {numbers : OfByteOrder E}
 
   -- Whatever was done before: its steps, and then those of the operations that were attempted,
   -- survive on the session's base.
-  abbrev pub RunSurvives : Session E S order numbers sink → List Op → Session E S order numbers sink
+  abbrev pub RunSurvives : Session E S order numbers sinks → List Op → Session E S order numbers sinks
       → ℕ → Type 0
   RunSurvives old ops new accepted = (done : List Op) → HasDone old done
       → SurvivesAfter order.order (block_size_of old) (blocks_of old) (base_of old)
@@ -175,19 +175,19 @@ module _ {E : Type 0} {S : Type 0} {order : OfOrder E} {numbers : OfByteOrder E}
       (attempted accepted (is_broken new)))
 
   -- What was accepted is done, after what was done before.
-  abbrev pub HasDoneMore : Session E S order numbers sink → List Op → Session E S order numbers sink
+  abbrev pub HasDoneMore : Session E S order numbers sinks → List Op → Session E S order numbers sinks
       → ℕ → Type 0
   HasDoneMore old ops new accepted =
       (done : List Op) → HasDone old done → HasDone new (done ++ take accepted ops)
 
   -- A tree that had its shape has it again, unless an operation was written in part.
-  abbrev pub KeepsShape : Session E S order numbers sink → Session E S order numbers sink → Type 0
+  abbrev pub KeepsShape : Session E S order numbers sinks → Session E S order numbers sinks → Type 0
   KeepsShape old new =
       IsFalse (is_broken new) → HasShape (index_of_log old).tree → HasShape (index_of_log new).tree
 
   -- So it is after each whole operation that was accepted, also where the next one broke the
   -- session.
-  abbrev pub RunKeepsShape : Session E S order numbers sink → List Op → ℕ → Type 0
+  abbrev pub RunKeepsShape : Session E S order numbers sinks → List Op → ℕ → Type 0
   RunKeepsShape old ops accepted = HasShape (index_of_log old).tree → (n : ℕ) → n ≤ accepted
       → HasShape (after sizes (index_of_log old).tree
       (steps_of_first (page_size (page_of old)) (index_of_log old) ops n))
