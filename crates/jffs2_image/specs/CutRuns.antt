@@ -1,5 +1,5 @@
 -- What a run of the program does that tells what stands after a stop.
-use Rattle.std.specs.Prelude.{◌≡◌, ◌⊎◌, ℕ, Bool, List, [], map, Option, Some, None, Result, Ok, Err}
+use Rattle.std.specs.Prelude.{◌≡◌, ◌⊎◌, ℕ, Bool, List, [], map, Option, Some, None, Result, Ok, Err, IsOk}
 use Rattle.flashbase.specs.Device.{next_count}
 use Rattle.flashbase.specs.Sinks.{SinkChange}
 use Rattle.jnode.specs.declared.order.Endian.{Endian}
@@ -9,12 +9,13 @@ use Rattle.jscan.specs.declared.page.Page.{Page}
 use Rattle.jlisting.specs.Broken.{IsBadLine}
 use Rattle.jlisting.specs.Listing.{lines_of}
 use Rattle.jlisting.specs.declared.line.Line.{Line}
+use Rattle.jlog.specs.Resuming.{resumes}
 use Rattle.jlog.specs.declared.fault.SessionFault.{SessionFault}
+use Rattle.jlog.specs.declared.start.Flash.{Flash}
 use Rattle.jbuild.specs.Operations.{ops_in}
 use Rattle.jcuts.specs.Cuts.{Asked, PutsCuts}
 use Rattle.jcuts.specs.declared.cuts.CutsFault.{CutsFault}
 use Rattle.jcuts.specs.declared.cuts.CutsFault.TheVariants as cuts
-use Rattle.jcuts.specs.declared.cuts.Flash.{Flash}
 use Rattle.jcuts.specs.declared.lines.Telling.TheVariants.{Nodes}
 use Rattle.jreport.specs.Advice.{fault_lines_of}
 use Rattle.jreport.specs.declared.cause.Cause.TheVariants as causes
@@ -52,18 +53,30 @@ answer_of_cuts flash image (Err (cuts.Session fault line)) =
     Err (program.Session fault line (cause_of_cuts flash image fault))
 answer_of_cuts flash image (Err cuts.Output) = Err program.Output
 
+-- Writing does not go on in a mounted image: this is the fault.
+abbrev pub IsNotStarted : Endian → Flash → Mount → ProgramFault → Type 0
+IsNotStarted e flash m told = (fault : SessionFault) × (resumes e flash m ≡ Err fault)
+    × (told ≡ program.Session fault None (cause_of_cuts flash m.image fault))
+
+-- Operations on a mounted image: writing does not go on there, and nothing is told; or it does, and
+-- they are told, with this answer.
+abbrev pub TellsOn : Endian → Flash → Mount → Asked → SinkChange → Result ℕ ProgramFault → Type 0
+TellsOn e flash m asked sink answer =
+    ((fault : ProgramFault) × (answer ≡ Err fault) × IsNotStarted e flash m fault
+    × (sink.new ≡ sink.old) × (sink.now ≡ sink.before))
+    ⊎ ((cuts : Result ℕ CutsFault) × IsOk (resumes e flash m)
+    × PutsCuts e flash m.image asked sink cuts × (answer ≡ answer_of_cuts flash m.image cuts))
+
 -- The listing's operations on a base that mounts are told, with the bytes of the host's files.
 pub record TellsLines (told : List ℕ → Option (List ℕ)) (e : Endian) (flash : Flash)
     (base text : List ℕ) (sink : SinkChange) (answer : Result ℕ ProgramFault) : Type 0 where
   pub lines : List Line
   pub files : List ℕ → List ℕ
   pub mount : Mount
-  pub cuts : Result ℕ CutsFault
   pub read : lines_of text ≡ Ok lines
   pub bytes : HaveBytes told lines files
   pub mounts : Answers e flash.geometry.block base (Ok mount)
-  pub puts : PutsCuts e flash mount (asked_of e files lines) sink cuts
-  pub comes_to : answer ≡ answer_of_cuts flash mount.image cuts
+  pub tells : TellsOn e flash mount (asked_of e files lines) sink answer
 
 -- why nothing is told of them
 abbrev pub IsLinesFault : (List ℕ → Option (List ℕ)) → Endian → ℕ → List ℕ → List ℕ → ProgramFault

@@ -10,12 +10,12 @@ use Rattle.jscan.specs.declared.page.Page.{Page}
 use Rattle.jlisting.specs.Listing.{lines_of}
 use Rattle.jlisting.specs.declared.line.Line.{Line}
 use Rattle.jlog.specs.Headline.{AreAccepted}
-use Rattle.jlog.specs.Resuming.{resumes_by}
+use Rattle.jlog.specs.Resuming.{resumes}
+use Rattle.jlog.specs.declared.start.Flash.{Flash}
 use Rattle.jbuild.specs.Operations.{ops_in}
 use Rattle.jconvert.specs.Converting.{Converts}
 use Rattle.jcuts.specs.Lines.{weak_count, weak_line}
 use Rattle.jcuts.specs.Telling.{standings_told}
-use Rattle.jcuts.specs.declared.cuts.Flash.{Flash}
 use Rattle.jcuts.specs.declared.standing.Standing.{Standing}
 use Rattle.jreport.specs.Advice.{fault_lines_of}
 use Rattle.jreport.specs.declared.faults.ProgramFault.{ProgramFault}
@@ -50,7 +50,7 @@ pub record AreNotes (e : Endian) (flash : Flash) (base : List ℕ) (ops : List O
 
 -- A mounted image is gone on from, and all operations on it are accepted.
 pub record AreAllTaken (e : Endian) (flash : Flash) (m : Mount) (ops : List Op) : Type 0 where
-  pub resumes : IsOk (resumes_by flash.page e flash.geometry.block flash.blocks m)
+  pub resumes : IsOk (resumes e flash m)
   pub accepted : AreAccepted (page_size flash.page) e flash.geometry.block flash.blocks m.image ops
       (length ops)
 

@@ -1,13 +1,15 @@
 //! `cuts`: what stands after a stop of writing, told of the operations of a listing.
-ghost use Rattle.std.specs.Prelude.{◌≡◌, ◌≤◌, ℕ, List, Option, Ok, Err, IfErr, IfOk, length, option_map};
+ghost use Rattle.std.specs.Prelude.{◌≡◌, ◌≤◌, ℕ, List, Option, Ok, Err, IfErr, IfOk, IsOk, OnOk, length, option_map};
 ghost use Rattle.jmount.specs.Mounts.{IsMountOf};
 ghost use Rattle.jlisting.specs.Listing.{lines_of};
+ghost use Rattle.jlog.specs.Resuming.{resumes};
+ghost use Rattle.jlog.specs.View.{mount_of, flash_of_start};
 ghost use Rattle.jcuts.specs.Cuts.{PutsCuts};
 ghost use Rattle.jcuts.specs.declared.cuts.CutsFault.{CutsFault};
 ghost use Rattle.jcuts.specs.declared.lines.Telling.TheVariants.{Nodes};
 ghost use Rattle.std.specs.Prelude.{Result};
 ghost use Rattle.jffs2_image.specs.Host.{AreRead};
-ghost use Rattle.jffs2_image.specs.CutRuns.{answer_of_cuts, cause_of_cuts, BlamesReading, EndsCuts, FinishesCuts, IsBaseOf, IsBaseUnread, TellsFiles, TellsText};
+ghost use Rattle.jffs2_image.specs.CutRuns.{answer_of_cuts, cause_of_cuts, BlamesReading, EndsCuts, FinishesCuts, IsBaseOf, IsBaseUnread, IsNotStarted, TellsFiles, TellsText};
 ghost use Rattle.flashbase.specs.Sinks.{change_of};
 ghost use Rattle.jffs2_image.specs.Tasks.{passage, reads};
 
@@ -19,9 +21,9 @@ use byteorder::{BigEndian, LittleEndian};
 use flashbase::Sink;
 use jbuild::{HostFiles, operations};
 use jcommand::{Cuts, Outcome};
-use jcuts::{CutsFault, Flash, Telling, put_cuts};
+use jcuts::{CutsFault, Telling, put_cuts};
 use jlisting::{Line, listing};
-use jlog::SessionFault;
+use jlog::{Flash, SessionFault, Start};
 use jmount::Mounted;
 use jnode::{Endian, Order};
 use jreport::{Cause, Plan, ProgramFault, Reason, cause_of, mount_or_tell};
@@ -41,33 +43,55 @@ fn cause_on(mounted: &Mounted<'_>, flash: Flash, fault: SessionFault) -> Cause
     cause_of(plan, fault, Reason::Other, None)
 }
 
-/// Tells operations on a mounted image, with the numbers of their lines. Answers how many nodes are
-/// weak.
+/// Tells operations from where a log goes on in a mounted image, with the numbers of their lines.
+/// Answers how many nodes are weak.
 #[tactic(none)]
 fn tell_ops<E: Order, T: Sink>(
     alloc: Global,
-    mounted: &Mounted<'_>,
-    flash: Flash,
+    start: &Start<'_, '_, E>,
     ops: &[Op<'_>],
     lines: &[usize],
     sink: &mut T,
 ) -> Result<u64, ProgramFault<'static>>
-    requires mount { IsMountOf E.order flash.geometry.block mounted.now }
-    requires numbered { length lines.now ≡ length ops.now }
-    ensures tells { (cuts : Result ℕ CutsFault) × PutsCuts E.order flash mounted.now
+    requires { length lines.now ≡ length ops.now }
+    ensures tells { (cuts : Result ℕ CutsFault)
+        × PutsCuts E.order (flash_of_start start.now) (mount_of start.now).image
         (record { telling = Nodes; ops = ops.now; lines = lines.now })
         (change_of T.Sink sink.old sink.new) cuts
-        × (result ≡ answer_of_cuts flash mounted.now.image cuts) }
+        × (result ≡ answer_of_cuts (flash_of_start start.now) (mount_of start.now).image cuts) }
     ensures unread { (n : ℕ) → BlamesReading n n result }
 {
-    match put_cuts::<E, T>(alloc, mounted, flash, Telling::Nodes, ops, lines, sink) {
+    match put_cuts::<E, T>(alloc, start, Telling::Nodes, ops, lines, sink) {
         Ok(weak) => Ok(weak as u64),
         Err(CutsFault::Session { fault, line }) => Err(ProgramFault::Session {
             fault,
             line,
-            cause: cause_on(mounted, flash, fault),
+            cause: cause_on(start.mounted(), start.flash(), fault),
         }),
         Err(CutsFault::Output) => Err(ProgramFault::Output),
+    }
+}
+
+/// Where a log goes on in a mounted image, or why it does not.
+fn start_on<'m, 'a, E: Order>(
+    mounted: &'m Mounted<'a>,
+    flash: Flash,
+) -> Result<Start<'m, 'a, E>, ProgramFault<'static>>
+    requires { IsMountOf E.order flash.geometry.block mounted.now }
+    ensures mount { IfOk result (λ start. mount_of start ≡ mounted.now) }
+    ensures flash { IfOk result (λ start. flash_of_start start ≡ flash) }
+    ensures resumes { OnOk result (IsOk (resumes E.order flash mounted.now)) }
+    ensures refused { IfErr result
+        (λ refused. IsNotStarted E.order flash mounted.now refused) }
+    ensures unread { IfErr result (λ refused. (n : ℕ) → BlamesReading n n (Err refused)) }
+{
+    match Start::<E>::of(mounted, flash) {
+        Ok(start) => Ok(start),
+        Err(fault) => Err(ProgramFault::Session {
+            fault,
+            line: None,
+            cause: cause_on(mounted, flash, fault),
+        }),
     }
 }
 
@@ -88,7 +112,11 @@ fn tell_lines<'p, 'b: 'p, E: Order, T: Sink>(
     let numbers = numbers_of(alloc, &lines)?;
     let ops = operations::<E>(alloc, lines, parts)?;
     let mounted = mount_or_tell::<E>(alloc, base, flash.geometry)?;
-    tell_ops::<E, T>(alloc, &mounted, flash, &ops, &numbers, sink)
+    let start = match start_on::<E>(&mounted, flash) {
+        Ok(start) => start,
+        Err(fault) => return Err(fault),
+    };
+    tell_ops::<E, T>(alloc, &start, &ops, &numbers, sink)
 }
 
 /// Tells the operations of a listing's text on a base.

@@ -1,6 +1,6 @@
 //! `--weak`: notes on the weak nodes of what `build` and `append` write.
 ghost use Rattle.std.specs.Prelude.{◌≡◌, ◌≢◌, IsFalse, IsTrue, IfOk, OnOk, length};
-ghost use Rattle.jmount.specs.Mounts.{IsMountOf};
+ghost use Rattle.jlog.specs.View.{mount_of, flash_of_start};
 ghost use Rattle.jcommand.specs.Status.{outcome_of};
 ghost use Rattle.jffs2_image.specs.Runs.{Says};
 ghost use Rattle.jffs2_image.specs.WeakRuns.{AreAllTaken, AreNotes, EndsWeak, notes_said};
@@ -14,9 +14,8 @@ use crate::program::{note, report_fault, run_whole};
 use crate::writing::Texts;
 use flashbase::{Sink, put_all};
 use jcommand::{Outcome, Request};
-use jcuts::{CutsFault, Flash, Held, Telling, put_cuts};
-use jlog::SessionFault;
-use jmount::Mounted;
+use jcuts::{CutsFault, Held, Telling, put_cuts};
+use jlog::{SessionFault, Start};
 use jnode::Order;
 use jsteps::Op;
 use std::alloc::{AllocError, Global};
@@ -44,26 +43,17 @@ fn is_of_memory(fault: SessionFault) -> bool
 /// since writing them tells why.
 fn notes_of<E: Order>(
     alloc: Global,
-    mounted: &Mounted<'_>,
-    flash: Flash,
+    start: &Start<'_, '_, E>,
     ops: &[Op<'_>],
     lines: &[usize],
 ) -> Result<Notes, AllocError>
-    requires mount { IsMountOf E.order flash.geometry.block mounted.now }
-    requires numbered { length lines.now ≡ length ops.now }
-    ensures noted { IfOk result (λ notes. AreAllTaken E.order flash mounted.now ops.now
-        → AreNotes E.order flash mounted.now.image ops.now notes) }
+    requires { length lines.now ≡ length ops.now }
+    ensures { IfOk result (λ notes.
+        AreAllTaken E.order (flash_of_start start.now) (mount_of start.now) ops.now
+        → AreNotes E.order (flash_of_start start.now) (mount_of start.now).image ops.now notes) }
 {
     let mut held = Held::new(alloc);
-    match put_cuts::<E, Held>(
-        alloc,
-        mounted,
-        flash,
-        Telling::WeakNotes,
-        ops,
-        lines,
-        &mut held,
-    ) {
+    match put_cuts::<E, Held>(alloc, start, Telling::WeakNotes, ops, lines, &mut held) {
         Ok(weak) => Ok(Notes {
             asked: true,
             text: held.bytes,
@@ -97,19 +87,18 @@ impl Notes {
     pub fn take<E: Order>(
         &mut self,
         alloc: Global,
-        mounted: &Mounted<'_>,
-        flash: Flash,
+        start: &Start<'_, '_, E>,
         ops: &[Op<'_>],
         lines: &[usize],
     ) -> Result<(), AllocError>
-        requires mount { IsMountOf E.order flash.geometry.block mounted.now }
-        requires numbered { length lines.now ≡ length ops.now }
-        ensures noted { OnOk result (IsTrue self.old.asked
-            → AreAllTaken E.order flash mounted.now ops.now
-            → AreNotes E.order flash mounted.now.image ops.now self.new) }
+        requires { length lines.now ≡ length ops.now }
+        ensures { OnOk result (IsTrue self.old.asked
+            → AreAllTaken E.order (flash_of_start start.now) (mount_of start.now) ops.now
+            → AreNotes E.order (flash_of_start start.now) (mount_of start.now).image ops.now
+            self.new) }
     {
         if self.asked {
-            *self = notes_of::<E>(alloc, mounted, flash, ops, lines)?;
+            *self = notes_of::<E>(alloc, start, ops, lines)?;
         }
         Ok(())
     }

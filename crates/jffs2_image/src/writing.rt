@@ -1,14 +1,16 @@
 //! Writing an image to a file of the host: a listing's operations on a base.
-ghost use Rattle.std.specs.Prelude.{◌≡◌, ◌≢◌, ◌≤◌, ℕ, List, Option, Some, IsTrue, IsFalse, Ok, Err, IfOk, IfErr, IfSome, OnOk, length, map, option_map, slice_get};
+ghost use Rattle.std.specs.Prelude.{◌≡◌, ◌≢◌, ◌≤◌, ℕ, List, Option, Some, IsTrue, IsFalse, Ok, Err, IfOk, IfErr, IfSome, IsOk, OnOk, length, map, option_map, slice_get};
 ghost use Rattle.jmount.specs.Mounts.{IsMountOf};
 ghost use Rattle.jscan.specs.Image.{greatest_image};
 ghost use Rattle.jlisting.specs.Listing.{lines_of};
 ghost use Rattle.jffs2_image.specs.Host.{AreOf, AreRead, Blames, BlamesMaker, CountsFile, IsHandedBack, IsMadeUntil, IsMakeFault, IsReadFault, Leaves, MakesFile, ReadsFile, ReadsFilePart, RunsFiles};
 ghost use Rattle.jbuild.specs.Operations.{ops_in};
 ghost use Rattle.jbuild.specs.HostFiles.{part_contents};
-ghost use Rattle.jffs2_image.specs.WeakRuns.{AreNotes, AreNotesOn};
+ghost use Rattle.jffs2_image.specs.WeakRuns.{AreNotes, AreNotesOn, flash_given};
 ghost use Rattle.jffs2_image.specs.Writes.{GivesCut, HoldsCut, IsCause, IsMade, IsNotGoneOn, IsNotMade, IsNotedIn, IsPartUnread, IsPut, IsTooLong, IsUnreadFile, WritesImage, form_of, resumed, form_flash, flash_plan};
 ghost use Rattle.jbuild.specs.Blocks.{TellsRefusedOn};
+ghost use Rattle.jbuild.specs.Emitting.{IsEmitted, IsNotEmitted};
+ghost use Rattle.jlog.specs.View.{address_of, flash_of_start, mount_of};
 ghost use Rattle.jreport.specs.Causes.{cause_of};
 ghost use Rattle.flashbase.specs.Sinks.{change_of};
 ghost use Rattle.jffs2_image.specs.Tasks.{passage};
@@ -17,11 +19,10 @@ use crate::host::{FileFault, Loader, MakeFault, Maker};
 use crate::output::Output;
 use crate::weak::Notes;
 use flashbase::{LoadFault, Sink};
-use jbuild::{Emitted, HostFiles, emit, operations, put_accepted};
+use jbuild::{Emitted, HostFiles, emit_from, operations, put_accepted};
 use jcommand::Target;
-use jcuts::Flash;
 use jlisting::{Line, listing};
-use jlog::{SessionFault, page_fits, resume_at};
+use jlog::{Flash, SessionFault, Start};
 use jmount::Mounted;
 use jnode::Order;
 use jreport::{
@@ -185,31 +186,36 @@ fn cause_on(mounted: &Mounted<'_>, target: Target<'_>, fault: SessionFault, reas
     cause_of_run(mounted, target, fault, reason, None)
 }
 
-/// Where writing goes on, by the target's page, or why it does not.
-fn goes_on_from<E: Order>(mounted: &Mounted<'_>, target: Target<'_>) -> Result<u32, SessionFault>
-    requires { IsMountOf E.order target.options.geometry.block mounted.now }
-    ensures { result ≡ resumed (form_of E.order target.entry) mounted.now }
+/// The flash that is written, and the page by which files are cut.
+fn flash_of(target: Target<'_>) -> Flash
+    ensures { result ≡ flash_given target.entry.options target.entry.blocks target.entry.page }
 {
-    let from = resume_at::<E>(mounted, target.options.geometry, target.blocks)?;
-    if !page_fits(target.options.geometry, target.page) {
-        return Err(SessionFault::Geometry);
+    Flash {
+        geometry: target.options.geometry,
+        blocks: target.blocks,
+        page: target.page,
     }
-    Ok(from)
 }
 
-/// The same with the cause of a fault.
-fn resumed_from<E: Order>(mounted: &Mounted<'_>, target: Target<'_>) -> Result<u32, Refused>
+/// Where a log goes on in a mounted image on a target's flash, or why it does not, with the cause.
+fn start_on<'m, 'a, E: Order>(
+    mounted: &'m Mounted<'a>,
+    target: Target<'_>,
+) -> Result<Start<'m, 'a, E>, Refused>
     requires { IsMountOf E.order target.options.geometry.block mounted.now }
+    ensures mount { IfOk result (λ start. mount_of start ≡ mounted.now) }
+    ensures flash { IfOk result (λ start. flash_of_start start
+        ≡ flash_given target.entry.options target.entry.blocks target.entry.page) }
     ensures from { IfOk result
-        (λ from. resumed (form_of E.order target.entry) mounted.now ≡ Ok from) }
+        (λ start. resumed (form_of E.order target.entry) mounted.now ≡ Ok (address_of start)) }
     ensures refused { IfErr result
         (λ refused. resumed (form_of E.order target.entry) mounted.now ≡ Err refused.fault) }
     ensures cause { IfErr result (λ refused. IsCause target.entry.page
         target.entry.options.geometry.block target.entry.blocks mounted.now.image refused.fault
         refused.cause) }
 {
-    match goes_on_from::<E>(mounted, target) {
-        Ok(from) => Ok(from),
+    match Start::<E>::of(mounted, flash_of(target)) {
+        Ok(start) => Ok(start),
         Err(fault) => Err(Refused {
             fault,
             cause: cause_on(mounted, target, fault, Reason::Other),
@@ -239,39 +245,59 @@ fn is_of_output(stopped: Option<SessionFault>) -> bool
     }
 }
 
+/// Puts out a base and what operations on it make.
+fn put_ops<E: Order, S: Sink>(
+    alloc: Global,
+    start: &Start<'_, '_, E>,
+    target: Target<'_>,
+    ops: &[Op<'_>],
+    sink: S,
+) -> Result<(S, Emitted), (SessionFault, S)>
+    requires { flash_of_start start.now
+        ≡ flash_given target.entry.options target.entry.blocks target.entry.page }
+    ensures emitted { IfOk result (λ done. IsEmitted (form_flash (form_of E.order target.entry))
+        (mount_of start.now).image ops.now done.1.report.accepted done.1.report.places.items
+        done.1.report.stopped (change_of S.Sink sink done.0)) }
+    ensures blocks { IfOk result (λ done. IfOk done.1.blocks (TellsRefusedOn
+        (form_flash (form_of E.order target.entry)) (mount_of start.now).image ops.now
+        done.1.report.accepted done.1.report.stopped)) }
+    ensures resumes { IsOk (resumed (form_of E.order target.entry) (mount_of start.now)) }
+    ensures refused { IfErr result (λ refused. IsNotEmitted target.entry.page E.order
+        target.entry.options.geometry.block target.entry.blocks (mount_of start.now)
+        (change_of S.Sink sink refused.1) refused.0) }
+{
+    match emit_from(alloc, start, ops, sink) {
+        Ok(done) => Ok(done),
+        Err((fault, sink)) => Err((SessionFault::from(fault), sink)),
+    }
+}
+
 /// Puts out a base and what operations on it make, to the last byte. Answers what was done, also
 /// where the output failed at an operation. Where it failed before or after them it is handed back.
 fn put_image<E: Order, S: Output>(
     alloc: Global,
-    mounted: &Mounted<'_>,
+    start: &Start<'_, '_, E>,
     target: Target<'_>,
     ops: &[Op<'_>],
     output: S,
 ) -> Result<(S, Emitted), (SessionFault, Option<S>)>
-    requires { IsMountOf E.order target.options.geometry.block mounted.now }
-    ensures put { IfOk result (λ done. IsPut (form_of E.order target.entry) mounted.now ops.now
+    requires { flash_of_start start.now
+        ≡ flash_given target.entry.options target.entry.blocks target.entry.page }
+    ensures put { IfOk result (λ done. IsPut (form_of E.order target.entry) (mount_of start.now) ops.now
         done.1.report.accepted done.1.report.places.items done.1.report.stopped
         (passage S.taken S.given S.failures output done.0)) }
     ensures blocks { IfOk result (λ done. IfOk done.1.blocks (TellsRefusedOn
-        (form_flash (form_of E.order target.entry)) mounted.now.image ops.now
+        (form_flash (form_of E.order target.entry)) (mount_of start.now).image ops.now
         done.1.report.accepted done.1.report.stopped)) }
     ensures fault { IfErr result
-        (λ refused. IsNotGoneOn (form_of E.order target.entry) mounted.now refused.0) }
+        (λ refused. IsNotGoneOn (form_of E.order target.entry) (mount_of start.now) refused.0) }
     ensures part { IfErr result (λ refused. IfSome refused.1
-        (λ back. GivesCut refused.0 (form_of E.order target.entry) mounted.now.image ops.now
+        (λ back. GivesCut refused.0 (form_of E.order target.entry) (mount_of start.now).image ops.now
         (S.taken output) (S.given back))) }
     ensures back { IfErr result (λ refused. IsHandedBack (S.failures output) refused.0
         (option_map (λ back. S.failures back) refused.1)) }
 {
-    match emit::<E, S>(
-        alloc,
-        mounted,
-        target.options.geometry,
-        target.blocks,
-        target.page,
-        ops,
-        output,
-    ) {
+    match put_ops::<E, S>(alloc, start, target, ops, output) {
         Ok((mut output, emitted)) => match output.finish() {
             Ok(()) => Ok((output, emitted)),
             Err(_) => {
@@ -295,20 +321,21 @@ fn make_image<'a, E: Order, M: Maker>(
     alloc: Global,
     maker: &mut M,
     target: Target<'a>,
-    mounted: &Mounted<'_>,
+    start: &Start<'_, '_, E>,
     ops: &[Op<'_>],
 ) -> Result<Emitted, ProgramFault<'a>>
-    requires { IsMountOf E.order target.options.geometry.block mounted.now }
+    requires { flash_of_start start.now
+        ≡ flash_given target.entry.options target.entry.blocks target.entry.page }
     ensures made { IfOk result (λ done. IsMade (M.held maker.old, M.held maker.new)
-        (form_of E.order target.entry) mounted.now ops.now done.report.accepted
+        (form_of E.order target.entry) (mount_of start.now) ops.now done.report.accepted
         done.report.places.items done.report.stopped) }
     ensures blocks { IfOk result (λ done. IfOk done.blocks (TellsRefusedOn
-        (form_flash (form_of E.order target.entry)) mounted.now.image ops.now
+        (form_flash (form_of E.order target.entry)) (mount_of start.now).image ops.now
         done.report.accepted done.report.stopped)) }
-    ensures fault { IfErr result (λ fault. IsNotMade (form_of E.order target.entry) mounted.now
+    ensures fault { IfErr result (λ fault. IsNotMade (form_of E.order target.entry) (mount_of start.now)
         target.entry.output.now fault) }
     ensures cut { IfErr result (λ fault. HoldsCut (M.held maker.old, M.held maker.new)
-        (form_of E.order target.entry) mounted.now.image ops.now fault) }
+        (form_of E.order target.entry) (mount_of start.now).image ops.now fault) }
     ensures stopped { IfOk result
         (λ done. IsMadeUntil (M.failures maker.old) (M.failures maker.new) done.report.stopped) }
     ensures failed { IfErr result
@@ -327,7 +354,7 @@ fn make_image<'a, E: Order, M: Maker>(
         }
         Err(MakeFault::OutOfMemory) => return Err(ProgramFault::OutOfMemory),
     };
-    match put_image::<E, M::Made>(alloc, mounted, target, ops, output) {
+    match put_image::<E, M::Made>(alloc, start, target, ops, output) {
         Ok((output, emitted)) => {
             maker.take_back(output);
             Ok(emitted)
@@ -339,24 +366,9 @@ fn make_image<'a, E: Order, M: Maker>(
             Err(ProgramFault::Session {
                 fault,
                 line: None,
-                cause: cause_on(mounted, target, fault, maker.reason()),
+                cause: cause_on(start.mounted(), target, fault, maker.reason()),
             })
         }
-    }
-}
-
-/// The flash that is written, and the page by which files are cut.
-fn flash_of(target: Target<'_>) -> Flash
-    ensures { result ≡ record {
-      geometry = target.entry.options.geometry;
-      blocks = target.entry.blocks;
-      page = target.entry.page;
-    } }
-{
-    Flash {
-        geometry: target.options.geometry,
-        blocks: target.blocks,
-        page: target.page,
     }
 }
 
@@ -392,16 +404,16 @@ fn write_lines<'a, 'p, 'b: 'p, E: Order, M: Maker, T: Sink>(
     let numbers = numbers_of(alloc, &lines)?;
     let ops = operations::<E>(alloc, lines, parts)?;
     let mounted = mount_or_tell::<E>(alloc, base, target.options.geometry)?;
-    let from = resumed_from::<E>(&mounted, target)?;
-    notes.take::<E>(alloc, &mounted, flash_of(target), &ops, &numbers)?;
-    let made = make_image::<E, M>(alloc, maker, target, &mounted, &ops)?;
+    let start = start_on::<E>(&mounted, target)?;
+    notes.take::<E>(alloc, &start, &ops, &numbers)?;
+    let made = make_image::<E, M>(alloc, maker, target, &start, &ops)?;
     if let Some(fault) = made.report.stopped {
         let line = number_at(&numbers, made.report.accepted);
         let blocks = known_blocks(made.blocks);
         let cause = cause_of_run(&mounted, target, fault, maker.reason(), blocks);
         return Err(ProgramFault::Session { fault, line, cause });
     }
-    put_accepted(from, made.report.accepted, &made.report.places, sink)?;
+    put_accepted(start.address(), made.report.accepted, &made.report.places, sink)?;
     Ok(noted(&mounted))
 }
 

@@ -1,6 +1,6 @@
 -- A session that goes on from a mounted image.
 use Rattle.std.proofs.Common.{◌≡◌, ℕ, Bool, true, false, cond, Result, Ok, Err, ◌*◌, ◌≤◌, List, length, inl, inr, refl, sym, ap, ◌∙◌, subst, arith}
-use Rattle.std.specs.Prelude.{IsTrue, IsOk, nat_le, nat_lt, ◌&&◌, ◌⊎◌}
+use Rattle.std.specs.Prelude.{IsTrue, nat_le, nat_lt, ◌&&◌, ◌⊎◌}
 use Rattle.std.proofs.Math.Nat.{mul-le-mul_right}
 use Rattle.std.proofs.lemmas.Bool.{and_parts, leb-true}
 use Rattle.flashbase.specs.Ranges.{AreBytes}
@@ -136,15 +136,3 @@ why_not page e size blocks m f is = by m.read_only (is_flash_of size blocks m.im
     by true ok is = inl cc
     by false true is = cc
     by false false is = inr cc
-
--- it is not for want of memory
-pub not_of_memory : (page : Page) (e : Endian) (size blocks : ℕ) (m : Mount) (f : SessionFault) → resumes_by page e size blocks m ≡ Err f → f ≡ fault.OutOfMemory → IsOk (resumes_by page e size blocks m)
-not_of_memory page e size blocks m f is memory = elim (why_not page e size blocks m f is) [
-  | inl other ↦ absurd (apart_read_only (sym other ∙ memory))
-  | inr other ↦ absurd (apart_geometry (sym other ∙ memory))
-]
-  where
-    apart_read_only : fault.ReadOnly ≡ fault.OutOfMemory → ⊥
-    apart_read_only is = cc
-    apart_geometry : fault.Geometry ≡ fault.OutOfMemory → ⊥
-    apart_geometry is = cc
