@@ -13,7 +13,6 @@
 mod accepted;
 mod emitting;
 mod host_files;
-mod host_files;
 pub mod laws;
 mod listed;
 mod reading;

@@ -284,7 +284,8 @@ fn put_image<E: Order, S: Output>(
     requires { flash_of_start start.now
         ≡ flash_given target.entry.options target.entry.blocks target.entry.page }
     ensures put { IfOk result (λ done. IsPut (form_of E.order target.entry)
-        (mount_of start.now) ops.now done.1.report.accepted done.1.report.places.items done.1.report.stopped
+        (mount_of start.now) ops.now
+        done.1.report.accepted done.1.report.places.items done.1.report.stopped
         (passage S.taken S.given S.failures output done.0)) }
     ensures blocks { IfOk result (λ done. IfOk done.1.blocks (TellsRefusedOn
         (form_flash (form_of E.order target.entry)) (mount_of start.now).image ops.now
