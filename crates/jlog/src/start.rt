@@ -2,7 +2,7 @@
 
 ghost use Rattle.std.specs.Prelude.{◌≡◌, Ok, Err, IfOk, IfErr};
 ghost use Rattle.jmount.specs.Mounts.{IsMountOf};
-ghost use Rattle.jlog.specs.OneProof.{IsMountOf-prop};
+ghost use Rattle.jlog.specs.OneProof.{IsMounted, one_proof};
 ghost use Rattle.jlog.specs.Resuming.{resumes};
 
 use crate::fault::SessionFault;
@@ -28,7 +28,7 @@ pub struct Start<'m, 'a, E: Order> {
     flash: Flash,
     address: u32,
     order: PhantomData<E>,
-    ghost is_mount: { IsMountOf E.order flash.geometry.block mounted.now } by { IsMountOf-prop E.order flash.geometry.block mounted.now },
+    ghost mount: { IsMounted E.order flash mounted.now } by { one_proof E.order flash mounted.now },
     ghost goes_on: { resumes E.order flash mounted.now ≡ Ok address },
 }
 
