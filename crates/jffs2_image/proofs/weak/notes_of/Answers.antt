@@ -21,4 +21,4 @@ returns g c =
     let puts : PutsCuts g.E.Order.order flash m.image asked sink (Err (told.Session c.in-Err-Session.fault c.in-Err-Session.line)) =
     subst (λ (r : Result ℕ CutsFault). PutsCuts g.E.Order.order flash m.image asked sink r) is c.put_cuts.ensures in
     λ taken. absurd (c.is_of_memory.ensures c.if-is_of_memory.false
-          (only_memory g.E.Order.order flash m asked sink c.in-Err-Session.fault c.in-Err-Session.line taken puts))
+    (only_memory g.E.Order.order flash m asked sink c.in-Err-Session.fault c.in-Err-Session.line taken puts))
