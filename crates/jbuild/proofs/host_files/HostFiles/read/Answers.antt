@@ -1,4 +1,4 @@
-use Rattle.std.proofs.Common.{◌≡◌, ◌≤◌, List, ℕ, rules, length}
+use Rattle.std.proofs.Common.{rules}
 use Rattle.std.specs.Prelude.{string_bytes}
 use Rattle.jbuild.proofs.PartLemmas.{read_none, read_ok, read_within}
 use Rattle.jbuild.proofs.host_files.HostFiles.read.Goals as goal
