@@ -12,6 +12,7 @@
 
 mod accepted;
 mod emitting;
+mod files;
 pub mod laws;
 mod listed;
 mod parts;
