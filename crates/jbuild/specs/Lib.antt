@@ -2,7 +2,7 @@ pub mod Operations
 pub mod Spans
 pub mod Named
 pub mod Files
-pub mod Parts
+pub mod HostFiles
 pub mod Emitting
 pub mod Accepted
 pub mod Length
