@@ -21,5 +21,6 @@ mod span;
 
 pub use crate::accepted::put_accepted;
 pub use crate::emitting::{Emitted, emit};
+pub use crate::host_files::HostFiles;
 pub use crate::listed::operations;
 pub use crate::host_files::HostFiles;
