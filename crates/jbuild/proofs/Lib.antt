@@ -4,4 +4,4 @@ pub mod LengthLemmas
 pub mod BlocksLemmas
 mod PartLemmas
 mod ReadLemmas
-mod FileLemmas
+mod SpanLemmas

@@ -3,7 +3,7 @@ use Rattle.std.specs.Prelude.{◌≡◌, ℕ, ◌<◌, ◌≤◌, List, [], ◌+
 use Rattle.std.specs.Option.{option_map_or}
 use Rattle.flashbase.specs.declared.source.LoadFault.{LoadFault}
 use Rattle.flashbase.specs.declared.source.LoadFault.TheVariants.{Device, TooLarge, OutOfMemory}
-use Rattle.jbuild.specs.Files.{span_of}
+use Rattle.jbuild.specs.NamedSpans.{span_of}
 use Rattle.jbuild.specs.Spans.{bytes_of_span}
 use Rattle.jbuild.specs.declared.host_files.HostFiles.{HostFiles}
 

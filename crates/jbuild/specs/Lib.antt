@@ -1,7 +1,7 @@
 pub mod Operations
 pub mod Spans
 pub mod Named
-pub mod Files
+pub mod NamedSpans
 pub mod HostFiles
 pub mod Emitting
 pub mod Accepted

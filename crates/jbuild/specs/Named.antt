@@ -3,7 +3,7 @@ use Rattle.std.specs.Prelude.{◌≡◌, ◌+◌, ◌≤◌, ℕ, List, length, 
 use Rattle.std.specs.BTreeMap.{BTreeMap, get_by_text}
 use Rattle.jbuild.specs.Spans.{bytes_of_span}
 use Rattle.jbuild.specs.declared.span.Span.{Span}
-use Rattle.jbuild.specs.declared.files.Named.{Named}
+use Rattle.jbuild.specs.declared.named_spans.Named.{Named}
 
 -- it stands in a map by its name, which stands among all names
 abbrev pub StandsByName : {Y : Type 0} → BTreeMap (String Y) Span → List ℕ → Named → Type 0

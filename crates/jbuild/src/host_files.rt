@@ -1,10 +1,10 @@
 //! Files of the host that a listing names.
 
 ghost use Rattle.std.specs.Prelude.{ℕ, ◌≤◌, List, length};
-ghost use Rattle.jbuild.specs.Files.{span_of};
+ghost use Rattle.jbuild.specs.NamedSpans.{span_of};
 ghost use Rattle.jbuild.specs.Spans.{end_of_span};
 
-use crate::files::Files;
+use crate::named_spans::NamedSpans;
 use crate::reading::{read_behind, ready};
 use crate::span::{Span, bytes_of_span};
 use flashbase::{LoadFault, Source};
@@ -14,7 +14,7 @@ use std::alloc::{AllocError, Global};
 /// own, by their names.
 #[derive(Drop)]
 pub struct HostFiles {
-    files: Files,
+    files: NamedSpans,
     bytes: Vec<u8>,
     /// What sources are read through, once one is.
     piece: Vec<u8>,
@@ -31,7 +31,7 @@ impl HostFiles {
         ensures { (name : List ℕ) → read_of result name ≡ None }
     {
         HostFiles {
-            files: Files::new(alloc),
+            files: NamedSpans::new(alloc),
             bytes: Vec::new(alloc),
             piece: Vec::new(alloc),
         }

@@ -12,7 +12,7 @@
 
 mod accepted;
 mod emitting;
-mod files;
+mod named_spans;
 pub mod laws;
 mod listed;
 mod host_files;

@@ -1,4 +1,4 @@
--- Files by their names, and in the order in which they were added.
+-- NamedSpans by their names, and in the order in which they were added.
 use Rattle.std.proofs.Common.{◌≡◌, refl, ℕ, Bool, true, false, ◌≤◌, ◌<◌, ◌+◌, ◌++◌, List, ◌∷◌, [], Option, Some, None, ap, sym, subst, ◌∙◌, length, take, drop, arith}
 use Rattle.std.specs.Prelude.{String, bytes_eq, string_bytes, All, get_or, slice_get, if◌then◌else◌}
 use Rattle.std.specs.String.{string_cmp}
@@ -12,7 +12,7 @@ use Rattle.std.proofs.lemmas.List.Elements.{All-push, All-weaker}
 use Rattle.std.proofs.Math.Seq.{drop-append_seam, take-length}
 use Rattle.std.proofs.lemmas.Option.{slice_get_within, get_or_from_slice_get}
 use Rattle.jbuild.specs.declared.span.Span.{Span}
-use Rattle.jbuild.specs.declared.files.Named.{Named}
+use Rattle.jbuild.specs.declared.named_spans.Named.{Named}
 use Rattle.jbuild.specs.Named.{StandsByName}
 use Rattle.jbuild.specs.Spans.{bytes_of_span}
 

@@ -2,8 +2,8 @@ use Rattle.std.proofs.Common.{◌≡◌, rules, None, Some, length}
 use Rattle.std.specs.Prelude.{is_ok, string_bytes}
 use Rattle.std.specs.BTreeMap.{get_by_text}
 use Rattle.std.proofs.lemmas.Map.Text.{btree_map_updates_text}
-use Rattle.jbuild.proofs.FileLemmas.{all_stand_before, all_stand_new, all_stand_same}
-use Rattle.jbuild.proofs.files.Files.insert.Goals as goal
+use Rattle.jbuild.proofs.SpanLemmas.{all_stand_before, all_stand_new, all_stand_same}
+use Rattle.jbuild.proofs.named_spans.NamedSpans.insert.Goals as goal
 
 pub invariant_of-self-in-Break-branch-2 : goal.invariant_of-self-in-Break-branch-2
 invariant_of-self-in-Break-branch-2 c =

@@ -18,26 +18,26 @@ pub(crate) struct Named {
 /// Where the bytes of files stand, by their names. Whoever asks for files in the order in which
 /// they were added is answered without a search.
 #[derive(Drop)]
-pub(crate) struct Files {
+pub(crate) struct NamedSpans {
     by_name: BTreeMap<String, Span>,
     /// The names, one after the other.
     names: Vec<u8>,
-    /// Files in the order in which they were added.
+    /// NamedSpans in the order in which they were added.
     in_order: Vec<Named>,
     /// The place in that order of the file that is asked for next, if it goes on so.
     next: Cell<usize>,
     ghost named: { All (StandsByName by_name names.items) in_order.items },
 }
 
-impl Files {
+impl NamedSpans {
     ghost use Rattle.std.specs.Prelude.{◌≡◌, ℕ, List, IfSome, None, OnErr, OnOk, Some, string_bytes};
-    ghost use Rattle.jbuild.specs.Files.{AreSameSpans, SetsSpan, span_of};
+    ghost use Rattle.jbuild.specs.NamedSpans.{AreSameSpans, SetsSpan, span_of};
 
     /// None yet.
-    pub(crate) fn new(alloc: Global) -> Files
+    pub(crate) fn new(alloc: Global) -> NamedSpans
         ensures { (name : List ℕ) → span_of result name ≡ None }
     {
-        Files {
+        NamedSpans {
             by_name: BTreeMap::new(alloc),
             names: Vec::new(alloc),
             in_order: Vec::new(alloc),
