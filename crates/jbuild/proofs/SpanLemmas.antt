@@ -1,6 +1,6 @@
 -- NamedSpans by their names, and in the order in which they were added.
-use Rattle.std.proofs.Common.{◌≡◌, refl, ℕ, Bool, true, false, ◌≤◌, ◌<◌, ◌+◌, ◌++◌, List, ◌∷◌, [], Option, Some, None, ap, sym, subst, ◌∙◌, length, take, drop, arith}
-use Rattle.std.specs.Prelude.{String, bytes_eq, string_bytes, All, get_or, slice_get, if◌then◌else◌}
+use Rattle.std.proofs.Common.{◌≡◌, refl, ℕ, Bool, true, false, ◌≤◌, ◌+◌, ◌++◌, List, ◌∷◌, [], Option, Some, None, ap, sym, subst, ◌∙◌, length, take, drop, arith}
+use Rattle.std.specs.Prelude.{String, bytes_eq, string_bytes, All, slice_get, if◌then◌else◌}
 use Rattle.std.specs.String.{string_cmp}
 use Rattle.std.specs.Ordering.{nat_cmp}
 use Rattle.std.specs.Cmp.Lexicographic.{slice_cmp}

@@ -12,10 +12,10 @@
 
 mod accepted;
 mod emitting;
-mod named_spans;
+mod host_files;
 pub mod laws;
 mod listed;
-mod host_files;
+mod named_spans;
 mod reading;
 mod span;
 
@@ -23,4 +23,3 @@ pub use crate::accepted::put_accepted;
 pub use crate::emitting::{Emitted, emit};
 pub use crate::host_files::HostFiles;
 pub use crate::listed::operations;
-pub use crate::host_files::HostFiles;

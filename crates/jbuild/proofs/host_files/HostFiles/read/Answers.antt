@@ -1,4 +1,4 @@
-use Rattle.std.proofs.Common.{◌≡◌, ◌≤◌, List, ℕ, rules, length}
+use Rattle.std.proofs.Common.{rules}
 use Rattle.std.specs.Prelude.{string_bytes}
 use Rattle.jbuild.proofs.PartLemmas.{read_all, read_same, read_within}
 use Rattle.jbuild.proofs.host_files.HostFiles.read.Goals as goal
@@ -13,8 +13,7 @@ invariant_of-self-2 g c =
 
 pub returns-in-Ok-clause-reads : goal.returns-in-Ok-clause-reads
 returns-in-Ok-clause-reads g c =
-    let read = c.in_ok-read_behind.ensures.reads in
-    (
+    let read = c.in_ok-read_behind.ensures.reads in (
       read.0,
       read.2,
       read.3,
