@@ -15,11 +15,11 @@ mod emitting;
 mod host_files;
 pub mod laws;
 mod listed;
-mod host_files;
+mod named_spans;
 mod reading;
 mod span;
 
 pub use crate::accepted::put_accepted;
 pub use crate::emitting::{EmitFault, Emitted, emit, emit_from};
-pub use crate::listed::operations;
 pub use crate::host_files::HostFiles;
+pub use crate::listed::operations;

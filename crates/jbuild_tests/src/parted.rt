@@ -99,6 +99,48 @@ fn a_file_is_read_behind_the_others(rt: HostRuntime) -> Result<(), Fail> {
     Ok(())
 }
 
+/// Each name is that of a file, and its bytes.
+const ORDER: [&str; 5] = ["a", "b", "cc", "b/c", "d"];
+
+/// The files of a listing that names some in the order in which they were read, some before others
+/// and some twice, and one that was not read.
+const IN_TURN: &[u8] = b"part /x 0 a\npart /x 1 b\npart /x 2 b\npart /x 3 bc\npart /x 4 cc\n\
+    part /x 5 d\npart /x 6 b/c\npart /x 7 d\npart /x 8 a\npart /x 9 b\n";
+
+const TURNS: [&str; 10] = ["a", "b", "b", "", "cc", "d", "b/c", "d", "a", "b"];
+
+/// Files that have their names as bytes; the first `again` of them are read twice.
+fn in_order(alloc: Global, again: usize) -> Result<HostFiles, Fail> {
+    let mut parts = HostFiles::new(alloc);
+    for name in ORDER {
+        parts.insert(name.to_string(alloc)?, name.as_bytes())?;
+    }
+    for name in ORDER.iter().take(again) {
+        parts.insert(name.to_string(alloc)?, name.as_bytes())?;
+    }
+    Ok(parts)
+}
+
+#[test]
+fn files_are_found_in_turn_and_out_of_turn(rt: HostRuntime) -> Result<(), Fail> {
+    for again in 0..4 {
+        let parts = in_order(rt.alloc(), again)?;
+        for name in ORDER {
+            expect(&rt, parts.has(name) && !parts.has("bc"));
+        }
+        for _ in 0..2 {
+            let lines = listing(rt.alloc(), IN_TURN)?;
+            let ops = operations::<LittleEndian>(rt.alloc(), lines, &parts)?;
+            equal(&rt, ops.len(), TURNS.len());
+            for (op, wanted) in ops.iter().zip(TURNS) {
+                let bytes = written(op).map(|write| write.2);
+                equal(&rt, bytes, Some(wanted.as_bytes()));
+            }
+        }
+    }
+    Ok(())
+}
+
 /// Devices, of which one has numbers of 8 bits, and one more.
 const DEVICES: &[u8] = b"device c 0600 4 1 /c\ndevice b 0640 259 65537 /b\n";
 

@@ -16,6 +16,7 @@ use crate::decompressing::{Taken, take_image};
 use crate::host::Loader;
 use crate::output::Output;
 use crate::program::report_fault;
+use crate::refusing::Refusing;
 use crate::writing::load_file;
 use byteorder::{BigEndian, LittleEndian};
 use flashbase::{DeviceFault, Sink};
@@ -36,12 +37,6 @@ pub struct Extracted {
     pub totals: Totals,
     pub findings: u64,
     pub attributes: u64,
-}
-
-/// A folder of the host that says why it refused.
-pub trait Refusing {
-    /// Why the last call failed that did, as far as the host tells.
-    fn reason(&self) -> Reason;
 }
 
 /// Gives folders of the host by their names, and takes them back.

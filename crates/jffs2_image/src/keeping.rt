@@ -1,9 +1,11 @@
 //! A folder of the system whose regular files are read when they are found.
 
 ghost use Rattle.jfolder.specs.Known.{nothing};
+ghost use Rattle.jhost.specs.ReadFolders.{last_kind};
+ghost use Rattle.jreport.specs.Reasons.{reason_of_kind};
 
 use crate::first::FirstBytes;
-use crate::folders::Refusing;
+use crate::refusing::Refusing;
 use crate::host::{FileLoader, Loader};
 use crate::kept::KeptFiles;
 use jfolder::{FolderFault, HostFolder, Looked, Names};
@@ -100,6 +102,8 @@ impl<'r, R: Files + AllocGlobal + Clock + Eprint> KeepingFolder<'r, R> {
 }
 
 impl<'r, R: Files + AllocGlobal + Clock + Eprint> Refusing for KeepingFolder<'r, R> {
+    ghost last_reason = { λ s. reason_of_kind (last_kind s.folder) };
+
     fn reason(&self) -> Reason {
         Reason::of_kind(self.folder.kind())
     }

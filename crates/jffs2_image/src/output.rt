@@ -6,6 +6,7 @@ ghost use Rattle.std.specs.Io.Buffered.{writer_contents, writer_inner};
 ghost use Rattle.flashbase.specs.Device.{CountsErr, PutsOnce};
 ghost use Rattle.jffs2_image.specs.Writes.{IsBehind};
 
+use crate::refusing::Refusing;
 use flashbase::{DeviceFault, Sink};
 use jreport::Reason;
 use std::alloc::Global;
@@ -105,11 +106,6 @@ impl<W: Write + Drop> BufferedOutput<W> {
         self.failures
     }
 
-    /// Why it failed last, as far as the host tells.
-    pub(crate) fn reason(&self) -> Reason {
-        self.reason
-    }
-
     /// How many bytes it took, up to the greatest u64.
     pub(crate) fn length(&self) -> u64 {
         self.length
@@ -120,6 +116,14 @@ impl<W: Write + OpenFile + Drop> BufferedOutput<W> {
     /// Waits until what was given on is on the disk.
     pub(crate) fn sync(&self) -> io::Result<()> {
         self.writer.get_ref().sync_all()
+    }
+}
+
+impl<W: Write + Drop> Refusing for BufferedOutput<W> {
+    ghost last_reason = { λ s. s.reason };
+
+    fn reason(&self) -> Reason {
+        self.reason
     }
 }
 

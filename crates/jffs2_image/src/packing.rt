@@ -9,7 +9,8 @@ ghost use Rattle.flashbase.specs.Sinks.{change_of};
 ghost use Rattle.jffs2_image.specs.Tasks.{passage, reads};
 ghost use Rattle.jffs2_image.specs.Placing.{telling, writes};
 
-use crate::folders::{Folders, Refusing, put_read, read_fault, settings_of};
+use crate::folders::{Folders, put_read, read_fault, settings_of};
+use crate::refusing::Refusing;
 use crate::host::{Loader, Maker};
 use crate::output::Output;
 use crate::program::report_fault;

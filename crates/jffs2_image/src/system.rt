@@ -1,8 +1,11 @@
 //! Folders of the system, as the commands ask for them.
 ghost use Rattle.std.specs.Prelude.{◌↔◌, IsTrue, IsFalse, None};
 ghost use Rattle.jfolder.specs.Known.{nothing};
+ghost use Rattle.jhost.specs.FilledFolders.{filled_kind};
+ghost use Rattle.jreport.specs.Reasons.{reason_of_kind};
 
-use crate::folders::{Folders, Refusing};
+use crate::folders::Folders;
+use crate::refusing::Refusing;
 use crate::host::FileLoader;
 use crate::keeping::{Keeper, KeepingFolder};
 use crate::kept::KeptFiles;
@@ -40,6 +43,8 @@ impl<'r, R: Files + AllocGlobal + Clock + Eprint> SystemFolders<'r, R> {
 }
 
 impl<'r, R: Files + AllocGlobal + Clock + Eprint> Refusing for FilledFolder<'r, R> {
+    ghost last_reason = { λ s. reason_of_kind (filled_kind s) };
+
     fn reason(&self) -> Reason {
         Reason::of_kind(self.kind())
     }
