@@ -64,8 +64,8 @@ abbrev pub session_fault : EmitFault → SessionFault
 session_fault emit.Sink = fault.Sink
 session_fault emit.OutOfMemory = fault.OutOfMemory
 
--- Nothing was run: only a beginning of the base's bytes up to there went out, or all of them and then
--- memory ran out.
+-- Nothing was run: only a beginning of the base's bytes up to there went out, or all of them and
+-- then memory ran out.
 abbrev pub IsNotRun : Flash → List ℕ → SinkChange → EmitFault → Type 0
 IsNotRun flash base sink emit.Sink =
     PutsPart sink.old sink.new (front_before flash.order flash.size flash.blocks base)

@@ -86,8 +86,8 @@ fn blocks_for_refused<E: Order, S: Sink>(
 }
 
 /// Puts a mounted image's bytes up to where writing goes on, erased flash for those that it lacks,
-/// and then runs operations on it. Answers the sink, what the run did, and how many blocks would hold
-/// an operation that was refused for want of room.
+/// and then runs operations on it. Answers the sink, what the run did, and how many blocks would
+/// hold an operation that was refused for want of room.
 ///
 /// # Errors
 /// Nothing was run, and the sink is handed back.
@@ -128,8 +128,9 @@ pub fn emit_from<E: Order, S: Sink>(
     Ok((session.finish(), Emitted { report, blocks }))
 }
 
-/// As [`emit_from`] from where a log goes on in a mounted image, with bytes cut where a page of this
-/// size of a file ends. It is in `E`'s order and of the geometry that the image was mounted with.
+/// As [`emit_from`] from where a log goes on in a mounted image, with bytes cut where a page of
+/// this size of a file ends. It is in `E`'s order and of the geometry that the image was mounted
+/// with.
 ///
 /// # Errors
 /// Nothing was run, and the sink is handed back. `ReadOnly` and `Geometry` as [`Start::of`] answers

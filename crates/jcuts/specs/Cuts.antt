@@ -219,8 +219,9 @@ TellsAllButEnd e flash asked from sink =
     (first_text e flash asked from (length asked.ops) ++ last_text e flash asked from)
     × (sink.now ≡ next_count sink.before)
 
--- Operations on a base are told, or those up to one that is declined; or memory ran out, and nothing
--- is told; or the sink failed, and a beginning went out. The answer is how many nodes are weak.
+-- Operations on a base are told, or those up to one that is declined; or memory ran out, and
+-- nothing is told; or the sink failed, and a beginning went out. The answer is how many nodes are
+-- weak.
 abbrev pub PutsCuts : Endian → Flash → List ℕ → Asked → SinkChange → Result ℕ CutsFault → Type 0
 PutsCuts e flash base asked sink (Ok weak) =
     AreCutsTold e flash asked (base_point e flash base) sink weak

@@ -283,7 +283,8 @@ fn put_image<E: Order, S: Output>(
 ) -> Result<(S, Emitted), (SessionFault, Option<S>)>
     requires { flash_of_start start.now
         ≡ flash_given target.entry.options target.entry.blocks target.entry.page }
-    ensures put { IfOk result (λ done. IsPut (form_of E.order target.entry) (mount_of start.now) ops.now
+    ensures put { IfOk result (λ done. IsPut (form_of E.order target.entry)
+        (mount_of start.now) ops.now
         done.1.report.accepted done.1.report.places.items done.1.report.stopped
         (passage S.taken S.given S.failures output done.0)) }
     ensures blocks { IfOk result (λ done. IfOk done.1.blocks (TellsRefusedOn
@@ -292,8 +293,8 @@ fn put_image<E: Order, S: Output>(
     ensures fault { IfErr result
         (λ refused. IsNotGoneOn (form_of E.order target.entry) (mount_of start.now) refused.0) }
     ensures part { IfErr result (λ refused. IfSome refused.1
-        (λ back. GivesCut refused.0 (form_of E.order target.entry) (mount_of start.now).image ops.now
-        (S.taken output) (S.given back))) }
+        (λ back. GivesCut refused.0 (form_of E.order target.entry) (mount_of start.now).image
+        ops.now (S.taken output) (S.given back))) }
     ensures back { IfErr result (λ refused. IsHandedBack (S.failures output) refused.0
         (option_map (λ back. S.failures back) refused.1)) }
 {
@@ -332,8 +333,8 @@ fn make_image<'a, E: Order, M: Maker>(
     ensures blocks { IfOk result (λ done. IfOk done.blocks (TellsRefusedOn
         (form_flash (form_of E.order target.entry)) (mount_of start.now).image ops.now
         done.report.accepted done.report.stopped)) }
-    ensures fault { IfErr result (λ fault. IsNotMade (form_of E.order target.entry) (mount_of start.now)
-        target.entry.output.now fault) }
+    ensures fault { IfErr result (λ fault. IsNotMade (form_of E.order target.entry)
+        (mount_of start.now) target.entry.output.now fault) }
     ensures cut { IfErr result (λ fault. HoldsCut (M.held maker.old, M.held maker.new)
         (form_of E.order target.entry) (mount_of start.now).image ops.now fault) }
     ensures stopped { IfOk result
@@ -413,7 +414,12 @@ fn write_lines<'a, 'p, 'b: 'p, E: Order, M: Maker, T: Sink>(
         let cause = cause_of_run(&mounted, target, fault, maker.reason(), blocks);
         return Err(ProgramFault::Session { fault, line, cause });
     }
-    put_accepted(start.address(), made.report.accepted, &made.report.places, sink)?;
+    put_accepted(
+        start.address(),
+        made.report.accepted,
+        &made.report.places,
+        sink,
+    )?;
     Ok(noted(&mounted))
 }
 

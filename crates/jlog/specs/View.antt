@@ -125,8 +125,8 @@ module _ {E : Type 0} {S : Type 0} {order : OfOrder E} {numbers : OfByteOrder E}
 
   -- Running operations on the one leaves the other: so many were accepted, their nodes have these
   -- places, and this stopped it.
-  abbrev pub RunsOn : Session E S order numbers sinks → List Op → Session E S order numbers sinks → ℕ
-      → List Place → Option SessionFault → Type 0
+  abbrev pub RunsOn : Session E S order numbers sinks → List Op
+      → Session E S order numbers sinks → ℕ → List Place → Option SessionFault → Type 0
   RunsOn old ops new accepted places stopped =
       Runs (flash_of_log old) (state_with old []) ops accepted (state_with new places)
       (change_of sinks (sink_of old) (sink_of new)) stopped
@@ -166,8 +166,8 @@ module _ {E : Type 0} {S : Type 0} {order : OfOrder E} {numbers : OfByteOrder E}
 
   -- Whatever was done before: its steps, and then those of the operations that were attempted,
   -- survive on the session's base.
-  abbrev pub RunSurvives : Session E S order numbers sinks → List Op → Session E S order numbers sinks
-      → ℕ → Type 0
+  abbrev pub RunSurvives : Session E S order numbers sinks → List Op
+      → Session E S order numbers sinks → ℕ → Type 0
   RunSurvives old ops new accepted = (done : List Op) → HasDone old done
       → SurvivesAfter order.order (block_size_of old) (blocks_of old) (base_of old)
       (steps_on (page_size (page_of old)) order.order (block_size_of old) (base_of old) done)
@@ -175,8 +175,8 @@ module _ {E : Type 0} {S : Type 0} {order : OfOrder E} {numbers : OfByteOrder E}
       (attempted accepted (is_broken new)))
 
   -- What was accepted is done, after what was done before.
-  abbrev pub HasDoneMore : Session E S order numbers sinks → List Op → Session E S order numbers sinks
-      → ℕ → Type 0
+  abbrev pub HasDoneMore : Session E S order numbers sinks → List Op
+      → Session E S order numbers sinks → ℕ → Type 0
   HasDoneMore old ops new accepted =
       (done : List Op) → HasDone old done → HasDone new (done ++ take accepted ops)
 

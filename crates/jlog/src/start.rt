@@ -79,7 +79,8 @@ impl<'m, 'a, E: Order> Start<'m, 'a, E> {
     /// The address where writing goes on.
     pub fn address(&self) -> u32
         ensures same { result ≡ address_of self.now }
-        ensures goes_on { resumes E.order (flash_of_start self.now) (mount_of self.now) ≡ Ok result }
+        ensures goes_on { resumes E.order (flash_of_start self.now) (mount_of self.now)
+            ≡ Ok result }
     {
         self.address
     }
