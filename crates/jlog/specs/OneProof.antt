@@ -12,6 +12,8 @@ use Rattle.jmount.specs.Codes.{tree_code}
 use Rattle.jmount.specs.Mount.{Mount}
 use Rattle.jmount.specs.Mounts.{IsMountOf}
 use Rattle.jmount.specs.Tree.{State}
+use Rattle.jlog.specs.Resuming.{MountsOn}
+use Rattle.jlog.specs.declared.start.Flash.{Flash}
 
 abbrev pub state_coded : Coded State
 state_coded = tree_code (coded_list coded_ℕ)
@@ -24,3 +26,6 @@ findings_coded = coded_list (finding.the_row).coded
 
 pub IsMountOf-prop : (e : Endian) (size : ℕ) (mount : Mount) → IsProp (IsMountOf e size mount)
 IsMountOf-prop e size mount = Prim.hlevel (props, state_coded, tops_coded, findings_coded)
+
+pub on_is_prop : (e : Endian) (flash : Flash) (mount : Mount) → IsProp (MountsOn e flash mount)
+on_is_prop e flash mount = IsMountOf-prop e flash.geometry.block mount
