@@ -1,4 +1,5 @@
--- A mount has one proof that it is that of its image, so a struct may have it.
+-- A mount is that of its image, by the blocks of a flash: a fact with one proof, so that a struct
+-- may have it.
 use Rattle.std.specs.Prelude.{ℕ, List}
 use Rattle.std.specs.Coded.{Coded, coded_ℕ, coded_list}
 use Rattle.std.specs.Ordering.{nat_cmp}
@@ -12,8 +13,10 @@ use Rattle.jmount.specs.Codes.{tree_code}
 use Rattle.jmount.specs.Mount.{Mount}
 use Rattle.jmount.specs.Mounts.{IsMountOf}
 use Rattle.jmount.specs.Tree.{State}
-use Rattle.jlog.specs.Resuming.{MountsOn}
 use Rattle.jlog.specs.declared.start.Flash.{Flash}
+
+abbrev pub IsMounted : Endian → Flash → Mount → Type 0
+IsMounted e flash mount = IsMountOf e flash.geometry.block mount
 
 abbrev pub state_coded : Coded State
 state_coded = tree_code (coded_list coded_ℕ)
@@ -24,8 +27,5 @@ tops_coded = finite.code coded_ℕ coded_ℕ
 abbrev pub findings_coded : Coded (List Finding)
 findings_coded = coded_list (finding.the_row).coded
 
-pub IsMountOf-prop : (e : Endian) (size : ℕ) (mount : Mount) → IsProp (IsMountOf e size mount)
-IsMountOf-prop e size mount = Prim.hlevel (props, state_coded, tops_coded, findings_coded)
-
-pub on_is_prop : (e : Endian) (flash : Flash) (mount : Mount) → IsProp (MountsOn e flash mount)
-on_is_prop e flash mount = IsMountOf-prop e flash.geometry.block mount
+pub one_proof : (e : Endian) (flash : Flash) (mount : Mount) → IsProp (IsMounted e flash mount)
+one_proof e flash mount = Prim.hlevel (props, state_coded, tops_coded, findings_coded)

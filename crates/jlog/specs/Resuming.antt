@@ -4,7 +4,6 @@ use Rattle.jnode.specs.Header.{header_len}
 use Rattle.jnode.specs.Reading.{inode_len}
 use Rattle.jnode.specs.declared.order.Endian.{Endian}
 use Rattle.jmount.specs.Mount.{Mount}
-use Rattle.jmount.specs.Mounts.{IsMountOf}
 use Rattle.jscan.specs.Pages.{page_size}
 use Rattle.jscan.specs.declared.page.Page.{Page}
 use Rattle.jlog.specs.Headline.{is_flash_of, resume_address}
@@ -30,10 +29,6 @@ resumes_by page e size blocks mount =
     if mount.read_only then Err fault.ReadOnly else
     if is_flash_of size blocks mount.image && page_fits size page then Ok
     (resume_address e size blocks mount.image) else Err fault.Geometry
-
--- a mounted image in this order, with the block size of the flash
-abbrev pub MountsOn : Endian → Flash → Mount → Type 0
-MountsOn e flash mount = IsMountOf e flash.geometry.block mount
 
 -- the same on a flash, by its page
 abbrev pub resumes : Endian → Flash → Mount → Result ℕ SessionFault

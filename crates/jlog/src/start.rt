@@ -2,8 +2,8 @@
 
 ghost use Rattle.std.specs.Prelude.{◌≡◌, Ok, Err, IfOk, IfErr};
 ghost use Rattle.jmount.specs.Mounts.{IsMountOf};
-ghost use Rattle.jlog.specs.OneProof.{on_is_prop};
-ghost use Rattle.jlog.specs.Resuming.{MountsOn, resumes};
+ghost use Rattle.jlog.specs.OneProof.{IsMounted, one_proof};
+ghost use Rattle.jlog.specs.Resuming.{resumes};
 
 use crate::fault::SessionFault;
 use crate::resuming::{page_fits, resume_at};
@@ -28,7 +28,7 @@ pub struct Start<'m, 'a, E: Order> {
     flash: Flash,
     address: u32,
     order: PhantomData<E>,
-    ghost mount: { MountsOn E.order flash mounted.now } by { on_is_prop E.order flash mounted.now },
+    ghost mount: { IsMounted E.order flash mounted.now } by { one_proof E.order flash mounted.now },
     ghost goes_on: { resumes E.order flash mounted.now ≡ Ok address },
 }
 
