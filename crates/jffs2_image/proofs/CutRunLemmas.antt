@@ -1,6 +1,6 @@
 -- A listing's operations that are told.
 use Rattle.std.proofs.Common.{◌≡◌, ℕ, List, Option, Some, None, Result, Ok, Err, Bool, true, false, ap, inl, inr, refl, sym, subst, ◌∙◌}
-use Rattle.std.specs.Prelude.{OnOk, map}
+use Rattle.std.specs.Prelude.{IsOk, OnOk, map}
 use Rattle.std.specs.Io.KnownBytes.{Keeps}
 use Rattle.std.proofs.Math.Path.{fun_ext}
 use Rattle.std.specs.Result.{IsErrAnd}
@@ -13,18 +13,19 @@ use Rattle.jmount.specs.Mounts.{Answers}
 use Rattle.jsteps.specs.declared.op.Op.{Op}
 use Rattle.jlisting.specs.Listing.{lines_of}
 use Rattle.jlisting.specs.declared.line.Line.{Line}
+use Rattle.jlog.specs.Resuming.{resumes}
+use Rattle.jlog.specs.declared.start.Flash.{Flash}
 use Rattle.jbuild.specs.Operations.{ops_in}
 use Rattle.jbuild.specs.HostFiles.{part_contents}
 use Rattle.jbuild.specs.declared.host_files.HostFiles.{HostFiles}
 use Rattle.jcuts.specs.Cuts.{Asked, PutsCuts}
 use Rattle.jcuts.specs.declared.cuts.CutsFault.{CutsFault}
-use Rattle.jcuts.specs.declared.cuts.Flash.{Flash}
 use Rattle.jcuts.specs.declared.lines.Telling.TheVariants.{Nodes}
 use Rattle.jreport.specs.Refusal.{IsRefusalTold}
 use Rattle.jreport.specs.declared.faults.ProgramFault.{ProgramFault}
 use Rattle.jreport.proofs.RefusalLemmas.{refusal_cases}
 use Rattle.jreport.specs.declared.faults.ProgramFault.TheVariants as program
-use Rattle.jffs2_image.specs.CutRuns.{BlamesReading, CutsAsked, FinishesCuts, IsBaseOf, IsLinesFault, TellsFiles, TellsLines, TellsText, answer_of_cuts, flash_asked}
+use Rattle.jffs2_image.specs.CutRuns.{BlamesReading, CutsAsked, FinishesCuts, IsBaseOf, IsLinesFault, TellsFiles, TellsLines, TellsOn, TellsText, answer_of_cuts, flash_asked}
 use Rattle.jffs2_image.specs.Host.{AreAllRead, AreLoaded, AreRead, HaveBytes, IsReadFault}
 use Rattle.jffs2_image.specs.Writes.{IsBehind, IsPartUnread, IsUnreadFile}
 
@@ -112,23 +113,31 @@ answer_blames before now f (Err other) is blames = subst (λ (z : ProgramFault).
 pub blames_from : (before mid now : ℕ) (r : Result ℕ ProgramFault) → mid ≡ before → BlamesReading mid now r → BlamesReading before now r
 blames_from before mid now r same blames = subst (λ (i : ℕ). BlamesReading i now r) same blames
 
--- the operations were told
+-- the operations were told, or writing does not go on
 pub told_lines : (told : List ℕ → Option (List ℕ)) (e : Endian) (flash : Flash) (base text : List ℕ) (sink : SinkChange) (lines : List Line) (files : List ℕ → List ℕ) (m : Mount) (ops : List Op) (numbers : List ℕ)
-    (cuts : Result ℕ CutsFault) (r : Result ℕ ProgramFault)
+    (r : Result ℕ ProgramFault)
     → lines_of text ≡ Ok lines → HaveBytes told lines files → Answers e flash.geometry.block base (Ok m) → ops ≡ ops_in e files lines → numbers ≡ map (λ line. line.number) lines
-    → PutsCuts e flash m (record { telling = Nodes; ops = ops; lines = numbers }) sink cuts → r ≡ answer_of_cuts flash m.image cuts → TellsText told e flash base text sink r
-told_lines told e flash base text sink lines files m ops numbers cuts r read bytes mounts ops_are numbers_are puts comes = inl (record {
+    → TellsOn e flash m (record { telling = Nodes; ops = ops; lines = numbers }) sink r → TellsText told e flash base text sink r
+told_lines told e flash base text sink lines files m ops numbers r read bytes mounts ops_are numbers_are tells = inl (record {
   lines = lines;
   files = files;
   mount = m;
-  cuts = cuts;
   read = read;
   bytes = bytes;
   mounts = mounts;
-  puts = subst (λ (l : List ℕ). PutsCuts e flash m (record { telling = Nodes; ops = ops_in e files lines; lines = l }) sink cuts) numbers_are
-      (subst (λ (o : List Op). PutsCuts e flash m (record { telling = Nodes; ops = o; lines = numbers }) sink cuts) ops_are puts);
-  comes_to = comes;
+  tells = subst (λ (l : List ℕ). TellsOn e flash m (record { telling = Nodes; ops = ops_in e files lines; lines = l }) sink r) numbers_are
+      (subst (λ (o : List Op). TellsOn e flash m (record { telling = Nodes; ops = o; lines = numbers }) sink r) ops_are tells);
 })
+
+-- it goes on, from a start whose words for the flash and the mount are known
+pub told_from : (e : Endian) (flash' flash : Flash) (m' m : Mount) (asked : Asked) (sink : SinkChange) (cuts : Result ℕ CutsFault) (r : Result ℕ ProgramFault)
+    → flash' ≡ flash → m' ≡ m → IsOk (resumes e flash m) → PutsCuts e flash' m'.image asked sink cuts → r ≡ answer_of_cuts flash' m'.image cuts → TellsOn e flash m asked sink r
+told_from e flash' flash m' m asked sink cuts r flash_is mount_is goes puts comes = inr (
+  cuts,
+  goes,
+  subst (λ (f : Flash). PutsCuts e f m.image asked sink cuts) flash_is (subst (λ (k : Mount). PutsCuts e flash' k.image asked sink cuts) mount_is puts),
+  subst (λ (f : Flash). r ≡ answer_of_cuts f m.image cuts) flash_is (subst (λ (k : Mount). r ≡ answer_of_cuts flash' k.image cuts) mount_is comes),
+)
 
 -- both files were read
 pub told_files : (told later : List ℕ → Option (List ℕ)) (e : Endian) (flash : Flash) (on : Option (List ℕ)) (listing base text : List ℕ) (sink : SinkChange) (r : Result ℕ ProgramFault)

@@ -17,20 +17,19 @@ use Rattle.jsteps.specs.declared.step.Step.{Step}
 use Rattle.jsteps.proofs.TakenLemmas.{advanced_all-append}
 use Rattle.jlog.specs.Headline.{index_of_image, resume_address}
 use Rattle.jlog.specs.Places.{end_of_all, fit}
-use Rattle.jlog.specs.Resuming.{resumes_by}
 use Rattle.jlog.specs.Running.{written}
 use Rattle.jlog.proofs.Parts.{RunBy}
 use Rattle.jlog.specs.declared.fault.SessionFault.{SessionFault}
 use Rattle.jlog.specs.declared.fault.SessionFault.TheVariants as session
 use Rattle.jlog.specs.declared.report.Place.{Place}
+use Rattle.jlog.specs.declared.start.Flash.{Flash}
 use Rattle.jlog.proofs.RoomLemmas.{room_goes_on}
 use Rattle.jlog.proofs.RunLemmas.{fit_first}
 use Rattle.jlog.proofs.RunningLemmas.{written_on}
-use Rattle.jcuts.specs.Cuts.{Asked, DeclinesNext, IsDeclined, IsNotResumed, PutsCuts, base_point, resumes}
+use Rattle.jcuts.specs.Cuts.{Asked, DeclinesNext, IsDeclined, PutsCuts, base_point}
 use Rattle.jcuts.specs.Lines.{text_of_nodes}
 use Rattle.jcuts.specs.Telling.{first_told}
 use Rattle.jcuts.specs.declared.cuts.CutsFault.TheVariants as told
-use Rattle.jcuts.specs.declared.cuts.Flash.{Flash}
 use Rattle.jcuts.specs.declared.lines.StepNode.{StepNode}
 use Rattle.jcuts.specs.declared.lines.Telling.TheVariants.{WeakNotes}
 use Rattle.jcuts.specs.declared.standing.Standing.{Standing}
@@ -57,14 +56,14 @@ notes_of_nodes (n ∷ nodes) = ap (λ (l : List ℕ). weak_note n.standing ++ l)
 
 -- what is told of all operations are the notes
 pub told_notes : (e : Endian) (flash : Flash) (m : Mount) (ops : List Op) (lines : List ℕ) (notes : Notes) (old : List ℕ) (before now weak : ℕ) → length lines ≡ length ops → old ≡ [] → notes.weak ≡ weak
-    → PutsCuts e flash m (record { telling = WeakNotes; ops = ops; lines = lines }) (record { old = Some old; new = Some notes.text.items; before = before; now = now }) (Ok weak)
+    → PutsCuts e flash m.image (record { telling = WeakNotes; ops = ops; lines = lines }) (record { old = Some old; new = Some notes.text.items; before = before; now = now }) (Ok weak)
     → AreNotes e flash m.image ops notes
 told_notes e flash m ops lines notes old before now weak long none same puts =
     let size : ℕ = flash.geometry.block in
     let all : List StepNode = first_told flash.page e size flash.blocks m.image ops lines (length ops) in
     record {
-      text = puts.1.put ∙ (ap (λ (l : List ℕ). l ++ (text_of_nodes WeakNotes all ++ [])) none ∙ (append-nil (text_of_nodes WeakNotes all) ∙ (notes_of_nodes all ∙ ap (flat_map weak_note) (lines_are_nodes flash.page e size flash.blocks (length ops) m.image ops lines long))));
-      weak = same ∙ puts.1.counted;
+      text = puts.put ∙ (ap (λ (l : List ℕ). l ++ (text_of_nodes WeakNotes all ++ [])) none ∙ (append-nil (text_of_nodes WeakNotes all) ∙ (notes_of_nodes all ∙ ap (flat_map weak_note) (lines_are_nodes flash.page e size flash.blocks (length ops) m.image ops lines long))));
+      weak = same ∙ puts.counted;
     }
 
 -- ---- an operation among those that are accepted
@@ -171,13 +170,9 @@ not_declined e flash m asked n line f taken declines = by f
 
 -- Where an image is gone on from and all operations on it are accepted, only memory is wanting.
 pub only_memory : (e : Endian) (flash : Flash) (m : Mount) (asked : Asked) (sink : SinkChange) (f : SessionFault) (line : Option ℕ) → AreAllTaken e flash m asked.ops
-    → PutsCuts e flash m asked sink (Err (told.Session f line)) → f ≡ session.OutOfMemory
-only_memory e flash m asked sink f (Some line) taken puts = not_declined e flash m asked puts.1.0 line f taken puts.1.1 puts.1.1.declines
-only_memory e flash m asked sink f None taken puts = by puts.0
-  where
-    by : IsNotResumed e flash m f → f ≡ session.OutOfMemory
-    by (inl refused) = absurd (false≢true (subst (λ (r : Result ℕ SessionFault). IsOk r) refused taken.resumes))
-    by (inr memory) = memory.1
+    → PutsCuts e flash m.image asked sink (Err (told.Session f line)) → f ≡ session.OutOfMemory
+only_memory e flash m asked sink f (Some line) taken puts = not_declined e flash m asked puts.0 line f taken puts.1 puts.1.declines
+only_memory e flash m asked sink f None taken puts = puts.0
 
 -- ---- all operations that were run
 

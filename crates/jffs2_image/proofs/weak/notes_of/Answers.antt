@@ -9,17 +9,19 @@ use Rattle.jffs2_image.proofs.weak.notes_of.Goals as goal
 
 pub returns-in-Ok : goal.returns-in-Ok
 returns-in-Ok g c = record {
-  noted = λ taken. told_notes g.E.Order.order c.args.flash c.args.mounted.now c.args.ops.now c.args.lines.now _ c.new-held.result.bytes.items _ _ c.in-Ok.weak c.requires.numbered c.new-held.ensures refl c.in-Ok.ensures;
+  noted = λ taken. told_notes g.E.Order.order c.args.start.now.flash c.args.start.now.mounted.now c.args.ops.now c.args.lines.now _ c.new-held.result.bytes.items _ _ c.in-Ok.weak c.requires c.new-held.ensures refl c.in-Ok.ensures;
 }
 
 pub returns : goal.returns
 returns g c =
+    let flash = c.args.start.now.flash in
+    let m = c.args.start.now.mounted.now in
     let asked : Asked = record { telling = WeakNotes; ops = c.args.ops.now; lines = c.args.lines.now } in
     let sink : SinkChange = record { old = Some c.new-held.result.bytes.items; new = Some c.put_cuts.new.sink.bytes.items; before = c.new-held.result.failures; now = c.put_cuts.new.sink.failures } in
     let is : c.put_cuts.result ≡ Err (told.Session c.in-Err-Session.fault c.in-Err-Session.line) = cc in
-    let puts : PutsCuts g.E.Order.order c.args.flash c.args.mounted.now asked sink (Err (told.Session c.in-Err-Session.fault c.in-Err-Session.line)) =
-    subst (λ (r : Result ℕ CutsFault). PutsCuts g.E.Order.order c.args.flash c.args.mounted.now asked sink r) is c.put_cuts.ensures in
+    let puts : PutsCuts g.E.Order.order flash m.image asked sink (Err (told.Session c.in-Err-Session.fault c.in-Err-Session.line)) =
+    subst (λ (r : Result ℕ CutsFault). PutsCuts g.E.Order.order flash m.image asked sink r) is c.put_cuts.ensures in
     record {
       noted = λ taken. absurd (c.is_of_memory.ensures c.if-is_of_memory.false
-          (only_memory g.E.Order.order c.args.flash c.args.mounted.now asked sink c.in-Err-Session.fault c.in-Err-Session.line taken puts));
+          (only_memory g.E.Order.order flash m asked sink c.in-Err-Session.fault c.in-Err-Session.line taken puts));
     }
