@@ -4,7 +4,7 @@
 //! `runs` takes a text to its bytes and its report, `built` has listings on an empty base,
 //! `appended` on others, `parted` the files that listings name, `paged` larger pages, `full` what
 //! would hold an operation that is refused for want of room, `sinks` sinks that fail or take
-//! little, and `growth` memory that is refused.
+//! little, `started` what goes out from where a log goes on, and `growth` memory that is refused.
 #![tactic(auto)]
 
 #[cfg(test)]
@@ -25,3 +25,5 @@ mod parted;
 mod runs;
 #[cfg(test)]
 mod sinks;
+#[cfg(test)]
+mod started;

@@ -5,8 +5,8 @@ use crate::rows::MADE_NODES;
 use crate::sessions::{GEOMETRY, create, write};
 use byteorder::LittleEndian;
 use flashbase::Sink;
-use jcuts::{CutsFault, Flash, Held, Plan, Telling, plan_op, put_cuts};
-use jlog::{Session, SessionFault};
+use jcuts::{CutsFault, Held, Plan, Telling, plan_op, put_cuts};
+use jlog::{Flash, Session, SessionFault, Start};
 use jmount::mount;
 use jscan::Page;
 use jsteps::{Op, OpFault};
@@ -38,14 +38,14 @@ const WEAK_BYTES: &[u8] = b"\xBE\xF9\x8E\x24\xFE";
 /// Tells operations on an empty base.
 fn tell<T: Sink>(
     alloc: Global,
-    flash: Flash,
     telling: Telling,
     ops: &[Op<'_>],
     sink: &mut T,
 ) -> Result<Result<usize, CutsFault>, Fail> {
-    let mounted = mount::<LittleEndian>(alloc, &[], flash.geometry)?;
+    let mounted = mount::<LittleEndian>(alloc, &[], FLASH.geometry)?;
+    let start = Start::<LittleEndian>::of(&mounted, FLASH)?;
     let lines = LINES.get(..ops.len()).ok_or("too many")?;
-    Ok(put_cuts::<LittleEndian, T>(alloc, &mounted, flash, telling, ops, lines, sink))
+    Ok(put_cuts::<LittleEndian, T>(alloc, &start, telling, ops, lines, sink))
 }
 
 #[test]
@@ -53,7 +53,7 @@ fn operations_are_told(rt: HostRuntime) -> Result<(), Fail> {
     let ops = [create(), write(b"\xFF\xFF\xFF"), write(WEAK_BYTES)];
     for (telling, wanted) in [(Telling::Nodes, TOLD), (Telling::WeakNotes, NOTES)] {
         let mut sink = Taker::new(rt.alloc());
-        let told = tell(rt.alloc(), FLASH, telling, &ops, &mut sink)?;
+        let told = tell(rt.alloc(), telling, &ops, &mut sink)?;
         expect_at(
             &rt,
             told == Ok(1) && sink.took(0, wanted.as_bytes()),
@@ -68,7 +68,7 @@ fn operations_are_told(rt: HostRuntime) -> Result<(), Fail> {
 fn a_refused_operation_ends_it(rt: HostRuntime) -> Result<(), Fail> {
     let ops = [create(), create(), write(WEAK_BYTES)];
     let mut sink = Taker::new(rt.alloc());
-    let told = tell(rt.alloc(), FLASH, Telling::Nodes, &ops, &mut sink)?;
+    let told = tell(rt.alloc(), Telling::Nodes, &ops, &mut sink)?;
     let wanted = CutsFault::Session {
         fault: SessionFault::Refused(OpFault::Exists),
         line: Some(5),
@@ -80,26 +80,13 @@ fn a_refused_operation_ends_it(rt: HostRuntime) -> Result<(), Fail> {
     Ok(())
 }
 
-#[test]
-fn a_flash_without_blocks(rt: HostRuntime) -> Result<(), Fail> {
-    let flash = Flash { blocks: 0, ..FLASH };
-    let mut sink = Taker::new(rt.alloc());
-    let told = tell(rt.alloc(), flash, Telling::Nodes, &[create()], &mut sink)?;
-    let wanted = CutsFault::Session {
-        fault: SessionFault::Geometry,
-        line: None,
-    };
-    expect(&rt, told == Err(wanted) && sink.took(0, b""));
-    Ok(())
-}
-
 /// Each has taken a beginning of the text.
 #[test]
 fn sinks_that_fail_within(rt: HostRuntime) -> Result<(), Fail> {
     let ops = [create(), write(b"\xFF\xFF\xFF"), write(WEAK_BYTES)];
     for limit in [0, 103, 104, 208, 287] {
         let mut sink = Taker::limited(rt.alloc(), 7, limit);
-        let told = tell(rt.alloc(), FLASH, Telling::Nodes, &ops, &mut sink)?;
+        let told = tell(rt.alloc(), Telling::Nodes, &ops, &mut sink)?;
         let wanted = TOLD.as_bytes().get(..limit).ok_or("short")?;
         expect_at(
             &rt,

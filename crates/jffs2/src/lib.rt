@@ -20,6 +20,7 @@
 //! | see an image that is larger than memory | [`scan_stream`], [`stream_lines`] |
 //! | write to an image | [`Session::resume`], then [`Session::run`] with a list of [`Op`] |
 //! | put the old image and new operations out as one | [`emit`], which gives an [`Emitted`] |
+//! | judge once where writing goes on | [`Start::of`], for [`Session::begin`] and [`emit_from`] |
 //! | read an image with compressed data | [`decompressed`], then [`mount`]; [`decompress`] writes it |
 //! | write an image with compressed data | [`compress`], of one that is not |
 //! | read operations from a text | [`listing`], then [`operations`] |
@@ -38,14 +39,14 @@ pub use byteorder::{BigEndian, LittleEndian};
 pub use flashbase::{
     DeviceFault, FromReader, FromWriter, LoadFault, PutFault, Sink, Source, load, put_all,
 };
-pub use jbuild::{Emitted, HostFiles, emit, operations};
+pub use jbuild::{EmitFault, Emitted, HostFiles, emit, emit_from, operations};
 pub use jclash::clash_below;
 pub use jconvert::{
     Apart, ConvertFault, Converted, LeftOut, compress, decompress, decompress_apart, decompressed,
 };
 pub use jdamage::{DamageFault, Totals, put_damage};
 pub use jlisting::{Action, BadLine, Line, ListingFault, Rule, WordRule, listing};
-pub use jlog::{Applied, Place, RunReport, Session, SessionFault};
+pub use jlog::{Applied, Flash, Place, RunReport, Session, SessionFault, Start};
 pub use jmount::{FindFault, Kind, MountFault, Mounted, Object, mount};
 pub use jnode::{Damage, Dirent, Endian, Fill, InodeNode, NodeRef, Order, Seen, weak_cut};
 pub use jreport::{

@@ -1,5 +1,30 @@
+use Rattle.std.proofs.Common.{refl}
+use Rattle.jlog.specs.declared.start.Flash.{Flash}
 use Rattle.jbuild.proofs.EmitLemmas.{blocks_on, does_go_on, emitted_on, length_on, not_run, not_started, refused_on}
 use Rattle.jbuild.proofs.emitting.emit.Goals as goal
 
+pub returns-in-Err-clause-refused : goal.returns-in-Err-clause-refused
+returns-in-Err-clause-refused g c =
+    let a = c.args in
+    not_started a.page g.E.Order.order a.geometry.block a.blocks a.mounted.now _ _ c.in-Err.fault c.in-Err.ensures.fault
+
 pub returns-in-Ok-emit_from-clause-emitted : goal.returns-in-Ok-emit_from-clause-emitted
-returns-in-Ok-emit_from-clause-emitted g c = ?
+returns-in-Ok-emit_from-clause-emitted g c =
+    let a = c.args in
+    let start = c.in-Ok.start in
+    let flash : Flash = record { geometry = a.geometry; blocks = a.blocks; page = a.page } in
+    emitted_on g.E.Order.order start.flash flash start.mounted.now a.mounted.now a.ops.now _ _ _ _ c.in-Ok.ensures.flash c.in-Ok.ensures.mount c.in-Ok-emit_from.ensures.emitted
+
+pub returns-in-Ok-emit_from-clause-long : goal.returns-in-Ok-emit_from-clause-long
+returns-in-Ok-emit_from-clause-long g c = λ all.
+    let a = c.args in
+    let start = c.in-Ok.start in
+    let flash : Flash = record { geometry = a.geometry; blocks = a.blocks; page = a.page } in
+    length_on g.E.Order.order start.flash flash start.mounted.now a.mounted.now a.ops.now _ _ c.in-Ok.ensures.flash c.in-Ok.ensures.mount (c.in-Ok-emit_from.ensures.long all)
+
+pub returns-in-Ok-emit_from-clause-blocks : goal.returns-in-Ok-emit_from-clause-blocks
+returns-in-Ok-emit_from-clause-blocks g c =
+    let a = c.args in
+    let start = c.in-Ok.start in
+    let flash : Flash = record { geometry = a.geometry; blocks = a.blocks; page = a.page } in
+    blocks_on g.E.Order.order start.flash flash start.mounted.now a.mounted.now a.ops.now _ _ _ c.in-Ok.ensures.flash c.in-Ok.ensures.mount c.in-Ok-emit_from.ensures.blocks

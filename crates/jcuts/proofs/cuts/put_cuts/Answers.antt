@@ -6,8 +6,8 @@ use Rattle.jcuts.specs.Cuts.{Asked, Point, base_point, flash_of, point_of}
 use Rattle.jcuts.proofs.CutsLemmas.{cuts_end, cuts_end_failed, cuts_stop, end_at, ops_at}
 use Rattle.jcuts.proofs.cuts.put_cuts.Goals as goal
 
-pub returns-in_default : goal.returns-in_default
-returns-in_default g c = (refl, refl, refl)
+pub returns-in-Err : goal.returns-in-Err
+returns-in-Err g c = (refl, refl, refl)
 
 pub tell_ops-requires-clause-ready : goal.tell_ops-requires-clause-ready
 tell_ops-requires-clause-ready g c = c.in-Ok.ensures.ready

@@ -8,9 +8,8 @@ use Rattle.jffs2_image.proofs.WeakLemmas.{only_memory, told_notes}
 use Rattle.jffs2_image.proofs.weak.notes_of.Goals as goal
 
 pub returns-in-Ok : goal.returns-in-Ok
-returns-in-Ok g c = record {
-  noted = λ taken. told_notes g.E.Order.order c.args.start.now.flash c.args.start.now.mounted.now c.args.ops.now c.args.lines.now _ c.new-held.result.bytes.items _ _ c.in-Ok.weak c.requires c.new-held.ensures refl c.in-Ok.ensures;
-}
+returns-in-Ok g c = λ taken.
+    told_notes g.E.Order.order c.args.start.now.flash c.args.start.now.mounted.now c.args.ops.now c.args.lines.now _ c.new-held.result.bytes.items _ _ c.in-Ok.weak c.requires c.new-held.ensures refl c.in-Ok.ensures
 
 pub returns : goal.returns
 returns g c =
@@ -21,7 +20,5 @@ returns g c =
     let is : c.put_cuts.result ≡ Err (told.Session c.in-Err-Session.fault c.in-Err-Session.line) = cc in
     let puts : PutsCuts g.E.Order.order flash m.image asked sink (Err (told.Session c.in-Err-Session.fault c.in-Err-Session.line)) =
     subst (λ (r : Result ℕ CutsFault). PutsCuts g.E.Order.order flash m.image asked sink r) is c.put_cuts.ensures in
-    record {
-      noted = λ taken. absurd (c.is_of_memory.ensures c.if-is_of_memory.false
-          (only_memory g.E.Order.order flash m asked sink c.in-Err-Session.fault c.in-Err-Session.line taken puts));
-    }
+    λ taken. absurd (c.is_of_memory.ensures c.if-is_of_memory.false
+    (only_memory g.E.Order.order flash m asked sink c.in-Err-Session.fault c.in-Err-Session.line taken puts))

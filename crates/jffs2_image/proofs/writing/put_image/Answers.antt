@@ -9,5 +9,5 @@ returns-else-is_of_output-clause-part g c =
 
 pub returns-in-Err-clause-part : goal.returns-in-Err-clause-part
 returns-in-Err-clause-part g c =
-    part_of_front _ _ _ _ c.args.mounted.now _ _ (g.S.Sink.taken c.in-Err.output) (g.S.Sink.taken c.finish-in-Err.new.self) _ _ (g.S.Sink.failures c.in-Err.output) c.in-Err.fault
+    part_of_front _ _ _ _ c.args.start.now.mounted.now _ _ (g.S.Sink.taken c.in-Err.output) (g.S.Sink.taken c.finish-in-Err.new.self) _ _ (g.S.Sink.failures c.in-Err.output) c.in-Err.fault
     c.in-Err.ensures.refused c.finish-in-Err.ensures.taken c.finish-in-Err.ensures.part

@@ -1,0 +1,64 @@
+//! What goes out from where a log goes on.
+
+use crate::checks::{equal, expect};
+use crate::runs::{GEOMETRY, made, read_files};
+use byteorder::LittleEndian;
+use jbuild::{EmitFault, Emitted, emit_from, operations};
+use jlisting::listing;
+use jlog::{Flash, SessionFault, Start};
+use jmount::mount;
+use jscan::Page;
+use std::alloc::Global;
+use std::test::Fail;
+use test_support::{MADE, Taker};
+
+const TEXT: &[u8] = b"create 0644 /b\nwrite /b 0 0102\n";
+
+const FLASH: Flash = Flash {
+    geometry: GEOMETRY,
+    blocks: 2,
+    page: Page::P4096,
+};
+
+type Answer = Result<(Taker, Emitted), (EmitFault, Taker)>;
+
+/// What goes out for a file on a base of 124 bytes, which is gone on from at 8192.
+fn emitted(alloc: Global, sink: Taker) -> Result<Answer, Fail> {
+    let parts = read_files(alloc)?;
+    let ops = operations::<LittleEndian>(alloc, listing(alloc, TEXT)?, &parts)?;
+    let mounted = mount::<LittleEndian>(alloc, &MADE, GEOMETRY)?;
+    let start = Start::<LittleEndian>::of(&mounted, FLASH)?;
+    Ok(emit_from(alloc, &start, &ops, sink))
+}
+
+/// The base, erased flash up to the next block, and there the nodes.
+#[test]
+fn an_image_and_its_report(rt: HostRuntime) -> Result<(), Fail> {
+    let whole = made::<LittleEndian>(rt.alloc(), &MADE, 2, TEXT)?;
+    let Ok((sink, Emitted { report, blocks })) = emitted(rt.alloc(), Taker::new(rt.alloc()))? else {
+        return Err(Fail::from("not emitted"));
+    };
+    equal(&rt, sink.bytes.len(), 8388);
+    expect(&rt, sink.bytes.as_slice() == whole.output.as_slice());
+    let places = report.places.iter().map(|place| (place.addr, place.totlen));
+    expect(&rt, places.eq([(8204, 68), (8272, 41), (8316, 70)]));
+    equal(&rt, (report.accepted, report.stopped), (2, None));
+    expect(&rt, blocks == Ok(None));
+    Ok(())
+}
+
+#[test]
+fn a_sink_that_fails_before_the_nodes(rt: HostRuntime) -> Result<(), Fail> {
+    for limit in [0, 100, 124, 8191] {
+        let Err((fault, sink)) = emitted(rt.alloc(), Taker::limited(rt.alloc(), 4096, limit))?
+        else {
+            return Err(Fail::from("it is emitted"));
+        };
+        equal(&rt, fault, EmitFault::Sink);
+        equal(&rt, SessionFault::from(fault), SessionFault::Sink);
+        equal(&rt, (sink.bytes.len(), sink.failures), (limit, 1));
+        let base = MADE.iter().take(limit);
+        expect(&rt, sink.bytes.iter().take(124).eq(base));
+    }
+    Ok(())
+}
