@@ -94,8 +94,8 @@ not_started page e size blocks m taken failures f is = elim (why_not page e size
 -- it is, and the sink failed at its bytes, or memory ran out after them
 pub not_run : (page : Page) (e : Endian) (size blocks : ℕ) (m : Mount) (sink : SinkChange) (f : EmitFault)
     → IsOk (resumes_by page e size blocks m) → IsNotRun (paged_flash page e size blocks) m.image sink f → IsNotEmitted page e size blocks m sink (session_fault f)
-not_run page e size blocks m sink emit.Sink ok put = (ok, put)
-not_run page e size blocks m sink emit.OutOfMemory ok put = (ok, put)
+not_run page e size blocks m sink emit.Sink ok put = (ok, put.0, put.1)
+not_run page e size blocks m sink emit.OutOfMemory ok put = (ok, put.0, put.1)
 
 pub does_go_on : (page : Page) (e : Endian) (size blocks : ℕ) (m : Mount) (at : ℕ) → resumes_by page e size blocks m ≡ Ok at → IsOk (resumes_by page e size blocks m)
 does_go_on page e size blocks m at is = subst (λ (r : Result ℕ SessionFault). IsOk r) (sym is) refl

@@ -14,8 +14,8 @@ use Rattle.jbuild.proofs.EmitLemmas.{emitted_by, puts_all, same_number}
 use Rattle.jbuild.proofs.LengthLemmas.{goes_on_flash, line_tells_length}
 use Rattle.jbuild.proofs.emitting.emit_from.Goals as goal
 
-pub returns-in-Ok-clause-emitted : goal.returns-in-Ok-clause-emitted
-returns-in-Ok-clause-emitted g c =
+pub returns-clause-emitted : goal.returns-clause-emitted
+returns-clause-emitted g c =
     let e = g.E.Order.order in
     let a = c.args in
     let flash = a.start.now.flash in
@@ -40,8 +40,8 @@ returns-in-Ok-clause-emitted g c =
     (same_number (resumes e flash a.start.now.mounted.now) from s.cursor c.address-from.ensures.goes_on begun.cursor)
     begun.resumed begun.whole same front runs (c.run-report.ensures.survives begun.whole [] begun.begins).all
 
-pub returns-in-Ok-clause-long : goal.returns-in-Ok-clause-long
-returns-in-Ok-clause-long g c = λ all.
+pub returns-clause-long : goal.returns-clause-long
+returns-clause-long g c = λ all.
     let a = c.args in
     let start = a.start.now in
     let flash = start.flash in
@@ -51,13 +51,13 @@ returns-in-Ok-clause-long g c = λ all.
     line_tells_length (written_flash e flash) m.image a.ops.now r.accepted r.places.items
     (record { old = g.S.Sink.taken a.sink; new = g.S.Sink.taken c.finish.result; before = g.S.Sink.failures a.sink; now = g.S.Sink.failures c.finish.result })
     (goes_on_flash flash.page e flash.geometry.block flash.blocks m c.address-from.result c.address-from.ensures.goes_on)
-    (subst (λ (s : Option SessionFault). IsEmitted (written_flash e flash) m.image a.ops.now r.accepted r.places.items s (record { old = g.S.Sink.taken a.sink; new = g.S.Sink.taken c.finish.result; before = g.S.Sink.failures a.sink; now = g.S.Sink.failures c.finish.result })) all (returns-in-Ok-clause-emitted g c))
+    (subst (λ (s : Option SessionFault). IsEmitted (written_flash e flash) m.image a.ops.now r.accepted r.places.items s (record { old = g.S.Sink.taken a.sink; new = g.S.Sink.taken c.finish.result; before = g.S.Sink.failures a.sink; now = g.S.Sink.failures c.finish.result })) all (returns-clause-emitted g c))
 
 pub blocks_for_refused-blocks-requires : goal.blocks_for_refused-blocks-requires
 blocks_for_refused-blocks-requires g c = stopped_within _ _ _ _ _ _ _ c.run-report.ensures.runs
 
-pub returns-in-Ok-clause-blocks : goal.returns-in-Ok-clause-blocks
-returns-in-Ok-clause-blocks g c =
+pub returns-clause-blocks : goal.returns-clause-blocks
+returns-clause-blocks g c =
     let e = g.E.Order.order in
     let a = c.args in
     let flash = a.start.now.flash in
