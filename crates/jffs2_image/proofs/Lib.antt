@@ -16,3 +16,4 @@ pub mod WeakLemmas
 mod PackedTreeLemmas
 pub mod PackLemmas
 mod FirstLemmas
+mod KeepingLemmas
