@@ -16,3 +16,5 @@ pub mod WeakLemmas
 mod PackedTreeLemmas
 pub mod PackLemmas
 mod FirstLemmas
+mod FinishLemmas
+mod SameLemmas
