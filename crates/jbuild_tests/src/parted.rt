@@ -3,7 +3,7 @@
 use crate::checks::{equal, expect};
 use byteorder::{BigEndian, LittleEndian};
 use flashbase::LoadFault;
-use jbuild::{Parts, operations};
+use jbuild::{HostFiles, operations};
 use jlisting::listing;
 use jnode::Order;
 use jsteps::{DeviceKind, Op};
@@ -13,7 +13,7 @@ use test_support::Giver;
 
 #[test]
 fn files_that_were_read(rt: HostRuntime) -> Result<(), Fail> {
-    let mut parts = Parts::new(rt.alloc());
+    let mut parts = HostFiles::new(rt.alloc());
     expect(&rt, !parts.has("f") && !parts.has(""));
     parts.insert("f".to_string(rt.alloc())?, b"old")?;
     expect(
@@ -47,7 +47,7 @@ fn written<'a>(op: &'a Op<'_>) -> Option<(u32, u32, &'a [u8])> {
 
 #[test]
 fn operations_have_the_bytes_of_their_files(rt: HostRuntime) -> Result<(), Fail> {
-    let mut parts = Parts::new(rt.alloc());
+    let mut parts = HostFiles::new(rt.alloc());
     parts.insert("f".to_string(rt.alloc())?, b"old")?;
     parts.insert("f".to_string(rt.alloc())?, b"new")?;
     parts.insert("g".to_string(rt.alloc())?, b"")?;
@@ -71,8 +71,8 @@ const FOUND: [(u32, &[u8]); 4] = [(0, b"old"), (1, b"abcd"), (2, b""), (3, b"")]
 
 /// A file, and one that is read from a source; two that fail, and one that is too long, change
 /// nothing.
-fn parts_read(alloc: Global) -> Result<Parts, Fail> {
-    let mut parts = Parts::new(alloc);
+fn parts_read(alloc: Global) -> Result<HostFiles, Fail> {
+    let mut parts = HostFiles::new(alloc);
     parts.insert("f".to_string(alloc)?, b"old")?;
     for (name, calls, limit, wanted) in [
         ("f", 2, 9, Err(LoadFault::Device)),
@@ -104,7 +104,7 @@ const DEVICES: &[u8] = b"device c 0600 4 1 /c\ndevice b 0640 259 65537 /b\n";
 
 /// The operations of these lines make devices of these kinds and numbers.
 fn has_numbers<E: Order>(alloc: Global, wanted: [(DeviceKind, &[u8]); 2]) -> Result<bool, Fail> {
-    let parts = Parts::new(alloc);
+    let parts = HostFiles::new(alloc);
     let ops = operations::<E>(alloc, listing(alloc, DEVICES)?, &parts)?;
     let mut same = ops.len() == 2;
     for (op, (kind, bytes)) in ops.iter().zip(wanted) {

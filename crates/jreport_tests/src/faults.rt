@@ -6,7 +6,7 @@ use jlisting::{BadLine, ListingFault, Rule, WordRule};
 use jlog::SessionFault;
 use jmount::{FindFault, MountFault};
 use jreport::{
-    Cause, Limit, Plan, ProgramFault, Reason, Refused, Unopened, cause_of, fault_line, fault_lines,
+    Cause, Limit, Plan, ProgramFault, Reason, Refused, Unopened, cause_of, put_fault, put_fault_and_note,
     fault_text, first_limit,
 };
 use jscan::{Geometry, Page, ScanFault};
@@ -160,7 +160,7 @@ const OP_FAULTS: [(OpFault, &str); 12] = [
 fn texts_of(alloc: Global, fault: &ProgramFault<'_>) -> Result<(Vec<u8>, Vec<u8>), &'static str> {
     let mut text = FromWriter::new(Vec::new(alloc));
     let mut line = FromWriter::new(Vec::new(alloc));
-    if fault_text(fault, &mut text).is_err() || fault_line(fault, &mut line).is_err() {
+    if fault_text(fault, &mut text).is_err() || put_fault(fault, &mut line).is_err() {
         return Err("no text");
     }
     Ok((text.into_writer(), line.into_writer()))
@@ -244,7 +244,7 @@ fn texts_of_a_listing(rt: HostRuntime) -> Result<(), Fail> {
 fn note_after(alloc: Global, fault: &ProgramFault<'_>) -> Result<Vec<u8>, &'static str> {
     let (_, line) = texts_of(alloc, fault)?;
     let mut lines = FromWriter::new(Vec::new(alloc));
-    if fault_lines(fault, &mut lines).is_err() {
+    if put_fault_and_note(fault, &mut lines).is_err() {
         return Err("no text");
     }
     let mut lines = lines.into_writer();
