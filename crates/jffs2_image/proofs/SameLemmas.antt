@@ -188,4 +188,3 @@ new_OldWritesText asked text unmade reading writing notes o r x = record { taken
 
 old_OldWritesText : (asked : PackingParsed) (text : List ℕ) (unmade : Type 0) (reading : FileReads) (writing : FileWrites) (notes : Notes) (o : SinkChange) (r : Result ℕ ProgramFault) → WritesText asked text unmade reading writing o notes r → OldWritesText asked text unmade reading writing o notes r
 old_OldWritesText asked text unmade reading writing notes o r x = record { taken = x.taken; count = x.count; answer = x.answer; finished = x.finished; puts = x.puts; finishes = x.finishes; comes_to = x.comes_to }
-
