@@ -7,7 +7,7 @@ use jlog::SessionFault;
 use jmount::{FindFault, MountFault};
 use jreport::{
     Cause, Limit, Plan, ProgramFault, Reason, Refused, Unopened, cause_of, fault_text, first_limit,
-    put_fault, put_fault_and_note,
+    put_fault_and_note, put_fault_line,
 };
 use jscan::{Geometry, Page, ScanFault};
 use jsteps::OpFault;
@@ -160,7 +160,7 @@ const OP_FAULTS: [(OpFault, &str); 12] = [
 fn texts_of(alloc: Global, fault: &ProgramFault<'_>) -> Result<(Vec<u8>, Vec<u8>), &'static str> {
     let mut text = FromWriter::new(Vec::new(alloc));
     let mut line = FromWriter::new(Vec::new(alloc));
-    if fault_text(fault, &mut text).is_err() || put_fault(fault, &mut line).is_err() {
+    if fault_text(fault, &mut text).is_err() || put_fault_line(fault, &mut line).is_err() {
         return Err("no text");
     }
     Ok((text.into_writer(), line.into_writer()))
