@@ -17,3 +17,5 @@ mod PackedTreeLemmas
 pub mod PackLemmas
 mod FirstLemmas
 mod KeepingLemmas
+mod FinishLemmas
+mod SameLemmas

@@ -4,7 +4,7 @@ use Rattle.jcommand.specs.Parsed.{packing_view, task_view, parsed_from}
 use Rattle.jcommand.specs.declared.parsed.Task.{Task}
 use Rattle.jcommand.specs.declared.parsed.Task.TheVariants as task
 use Rattle.jffs2_image.specs.Tasks.{Asks}
-use Rattle.jffs2_image.proofs.tasks.run_task.Goals as goal
+use Rattle.jffs2_image.proofs.tasks.run_task_in.Goals as goal
 
 -- what the words ask for is the task
 parsed_as : (words : List (List ℕ)) (asked t : Task) → Asks words (task_view asked) → asked ≡ t → parsed_from words ≡ Some (task_view t)
