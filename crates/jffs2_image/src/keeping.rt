@@ -7,9 +7,9 @@ ghost use Rattle.jhost.specs.ReadFolders.{last_kind};
 ghost use Rattle.jreport.specs.Reasons.{reason_of_kind};
 
 use crate::first::FirstBytes;
-use crate::refusing::Refusing;
 use crate::host::{FileLoader, Loader};
 use crate::kept::KeptFiles;
+use crate::refusing::Refusing;
 use jfolder::{FolderFault, HostFolder, Looked, Names};
 use jhost::ReadFolder;
 use jreport::Reason;
