@@ -1,6 +1,6 @@
 pub mod Operations
 pub mod Spans
-pub mod Parts
+pub mod HostFiles
 pub mod Emitting
 pub mod Accepted
 pub mod Length

@@ -14,11 +14,11 @@ mod accepted;
 mod emitting;
 pub mod laws;
 mod listed;
-mod parts;
+mod host_files;
 mod reading;
 mod span;
 
 pub use crate::accepted::put_accepted;
 pub use crate::emitting::{Emitted, emit};
 pub use crate::listed::operations;
-pub use crate::parts::Parts;
+pub use crate::host_files::HostFiles;

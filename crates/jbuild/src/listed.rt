@@ -1,17 +1,17 @@
 //! The operations of a listing.
 
 ghost use Rattle.std.specs.Prelude.{◌≡◌, IfOk};
-ghost use Rattle.jbuild.specs.Parts.{part_contents};
+ghost use Rattle.jbuild.specs.HostFiles.{part_contents};
 ghost use Rattle.jbuild.specs.Operations.{op_in, ops_in};
 
-use crate::parts::Parts;
+use crate::host_files::HostFiles;
 use jlisting::Line;
 use jnode::Order;
 use jsteps::Op;
 use std::alloc::{AllocError, Global};
 
 /// The operation of a line.
-fn operation<'b, 'a: 'b, E: Order>(line: Line<'a>, parts: &'b Parts) -> Op<'b>
+fn operation<'b, 'a: 'b, E: Order>(line: Line<'a>, parts: &'b HostFiles) -> Op<'b>
     ensures { result ≡ op_in E.order (part_contents parts.now) line.entry }
 {
     let bytes: &[u8] = match line.action.file() {
@@ -26,7 +26,7 @@ fn operation<'b, 'a: 'b, E: Order>(line: Line<'a>, parts: &'b Parts) -> Op<'b>
 pub fn operations<'b, 'a: 'b, E: Order>(
     alloc: Global,
     lines: Vec<Line<'a>>,
-    parts: &'b Parts,
+    parts: &'b HostFiles,
 ) -> Result<Vec<Op<'b>>, AllocError>
     ensures { IfOk result
         (λ ops. ops.items ≡ ops_in E.order (part_contents parts.now) lines.entry.items) }

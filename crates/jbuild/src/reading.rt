@@ -2,7 +2,7 @@
 
 ghost use Rattle.std.specs.Prelude.{◌≡◌, ◌<◌, IfOk, OnOk, length, vec_len};
 ghost use Rattle.flashbase.specs.Device.{CountsLoad};
-ghost use Rattle.jbuild.specs.Parts.{ReadsBehind, ReadsMore};
+ghost use Rattle.jbuild.specs.HostFiles.{ReadsBehind, ReadsMore};
 
 use flashbase::{LoadFault, Source};
 use std::alloc::{AllocError, Global};

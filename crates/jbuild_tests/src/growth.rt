@@ -5,7 +5,7 @@ use crate::checks::{equal, expect};
 use crate::runs::{GEOMETRY, file_of};
 use byteorder::LittleEndian;
 use flashbase::Sink;
-use jbuild::{Emitted, Parts, emit, operations, put_accepted};
+use jbuild::{Emitted, HostFiles, emit, operations, put_accepted};
 use jlisting::listing;
 use jlog::{RunReport, SessionFault};
 use jmount::mount;
@@ -24,8 +24,8 @@ struct Row<'r> {
 }
 
 /// The files that the listings name.
-fn read_two(alloc: Global) -> Result<Parts, AllocError> {
-    let mut parts = Parts::new(alloc);
+fn read_two(alloc: Global) -> Result<HostFiles, AllocError> {
+    let mut parts = HostFiles::new(alloc);
     parts.insert("two".to_string(alloc)?, &file_of(alloc, 1, 8192)?)?;
     Ok(parts)
 }
@@ -150,7 +150,7 @@ fn named(alloc: Global, name: &str) -> Option<(String, Vec<u8>)> {
 /// A file whose growth is refused is not there, and can be put there then.
 #[test]
 fn a_refused_file_is_not_there(rt: HostRuntime) {
-    let mut parts = Parts::new(rt.alloc());
+    let mut parts = HostFiles::new(rt.alloc());
     for name in ["f", "g", "f"] {
         let is_there = parts.has(name);
         let Some((key, bytes)) = named(rt.alloc(), name) else {

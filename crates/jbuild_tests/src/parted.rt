@@ -3,7 +3,7 @@
 use crate::checks::{equal, expect};
 use byteorder::{BigEndian, LittleEndian};
 use flashbase::LoadFault;
-use jbuild::{Parts, operations};
+use jbuild::{HostFiles, operations};
 use jlisting::listing;
 use jnode::Order;
 use jsteps::{DeviceKind, Op};
@@ -13,7 +13,7 @@ use test_support::Giver;
 
 #[test]
 fn files_that_were_read(rt: HostRuntime) -> Result<(), Fail> {
-    let mut parts = Parts::new(rt.alloc());
+    let mut parts = HostFiles::new(rt.alloc());
     expect(&rt, !parts.has("f") && !parts.has(""));
     parts.insert("f".to_string(rt.alloc())?, b"old")?;
     expect(
@@ -64,7 +64,7 @@ fn are_written(ops: &[Op<'_>], time: u32, wanted: &[Write]) -> bool {
 
 #[test]
 fn operations_have_the_bytes_of_their_files(rt: HostRuntime) -> Result<(), Fail> {
-    let mut parts = Parts::new(rt.alloc());
+    let mut parts = HostFiles::new(rt.alloc());
     parts.insert("f".to_string(rt.alloc())?, b"old")?;
     parts.insert("f".to_string(rt.alloc())?, b"new")?;
     parts.insert("g".to_string(rt.alloc())?, b"")?;
@@ -98,8 +98,8 @@ fn sources() -> &'static [(&'static str, usize, usize, Result<(), LoadFault>)] {
 
 /// A file, and one that is read from a source; two that fail, and one that is too long, change
 /// nothing.
-fn parts_read(alloc: Global) -> Result<Parts, Fail> {
-    let mut parts = Parts::new(alloc);
+fn parts_read(alloc: Global) -> Result<HostFiles, Fail> {
+    let mut parts = HostFiles::new(alloc);
     parts.insert("f".to_string(alloc)?, b"old")?;
     for &(name, calls, limit, wanted) in sources() {
         let mut source = Giver::failing(b"abcd", 1, calls);
@@ -127,7 +127,7 @@ type Device = (DeviceKind, &'static [u8]);
 
 /// Whether the operations of these lines make devices of these kinds and numbers.
 fn has_numbers<E: Order>(alloc: Global, wanted: &[Device]) -> Result<bool, Fail> {
-    let parts = Parts::new(alloc);
+    let parts = HostFiles::new(alloc);
     let ops = operations::<E>(alloc, listing(alloc, DEVICES)?, &parts)?;
     let mut same = ops.len() == wanted.len();
     for (op, (kind, bytes)) in ops.iter().zip(wanted) {

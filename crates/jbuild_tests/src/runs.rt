@@ -1,7 +1,7 @@
 //! From the text of a listing to what goes out and is told.
 
 use flashbase::FromWriter;
-use jbuild::{Emitted, Parts, emit, operations, put_accepted};
+use jbuild::{Emitted, HostFiles, emit, operations, put_accepted};
 use jlisting::listing;
 use jlog::{Place, RunReport, resume_at};
 use jmount::mount;
@@ -39,8 +39,8 @@ pub fn file_of(alloc: Global, byte: u8, len: usize) -> Result<Vec<u8>, AllocErro
 }
 
 /// The files, read.
-pub fn read_files(alloc: Global) -> Result<Parts, Fail> {
-    let mut parts = Parts::new(alloc);
+pub fn read_files(alloc: Global) -> Result<HostFiles, Fail> {
+    let mut parts = HostFiles::new(alloc);
     for &(name, byte, len) in files() {
         parts.insert(name.to_string(alloc)?, &file_of(alloc, byte, len)?)?;
     }

@@ -15,7 +15,7 @@
 //! | know which nodes clash, where a mount says so | [`clash_below`]: the other one |
 //! | know what is damaged | [`Mounted::findings`], [`Mounted::dangling`], [`Mounted::shape`] |
 //! | print what the damage of an image costs | [`put_damage`], of a [`Mounted`] |
-//! | print what `ls`, `cat` and `check` print | [`tree_lines`], [`part_lines`], [`content`], [`scan_lines`], [`verdict_lines`] |
+//! | print what `ls`, `cat` and `check` print | [`tree_lines`], [`put_subtree`], [`content`], [`scan_lines`], [`verdict_lines`] |
 //! | see each node, with its address | [`scan`], or [`Sightings`] one by one |
 //! | see an image that is larger than memory | [`scan_stream`], [`stream_lines`] |
 //! | write to an image | [`Session::resume`], then [`Session::run`] with a list of [`Op`] |
@@ -38,7 +38,7 @@ pub use byteorder::{BigEndian, LittleEndian};
 pub use flashbase::{
     DeviceFault, FromReader, FromWriter, LoadFault, PutFault, Sink, Source, load, put_all,
 };
-pub use jbuild::{Emitted, Parts, emit, operations};
+pub use jbuild::{Emitted, HostFiles, emit, operations};
 pub use jclash::clash_below;
 pub use jconvert::{
     Apart, ConvertFault, Converted, LeftOut, compress, decompress, decompress_apart, decompressed,
@@ -49,7 +49,7 @@ pub use jlog::{Applied, Place, RunReport, Session, SessionFault};
 pub use jmount::{FindFault, Kind, MountFault, Mounted, Object, mount};
 pub use jnode::{Damage, Dirent, Endian, Fill, InodeNode, NodeRef, Order, Seen, weak_cut};
 pub use jreport::{
-    ProgramFault, content, part_lines, scan_lines, stream_lines, tree_lines, verdict_lines,
+    ProgramFault, content, put_subtree, scan_lines, stream_lines, tree_lines, verdict_lines,
 };
 pub use jscan::{
     Counts, Extent, ExtentKind, Extents, Finding, FindingKind, GREATEST_IMAGE, Geometry, Page,

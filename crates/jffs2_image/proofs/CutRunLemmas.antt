@@ -14,8 +14,8 @@ use Rattle.jsteps.specs.declared.op.Op.{Op}
 use Rattle.jlisting.specs.Listing.{lines_of}
 use Rattle.jlisting.specs.declared.line.Line.{Line}
 use Rattle.jbuild.specs.Operations.{ops_in}
-use Rattle.jbuild.specs.Parts.{part_contents}
-use Rattle.jbuild.specs.declared.parts.Parts.{Parts}
+use Rattle.jbuild.specs.HostFiles.{part_contents}
+use Rattle.jbuild.specs.declared.host_files.HostFiles.{HostFiles}
 use Rattle.jcuts.specs.Cuts.{Asked, PutsCuts}
 use Rattle.jcuts.specs.declared.cuts.CutsFault.{CutsFault}
 use Rattle.jcuts.specs.declared.cuts.Flash.{Flash}
@@ -29,7 +29,7 @@ use Rattle.jffs2_image.specs.Host.{AreAllRead, AreLoaded, AreRead, HaveBytes, Is
 use Rattle.jffs2_image.specs.Writes.{IsBehind, IsPartUnread, IsUnreadFile}
 
 -- the parts that were read have the bytes of the host's files
-pub have_bytes : (told : List ℕ → Option (List ℕ)) (lines : List Line) (parts : Parts) → AreRead told lines parts → HaveBytes told lines (part_contents parts)
+pub have_bytes : (told : List ℕ → Option (List ℕ)) (lines : List Line) (parts : HostFiles) → AreRead told lines parts → HaveBytes told lines (part_contents parts)
 have_bytes told lines parts read name named = (read name named).1
 
 -- nothing is told of the lines

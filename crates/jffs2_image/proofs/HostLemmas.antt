@@ -27,8 +27,8 @@ use Rattle.jbuild.proofs.LengthLemmas.{goes_on_flash, line_tells_length}
 use Rattle.jbuild.specs.Accepted.{accepted_line}
 use Rattle.jbuild.specs.Emitting.{IsEmitted, IsNotEmitted, front_before, paged_flash}
 use Rattle.jbuild.specs.Operations.{op_in, ops_in}
-use Rattle.jbuild.specs.Parts.{part_contents, read_of}
-use Rattle.jbuild.specs.declared.parts.Parts.{Parts}
+use Rattle.jbuild.specs.HostFiles.{part_contents, read_of}
+use Rattle.jbuild.specs.declared.host_files.HostFiles.{HostFiles}
 use Rattle.jreport.specs.declared.cause.Cause.{Cause}
 use Rattle.jreport.specs.declared.faults.ProgramFault.{ProgramFault}
 use Rattle.jreport.specs.declared.faults.ProgramFault.TheVariants as program
@@ -204,7 +204,7 @@ fault_blame T u v rb mid rn mb mn f (Err other) is same w =
 -- ---- files that lines name
 
 -- the files of the first n lines were read
-pub record IsReading (told : List ℕ → Option (List ℕ)) (lines : List Line) (n : ℕ) (parts : Parts) : Type 0 where
+pub record IsReading (told : List ℕ → Option (List ℕ)) (lines : List Line) (n : ℕ) (parts : HostFiles) : Type 0 where
   pub own : (name bytes : List ℕ) → read_of parts name ≡ Some bytes → AreOf (told name) bytes
   pub within : (name bytes : List ℕ) → read_of parts name ≡ Some bytes → length bytes ≤ greatest_image
   pub each : (k : ℕ) (x : Line) (name : List ℕ) → k < n → slice_index_or lines k x ≡ x → file_of x.action ≡ Some name → IsTrue (is_some (read_of parts name))
@@ -215,7 +215,7 @@ got_of told (Some bytes) is own within = (own bytes refl, within bytes refl)
 got_of told None is own within = cc
 
 -- those of no line, where some were read before
-pub none_read : (told : List ℕ → Option (List ℕ)) (lines : List Line) (parts : Parts) → AreAllLoaded told parts → IsReading told lines 0 parts
+pub none_read : (told : List ℕ → Option (List ℕ)) (lines : List Line) (parts : HostFiles) → AreAllLoaded told parts → IsReading told lines 0 parts
 none_read told lines parts all = record {
   own = λ name bytes is. (all name bytes is).0;
   within = λ name bytes is. (all name bytes is).1;
@@ -223,7 +223,7 @@ none_read told lines parts all = record {
 }
 
 -- all
-pub all_read : (told : List ℕ → Option (List ℕ)) (lines : List Line) (n : ℕ) (parts : Parts) → IsReading told lines n parts → length lines ≤ n → AreRead told lines parts
+pub all_read : (told : List ℕ → Option (List ℕ)) (lines : List Line) (n : ℕ) (parts : HostFiles) → IsReading told lines n parts → length lines ≤ n → AreRead told lines parts
 all_read told lines n parts was all = λ name named.
     let is = was.each named.0 named.1 name (let below = named.2 in omega arith) named.3 named.4 in
     (is, got_of (told name) (read_of parts name) is (was.own name) (was.within name))
@@ -235,10 +235,10 @@ tells_on_base held page e size blocks base ops m accepted places same made = sub
     (line_tells_length (paged_flash page e size blocks) m.image ops accepted places _ (goes_on_flash page e size blocks m made.put.resumes) made.put.emitted)
 
 -- so they are those of the operations that were run
-have_bytes : (told : List ℕ → Option (List ℕ)) (lines : List Line) (parts : Parts) → AreRead told lines parts → HaveBytes told lines (part_contents parts)
+have_bytes : (told : List ℕ → Option (List ℕ)) (lines : List Line) (parts : HostFiles) → AreRead told lines parts → HaveBytes told lines (part_contents parts)
 have_bytes told lines parts are = λ name named. (are name named).1
 
-pub files_of_all : (told : List ℕ → Option (List ℕ)) (held : Held) (page : Page) (e : Endian) (size blocks : ℕ) (base text : List ℕ) (lines : List Line) (parts : Parts) (m : Mount) (accepted : ℕ) (places : List Place) (from : ℕ)
+pub files_of_all : (told : List ℕ → Option (List ℕ)) (held : Held) (page : Page) (e : Endian) (size blocks : ℕ) (base text : List ℕ) (lines : List Line) (parts : HostFiles) (m : Mount) (accepted : ℕ) (places : List Place) (from : ℕ)
     (old new : Option (List ℕ)) (x : ℕ) → m.image ≡ base → from ≡ resume_address e size blocks base → AreRead told lines parts → lines_of text ≡ Ok lines → Answers e size base (Ok m)
     → IsMade held (image_form page e size blocks) m (ops_in e (part_contents parts) lines) accepted places None → Appends old new (accepted_line from accepted places)
     → RunsFiles told held (image_form page e size blocks) base text old new (Ok x)
@@ -252,7 +252,7 @@ files_of_all told held page e size blocks base text lines parts m accepted place
   tells_on_base held page e size blocks base (ops_in e (part_contents parts) lines) m accepted places same made,
 )
 
-pub files_in_part : (told : List ℕ → Option (List ℕ)) (held : Held) (page : Page) (e : Endian) (size blocks : ℕ) (base text : List ℕ) (lines : List Line) (parts : Parts) (m : Mount) (accepted : ℕ) (places : List Place) (from : ℕ)
+pub files_in_part : (told : List ℕ → Option (List ℕ)) (held : Held) (page : Page) (e : Endian) (size blocks : ℕ) (base text : List ℕ) (lines : List Line) (parts : HostFiles) (m : Mount) (accepted : ℕ) (places : List Place) (from : ℕ)
     (old new : Option (List ℕ)) (r : Result ℕ ProgramFault) → IsErrAnd r (λ is. is ≡ program.Output) → from ≡ resume_address e size blocks base → AreRead told lines parts → lines_of text ≡ Ok lines
     → Answers e size base (Ok m) → IsMade held (image_form page e size blocks) m (ops_in e (part_contents parts) lines) accepted places None → PutsPart old new (accepted_line from accepted places)
     → RunsFiles told held (image_form page e size blocks) base text old new r
@@ -267,7 +267,7 @@ files_in_part told held page e size blocks base text lines parts m accepted plac
       subst (λ (at : ℕ). PutsPart old new (accepted_line at accepted places)) is put,
     )
 
-cut_short : (told : List ℕ → Option (List ℕ)) (held : Held) (page : Page) (e : Endian) (size blocks : ℕ) (base text : List ℕ) (lines : List Line) (parts : Parts) (m : Mount)
+cut_short : (told : List ℕ → Option (List ℕ)) (held : Held) (page : Page) (e : Endian) (size blocks : ℕ) (base text : List ℕ) (lines : List Line) (parts : HostFiles) (m : Mount)
     → m.image ≡ base → AreRead told lines parts → lines_of text ≡ Ok lines → HoldsPart held (image_form page e size blocks) m.image (ops_in e (part_contents parts) lines)
     → IsCutShort told held (image_form page e size blocks) base text
 cut_short told held page e size blocks base text lines parts m same are read holds =
@@ -281,7 +281,7 @@ no_line e files lines n o at none = by (slice_get lines n) (sym (slice_get-map (
     by (Some l) at none = cc
     by None at none = cc
 
-pub files_until : (told : List ℕ → Option (List ℕ)) (held : Held) (page : Page) (e : Endian) (size blocks : ℕ) (base text : List ℕ) (lines : List Line) (parts : Parts) (m : Mount) (accepted : ℕ) (places : List Place)
+pub files_until : (told : List ℕ → Option (List ℕ)) (held : Held) (page : Page) (e : Endian) (size blocks : ℕ) (base text : List ℕ) (lines : List Line) (parts : HostFiles) (m : Mount) (accepted : ℕ) (places : List Place)
     (old new : Option (List ℕ)) (f : SessionFault) (line : Option ℕ) (cause : Cause) → line ≡ option_map (λ l. l.number) (slice_get lines accepted) → AreRead told lines parts → lines_of text ≡ Ok lines
     → Answers e size base (Ok m) → IsMade held (image_form page e size blocks) m (ops_in e (part_contents parts) lines) accepted places (Some f)
     → IsRunCause (image_form page e size blocks) base (ops_in e (part_contents parts) lines) accepted f cause
@@ -291,11 +291,11 @@ files_until told held page e size blocks base text lines parts m accepted places
 files_until told held page e size blocks base text lines parts m accepted places old new f (Some n) cause is are read mounts made why =
     (lines, accepted, places, record { mount = m; files = part_contents parts; read = read; mounts = mounts; made = made }, have_bytes told lines parts are, sym is, why)
 
-all_of_text : (told : List ℕ → Option (List ℕ)) (lines : List Line) (parts : Parts) (text : List ℕ) → AreRead told lines parts → lines_of text ≡ Ok lines → AreAllRead told text
+all_of_text : (told : List ℕ → Option (List ℕ)) (lines : List Line) (parts : HostFiles) (text : List ℕ) → AreRead told lines parts → lines_of text ≡ Ok lines → AreAllRead told text
 all_of_text told lines parts text are read = (lines, part_contents parts, read, have_bytes told lines parts are)
 
 -- a fault of the base
-pub files_not_mounted : (told : List ℕ → Option (List ℕ)) (held : Held) (page : Page) (e : Endian) (size blocks : ℕ) (base text : List ℕ) (lines : List Line) (parts : Parts) (old new : Option (List ℕ)) (f : ProgramFault) (r : Result ℕ ProgramFault)
+pub files_not_mounted : (told : List ℕ → Option (List ℕ)) (held : Held) (page : Page) (e : Endian) (size blocks : ℕ) (base text : List ℕ) (lines : List Line) (parts : HostFiles) (old new : Option (List ℕ)) (f : ProgramFault) (r : Result ℕ ProgramFault)
     → IsErrAnd r (λ is. is ≡ f) → IsRefusalTold e size base f → AreRead told lines parts → lines_of text ≡ Ok lines → RunsFiles told held (image_form page e size blocks) base text old new r
 files_not_mounted told held page e size blocks base text lines parts old new f (Ok x) fault refused are read = absurd fault
 files_not_mounted told held page e size blocks base text lines parts old new f (Err g) fault refused are read =
@@ -303,7 +303,7 @@ files_not_mounted told held page e size blocks base text lines parts old new f (
     subst P (sym fault)
     (refusal_cases P e size base f (λ h here. all_of_text told lines parts text are read) (λ addr other here. all_of_text told lines parts text are read) refused)
 
-pub files_not_resumed : (told : List ℕ → Option (List ℕ)) (held : Held) (page : Page) (e : Endian) (size blocks : ℕ) (base text : List ℕ) (lines : List Line) (parts : Parts) (m : Mount) (old new : Option (List ℕ)) (f : SessionFault) (cause : Cause) (r : Result ℕ ProgramFault)
+pub files_not_resumed : (told : List ℕ → Option (List ℕ)) (held : Held) (page : Page) (e : Endian) (size blocks : ℕ) (base text : List ℕ) (lines : List Line) (parts : HostFiles) (m : Mount) (old new : Option (List ℕ)) (f : SessionFault) (cause : Cause) (r : Result ℕ ProgramFault)
     → resumes_by page e size blocks m ≡ Err f → IsErrAnd r (λ is. is ≡ program.Session f None cause) → AreRead told lines parts → lines_of text ≡ Ok lines → RunsFiles told held (image_form page e size blocks) base text old new r
 files_not_resumed told held page e size blocks base text lines parts m old new f cause (Ok x) is fault are read = absurd fault
 files_not_resumed told held page e size blocks base text lines parts m old new f cause (Err g) is fault are read =
@@ -319,7 +319,7 @@ files_not_resumed told held page e size blocks base text lines parts m old new f
         subst (λ (z : SessionFault). RunsFiles told held (image_form page e size blocks) base text old new (Err (program.Session z None cause))) is (all_of_text told lines parts text are read)
 
 -- no fault of making is one of a line
-pub files_not_made : (told : List ℕ → Option (List ℕ)) (held : Held) (page : Page) (e : Endian) (size blocks : ℕ) (output base text : List ℕ) (lines : List Line) (parts : Parts) (m : Mount) (old new : Option (List ℕ)) (f : ProgramFault) (r : Result ℕ ProgramFault)
+pub files_not_made : (told : List ℕ → Option (List ℕ)) (held : Held) (page : Page) (e : Endian) (size blocks : ℕ) (output base text : List ℕ) (lines : List Line) (parts : HostFiles) (m : Mount) (old new : Option (List ℕ)) (f : ProgramFault) (r : Result ℕ ProgramFault)
     → IsErrAnd r (λ is. is ≡ f) → m.image ≡ base → AreRead told lines parts → lines_of text ≡ Ok lines → IsNotMade (image_form page e size blocks) m output f
     → HoldsCut held (image_form page e size blocks) m.image (ops_in e (part_contents parts) lines) f → RunsFiles told held (image_form page e size blocks) base text old new r
 files_not_made told held page e size blocks output base text lines parts m old new f (Ok x) fault same are read not cut = absurd fault

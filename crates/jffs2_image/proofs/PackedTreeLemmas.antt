@@ -12,7 +12,7 @@ use Rattle.jbuild.specs.Operations.{ops_in}
 use Rattle.jfolder.specs.Known.{Known}
 use Rattle.jfolder.specs.Text.{listing_text}
 use Rattle.jfolder.specs.declared.found.Options.{Options}
-use Rattle.jfolder.specs.declared.reading.Folder.{Folder}
+use Rattle.jfolder.specs.declared.reading.FolderTree.{FolderTree}
 use Rattle.jtree.specs.Making.{Files}
 use Rattle.jtree.proofs.WrittenLemmas.{put_out_holds_tree}
 use Rattle.jreport.specs.declared.faults.ProgramFault.{ProgramFault}
@@ -39,7 +39,7 @@ known (Some bytes) (Some more) None given front out empty a b k = absurd b
 known (Some bytes) (Some more) (Some all) None front out empty a b k = absurd k
 known (Some bytes) (Some more) (Some all) (Some last) front out empty a b k = record { image = all; taken_is = refl; given_is = ap Some k }
 
-run_holds : (asked : PackingParsed) (folder : Folder) (told : List ℕ → Option (List ℕ)) (held : Held) (before : List (List ℕ)) (lines : List Line) (accepted : ℕ) (places : List Place)
+run_holds : (asked : PackingParsed) (folder : FolderTree) (told : List ℕ → Option (List ℕ)) (held : Held) (before : List (List ℕ)) (lines : List Line) (accepted : ℕ) (places : List Place)
     (known_folder : Known) (options : Options) → IsListable known_folder options folder → held.0 ≡ Some before
     → (run : IsRunOn held (image_form asked.page asked.options.endian asked.options.geometry.block (blocks_of asked)) [] (listing_text folder.root folder.items.items) lines accepted places None)
     → HaveBytes told lines run.files
@@ -83,7 +83,7 @@ run_holds asked folder told held before lines accepted places known_folder optio
       },
     )
 
-pub gives_folder : (asked : PackingParsed) (folder : Folder) (known_folder : Known) (options : Options) (unmade : Type 0) (reading : FileReads) (writing : FileWrites) (output : SinkChange)
+pub gives_folder : (asked : PackingParsed) (folder : FolderTree) (known_folder : Known) (options : Options) (unmade : Type 0) (reading : FileReads) (writing : FileWrites) (output : SinkChange)
     (notes : Notes) (n : ℕ) → IsListable known_folder options folder
     → WritesText asked (listing_text folder.root folder.items.items) unmade reading writing output notes (Ok n) → GivesFolder asked folder reading writing
 gives_folder asked folder known_folder options unmade reading writing output notes n listable writes =

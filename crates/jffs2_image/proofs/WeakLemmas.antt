@@ -40,8 +40,8 @@ use Rattle.jcommand.specs.declared.parsed.Options.{Options}
 use Rattle.jlisting.specs.Listing.{lines_of}
 use Rattle.jlisting.specs.declared.line.Line.{Line}
 use Rattle.jbuild.specs.Operations.{ops_in}
-use Rattle.jbuild.specs.Parts.{part_contents}
-use Rattle.jbuild.specs.declared.parts.Parts.{Parts}
+use Rattle.jbuild.specs.HostFiles.{part_contents}
+use Rattle.jbuild.specs.declared.host_files.HostFiles.{HostFiles}
 use Rattle.jffs2_image.specs.Host.{AreLoaded, AreRead}
 use Rattle.jffs2_image.proofs.CutRunLemmas.{have_bytes}
 use Rattle.jffs2_image.specs.WeakRuns.{AreAllTaken, AreNotes, AreNotesOn, HasNotes, IsGoneOnFrom, flash_given, weak_note}
@@ -225,7 +225,7 @@ if_ok A (Ok x) is = is
 if_ok A (Err y) is = tt
 
 -- the notes on the lines that were read
-pub lines_notes : (told : List ℕ → Option (List ℕ)) (e : Endian) (flash : Flash) (base text : List ℕ) (lines : List Line) (parts : Parts) (notes : Notes) → lines_of text ≡ Ok lines → AreRead told lines parts
+pub lines_notes : (told : List ℕ → Option (List ℕ)) (e : Endian) (flash : Flash) (base text : List ℕ) (lines : List Line) (parts : HostFiles) (notes : Notes) → lines_of text ≡ Ok lines → AreRead told lines parts
     → AreNotes e flash base (ops_in e (part_contents parts) lines) notes → AreNotesOn told e flash base text notes
 lines_notes told e flash base text lines parts notes read are noted = record { lines = lines; files = part_contents parts; read = read; bytes = have_bytes told lines parts are; noted = noted }
 

@@ -28,7 +28,7 @@ use Rattle.jcommand.specs.declared.parsed.Owner as command
 use Rattle.jfolder.specs.Text.{listing_text}
 use Rattle.jfolder.specs.declared.fault.ReadFault.{ReadFault}
 use Rattle.jfolder.specs.declared.fault.ReadFault.TheVariants as read
-use Rattle.jfolder.specs.declared.reading.Folder.{Folder}
+use Rattle.jfolder.specs.declared.reading.FolderTree.{FolderTree}
 use Rattle.jconvert.specs.Converting.{Converts}
 use Rattle.jreport.specs.ExtractionNotes.{attribute_count}
 use Rattle.jreport.specs.FoundIn.{found_in}
@@ -225,7 +225,7 @@ settings owner time = record { owner = option_map owner_given owner; time = time
 -- what was read of a folder: a tree in the order of its paths, which a listing can say, with the
 -- owner and the time that the options give, and else as the host tells it, where that is known;
 -- each further name of a file is a link
-pub record IsListable (known : Known) (options : Options) (folder : Folder) : Type 0 where
+pub record IsListable (known : Known) (options : Options) (folder : FolderTree) : Type 0 where
   pub fits : FitsListing folder.root folder.items.items
   pub tree : IsTree folder.items.items
   pub rises : Rise folder.items.items
@@ -240,11 +240,11 @@ pub record IsListable (known : Known) (options : Options) (folder : Folder) : Ty
 abbrev pub ListsFolder : Known → Options → List ℕ → SinkChange → SinkChange → Result ℕ ProgramFault
     → Type 0
 ListsFolder known options name output notes (Ok n) =
-    (folder : Folder) × IsListable known options folder × (n ≡ folder.left_out)
+    (folder : FolderTree) × IsListable known options folder × (n ≡ folder.left_out)
     × Appends output.old output.new (listing_text folder.root folder.items.items)
     × (output.now ≡ output.before) × Tells known options notes (Ok folder)
 ListsFolder known options name output notes (Err fault) =
-    ((folder : Folder) × IsListable known options folder × (fault ≡ program.Output)
+    ((folder : FolderTree) × IsListable known options folder × (fault ≡ program.Output)
     × PutsPart output.old output.new (listing_text folder.root folder.items.items)
     × (output.now ≡ next_count output.before) × Tells known options notes (Ok folder))
     ⊎ ((refused : ReadFault) × IsReadingFault name refused fault × (output.new ≡ output.old)

@@ -13,8 +13,8 @@ use Rattle.jnode.specs.declared.order.Endian.{Endian}
 use Rattle.jlog.specs.declared.report.Place.{Place}
 use Rattle.jbuild.specs.Length.{TellsLength}
 use Rattle.jbuild.specs.Operations.{ops_in}
-use Rattle.jbuild.specs.Parts.{part_contents, read_of}
-use Rattle.jbuild.specs.declared.parts.Parts.{Parts}
+use Rattle.jbuild.specs.HostFiles.{part_contents, read_of}
+use Rattle.jbuild.specs.declared.host_files.HostFiles.{HostFiles}
 use Rattle.jcommand.specs.Parsed.{Parsed, ScanParsed, CheckParsed, ListParsed, CatParsed, BuildParsed, AppendParsed, DecompressParsed, options_of, view}
 use Rattle.jcommand.specs.declared.parsed.Request.{Request}
 use Rattle.jcommand.specs.declared.command_line.RequestFault.{RequestFault}
@@ -59,18 +59,18 @@ abbrev pub AreLoaded : Option (List ℕ) → List ℕ → Type 0
 AreLoaded told bytes = AreOf told bytes × (length bytes ≤ greatest_image)
 
 -- files that were read have the bytes that they have on the host
-abbrev pub AreAllLoaded : (List ℕ → Option (List ℕ)) → Parts → Type 0
+abbrev pub AreAllLoaded : (List ℕ → Option (List ℕ)) → HostFiles → Type 0
 AreAllLoaded told parts =
     (name bytes : List ℕ) → read_of parts name ≡ Some bytes → AreLoaded (told name) bytes
 
 -- The file of a name, of which the host tells these bytes, was read: it has them, and the others
 -- have theirs.
-abbrev pub ReadsFilePart : Option (List ℕ) → List ℕ → Parts → Parts → Type 0
+abbrev pub ReadsFilePart : Option (List ℕ) → List ℕ → HostFiles → HostFiles → Type 0
 ReadsFilePart told name old new = (bytes : List ℕ) × AreLoaded told bytes
     × ((n : List ℕ) → read_of new n ≡ (if bytes_eq name n then Some bytes else read_of old n))
 
 -- Each file that a line names was read, and has the bytes that it has on the host.
-abbrev pub AreRead : (List ℕ → Option (List ℕ)) → List Line → Parts → Type 0
+abbrev pub AreRead : (List ℕ → Option (List ℕ)) → List Line → HostFiles → Type 0
 AreRead told lines parts = (name : List ℕ) → IsNamedByLine lines name
     → IsTrue (is_some (read_of parts name)) × AreLoaded (told name) (part_contents parts name)
 

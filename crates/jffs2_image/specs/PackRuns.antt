@@ -9,7 +9,7 @@ use Rattle.jfolder.specs.Notes.{Tells}
 use Rattle.jfolder.specs.Text.{listing_text}
 use Rattle.jfolder.specs.declared.fault.ReadFault.{ReadFault}
 use Rattle.jfolder.specs.declared.found.Options as reading
-use Rattle.jfolder.specs.declared.reading.Folder.{Folder}
+use Rattle.jfolder.specs.declared.reading.FolderTree.{FolderTree}
 use Rattle.jreport.specs.Advice.{fault_lines_of}
 use Rattle.jreport.specs.declared.faults.ProgramFault.{ProgramFault}
 use Rattle.jreport.specs.declared.faults.ProgramFault.TheVariants as program
@@ -56,11 +56,11 @@ packed_form asked =
 abbrev pub ReadsListing : Known → reading.Options → List ℕ → SinkChange → Result Listed ProgramFault
     → Type 0
 ReadsListing known options name notes (Ok listed) =
-    (folder : Folder) × IsListable known options folder × (listed.left_out ≡ folder.left_out)
+    (folder : FolderTree) × IsListable known options folder × (listed.left_out ≡ folder.left_out)
     × (listed.text.items ≡ listing_text folder.root folder.items.items)
     × Tells known options notes (Ok folder)
 ReadsListing known options name notes (Err fault) =
-    ((folder : Folder) × (fault ≡ program.OutOfMemory)
+    ((folder : FolderTree) × (fault ≡ program.OutOfMemory)
     × Tells known options notes (Ok folder))
     ⊎ ((refused : ReadFault) × IsReadingFault name refused fault
     × Tells known options notes (Err refused))
@@ -107,7 +107,7 @@ pub record WritesText (asked : PackingParsed) (text : List ℕ) (unmade : Type 0
   pub comes_to : result ≡ answer_finished answer finished
 
 -- what it comes to that a text was written: the number of objects that were left out of it
-abbrev pub left_out_of : Folder → Result ℕ ProgramFault → Result ℕ ProgramFault
+abbrev pub left_out_of : FolderTree → Result ℕ ProgramFault → Result ℕ ProgramFault
 left_out_of folder (Ok n) = Ok folder.left_out
 left_out_of folder (Err fault) = Err fault
 
@@ -115,7 +115,7 @@ left_out_of folder (Err fault) = Err fault
 -- written. Where that ends without a fault, the file that was made holds this tree.
 pub record IsPacked (asked : PackingParsed) (known : Known) (unmade : Type 0) (around : PackAround)
     (notes : Notes) (result : Result ℕ ProgramFault) : Type 0 where
-  pub folder : Folder
+  pub folder : FolderTree
   pub written : Result ℕ ProgramFault
   pub listable : IsListable known (settings asked.owner asked.time) folder
   pub told : Tells known (settings asked.owner asked.time) around.errors (Ok folder)

@@ -5,7 +5,7 @@ use Rattle.jmount.specs.Tree.{State}
 use Rattle.jlisting.specs.Listing.{lines_of}
 use Rattle.jlisting.specs.declared.line.Line.{Line}
 use Rattle.jfolder.specs.Text.{listing_text}
-use Rattle.jfolder.specs.declared.reading.Folder.{Folder}
+use Rattle.jfolder.specs.declared.reading.FolderTree.{FolderTree}
 use Rattle.jtree.specs.Holding.{HoldsTree}
 use Rattle.jtree.specs.Making.{Files}
 use Rattle.jcommand.specs.Parsed.{PackingParsed}
@@ -14,7 +14,7 @@ use Rattle.jffs2_image.specs.Writes.{FileReads, FileWrites}
 
 -- An image mounts as a file system that holds the tree which was read of a folder, and nothing
 -- else; its files have the bytes that they have on the host, where it tells them.
-pub record HoldsFolder (asked : PackingParsed) (folder : Folder)
+pub record HoldsFolder (asked : PackingParsed) (folder : FolderTree)
     (told : List ℕ → Option (List ℕ)) (image : List ℕ) : Type 0 where
   pub lines : List Line
   pub files : Files
@@ -25,7 +25,7 @@ pub record HoldsFolder (asked : PackingParsed) (folder : Folder)
   pub holds : HoldsTree files folder.root folder.items.items state
 
 -- Such an image was given to the file that was made, where the host tells what that was given.
-abbrev pub GivesFolder : PackingParsed → Folder → FileReads → FileWrites → Type 0
+abbrev pub GivesFolder : PackingParsed → FolderTree → FileReads → FileWrites → Type 0
 GivesFolder asked folder reading writing = IfSome writing.held.0 (λ before. (image : List ℕ)
     × (writing.held.1 ≡ Some (before ++ image ∷ []))
     × HoldsFolder asked folder reading.told image)

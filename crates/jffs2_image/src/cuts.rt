@@ -17,7 +17,7 @@ use crate::program::report_fault;
 use crate::writing::{Texts, load_file, load_parts, numbers_of};
 use byteorder::{BigEndian, LittleEndian};
 use flashbase::Sink;
-use jbuild::{Parts, operations};
+use jbuild::{HostFiles, operations};
 use jcommand::{Cuts, Outcome};
 use jcuts::{CutsFault, Flash, Telling, put_cuts};
 use jlisting::{Line, listing};
@@ -77,7 +77,7 @@ fn tell_lines<'p, 'b: 'p, E: Order, T: Sink>(
     flash: Flash,
     base: &[u8],
     lines: Vec<Line<'b>>,
-    parts: &'p Parts,
+    parts: &'p HostFiles,
     sink: &mut T,
 ) -> Result<u64, ProgramFault<'static>>
     ensures tells { (told : List ℕ → Option (List ℕ)) → (text : List ℕ)

@@ -315,7 +315,7 @@ pub(crate) fn read_fault(fault: ReadFault, name: &str, reason: Reason) -> Progra
 }
 
 /// Puts the listing of a folder that was read.
-pub(crate) fn put_read<T: Sink>(read: &jfolder::Folder, sink: &mut T) -> Result<(), DeviceFault>
+pub(crate) fn put_read<T: Sink>(read: &jfolder::FolderTree, sink: &mut T) -> Result<(), DeviceFault>
     ensures { PutsTo T.Sink sink.old sink.new
         (listing_text read.now.root read.now.items.items) result }
 {

@@ -9,7 +9,7 @@ use crate::kept::KeptFiles;
 use crate::output::{BufferedOutput, Output};
 use crate::source::FileSource;
 use flashbase::{DeviceFault, LoadFault, Source};
-use jbuild::Parts;
+use jbuild::HostFiles;
 use jreport::Reason;
 use std::alloc::{AllocError, Global};
 use std::cell::Cell;
@@ -37,7 +37,7 @@ pub trait Loader {
     ghost failures: { Self → ℕ };
 
     /// The files that it has read already, which it gives once.
-    fn read_before(&mut self) -> Parts
+    fn read_before(&mut self) -> HostFiles
         ensures bytes { AreAllLoaded (told self.old) result }
         ensures count { failures self.new ≡ failures self.old }
         ensures stays { (other : List ℕ) → told self.new other ≡ told self.old other };
@@ -209,10 +209,10 @@ impl<'r, R: Files + AllocGlobal> Loader for FileLoader<'r, R> {
 
     ghost failures = { λ s. s.failures };
 
-    fn read_before(&mut self) -> Parts {
+    fn read_before(&mut self) -> HostFiles {
         match self.kept.replace(None) {
             Some(files) => files.into_parts(),
-            None => Parts::new(self.rt.alloc()),
+            None => HostFiles::new(self.rt.alloc()),
         }
     }
 

@@ -2,17 +2,17 @@
 
 ghost use Rattle.std.specs.Prelude.{◌≡◌, ◌≤◌, ℕ, List, Some, length};
 ghost use Rattle.jscan.specs.Image.{greatest_image};
-ghost use Rattle.jbuild.specs.Parts.{read_of};
+ghost use Rattle.jbuild.specs.HostFiles.{read_of};
 
 use flashbase::{LoadFault, Source};
-use jbuild::Parts;
+use jbuild::HostFiles;
 use jscan::GREATEST_IMAGE;
 use std::alloc::Global;
 
 /// Files that were read, none of them longer than the greatest image.
 #[derive(Drop)]
 pub struct KeptFiles {
-    parts: Parts,
+    parts: HostFiles,
     ghost within: { (name : List ℕ) → (bytes : List ℕ) → read_of parts name ≡ Some bytes
         → length bytes ≤ greatest_image },
 }
@@ -21,14 +21,14 @@ impl KeptFiles {
     ghost use Rattle.std.specs.Prelude.{◌≡◌, ◌≤◌, ℕ, List, Some, None, length, string_bytes};
     ghost use Rattle.flashbase.specs.Device.{CountsLoad};
     ghost use Rattle.jscan.specs.Image.{greatest_image};
-    ghost use Rattle.jbuild.specs.Parts.{ReadsPart, read_of};
+    ghost use Rattle.jbuild.specs.HostFiles.{ReadsPart, read_of};
 
     /// None yet.
     pub fn new(alloc: Global) -> KeptFiles
         ensures { (name : List ℕ) → read_of result.parts name ≡ None }
     {
         KeptFiles {
-            parts: Parts::new(alloc),
+            parts: HostFiles::new(alloc),
         }
     }
 
@@ -50,7 +50,7 @@ impl KeptFiles {
     }
 
     /// All of them.
-    pub fn into_parts(self) -> Parts
+    pub fn into_parts(self) -> HostFiles
         ensures all { result ≡ self.parts }
         ensures within { (name : List ℕ) → (bytes : List ℕ) → read_of result name ≡ Some bytes
             → length bytes ≤ greatest_image }

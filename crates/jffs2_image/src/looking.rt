@@ -14,7 +14,7 @@ use flashbase::{LoadFault, Sink};
 use jcommand::Options;
 use jnode::Order;
 use jreport::{
-    ProgramFault, Reason, Unopened, check_lines, file_bytes, image_file, image_tree, list_lines,
+    ProgramFault, Reason, Unopened, put_check, file_bytes, image_file, image_tree, put_list,
     path_word, stream_lines,
 };
 use std::alloc::Global;
@@ -100,7 +100,7 @@ pub(crate) fn check<'a, E: Order, L: Loader, T: Sink>(
         (L.failures loader.new) result }
 {
     let mut source = open(loader, image)?;
-    let answer = check_lines::<E, _, _>(alloc, &mut source, options.geometry, shape, sink);
+    let answer = put_check::<E, _, _>(alloc, &mut source, options.geometry, shape, sink);
     loader.close(source);
     named(found_number(answer), image, loader.reason())
 }
@@ -146,7 +146,7 @@ fn list_whole<'a, E: Order, L: Loader, T: Sink>(
         return list_decompressed::<E, L, T>(alloc, loader, options, image, sink);
     }
     let mut source = open(loader, image)?;
-    let answer = list_lines::<E, _, _>(alloc, &mut source, options.geometry, None, sink);
+    let answer = put_list::<E, _, _>(alloc, &mut source, options.geometry, None, sink);
     loader.close(source);
     named(answer, image, loader.reason())
 }
@@ -200,7 +200,7 @@ fn list_part<'a, E: Order, L: Loader, T: Sink>(
     let path = path_word(alloc, path.as_bytes())?;
     let mut source = open(loader, image)?;
     let part = Some(path.as_slice());
-    let answer = list_lines::<E, _, _>(alloc, &mut source, options.geometry, part, sink);
+    let answer = put_list::<E, _, _>(alloc, &mut source, options.geometry, part, sink);
     loader.close(source);
     named(answer, image, loader.reason())
 }

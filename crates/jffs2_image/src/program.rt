@@ -25,7 +25,7 @@ use byteorder::{BigEndian, LittleEndian};
 use flashbase::{Sink, put_all};
 use jcommand::{Options, Outcome, Request, RequestFault, Target, asked};
 use jnode::{Endian, Order};
-use jreport::{ProgramFault, fault_lines, note_line};
+use jreport::{ProgramFault, put_fault_and_note, put_note};
 use std::alloc::Global;
 
 /// What a run comes to that went well.
@@ -378,7 +378,7 @@ pub fn report_fault<E: Sink>(fault: &ProgramFault<'_>, errors: &mut E) -> Outcom
     ensures reported { IsSaid (E.taken errors.old) (E.taken errors.new) (E.failures errors.old)
         (E.failures errors.new) (fault_lines_of fault.now) }
 {
-    let _ = fault_lines(fault, errors);
+    let _ = put_fault_and_note(fault, errors);
     Outcome::Fault
 }
 
@@ -399,7 +399,7 @@ pub fn note<E: Sink>(findings: u64, errors: &mut E) -> Outcome
         (E.failures errors.old) (E.failures errors.new) (note_after findings) }
 {
     if findings > 0 {
-        let _ = note_line(findings, errors);
+        let _ = put_note(findings, errors);
     }
     Outcome::Done
 }

@@ -5,7 +5,7 @@ ghost use Rattle.jscan.specs.Image.{greatest_image};
 ghost use Rattle.jlisting.specs.Listing.{lines_of};
 ghost use Rattle.jffs2_image.specs.Host.{AreOf, AreRead, Blames, BlamesMaker, CountsFile, IsHandedBack, IsMadeUntil, IsMakeFault, IsReadFault, Leaves, MakesFile, ReadsFile, ReadsFilePart, RunsFiles};
 ghost use Rattle.jbuild.specs.Operations.{ops_in};
-ghost use Rattle.jbuild.specs.Parts.{part_contents};
+ghost use Rattle.jbuild.specs.HostFiles.{part_contents};
 ghost use Rattle.jffs2_image.specs.WeakRuns.{AreNotes, AreNotesOn};
 ghost use Rattle.jffs2_image.specs.Writes.{GivesCut, HoldsCut, IsCause, IsMade, IsNotGoneOn, IsNotMade, IsNotedIn, IsPartUnread, IsPut, IsTooLong, IsUnreadFile, WritesImage, form_of, resumed, form_flash, flash_plan};
 ghost use Rattle.jbuild.specs.Blocks.{TellsRefusedOn};
@@ -17,7 +17,7 @@ use crate::host::{FileFault, Loader, MakeFault, Maker};
 use crate::output::Output;
 use crate::weak::Notes;
 use flashbase::{LoadFault, Sink};
-use jbuild::{Emitted, Parts, emit, operations, put_accepted};
+use jbuild::{Emitted, HostFiles, emit, operations, put_accepted};
 use jcommand::Target;
 use jcuts::Flash;
 use jlisting::{Line, listing};
@@ -77,7 +77,7 @@ pub fn load_file<'a, L: Loader>(loader: &mut L, name: &'a str) -> Result<Vec<u8>
 fn read_part<L: Loader>(
     alloc: Global,
     loader: &mut L,
-    parts: &mut Parts,
+    parts: &mut HostFiles,
     name: &str,
 ) -> Result<(), FileFault>
     ensures part { OnOk result
@@ -109,7 +109,7 @@ pub fn load_parts<'a, L: Loader>(
     loader: &mut L,
     lines: &[Line<'_>],
     unread: &'a mut String,
-) -> Result<Parts, ProgramFault<'a>>
+) -> Result<HostFiles, ProgramFault<'a>>
     ensures unread { IfErr result (λ fault. IsPartUnread (L.told loader.old) lines.now fault) }
     ensures parts { IfOk result (λ parts. AreRead (L.told loader.old) lines.now parts) }
     ensures read { OnOk result (L.failures loader.new ≡ L.failures loader.old) }
@@ -368,7 +368,7 @@ fn write_lines<'a, 'p, 'b: 'p, E: Order, M: Maker, T: Sink>(
     target: Target<'a>,
     base: &[u8],
     lines: Vec<Line<'b>>,
-    parts: &'p Parts,
+    parts: &'p HostFiles,
     notes: &mut Notes,
     sink: &mut T,
 ) -> Result<u64, ProgramFault<'a>>

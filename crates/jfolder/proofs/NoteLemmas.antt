@@ -11,7 +11,7 @@ use Rattle.jfolder.specs.Notes.{Tells, TellsMore, left_out_line, left_out_text}
 use Rattle.jfolder.specs.declared.fault.ReadFault.{ReadFault}
 use Rattle.jfolder.specs.declared.fault.ReadFault.TheVariants as fault
 use Rattle.jfolder.specs.declared.found.Options.{Options}
-use Rattle.jfolder.specs.declared.reading.Folder.{Folder}
+use Rattle.jfolder.specs.declared.reading.FolderTree.{FolderTree}
 
 -- all of what is told up to here went out
 abbrev pub Told : (List LeftOut → Type 0) → Option (List ℕ) → Option (List ℕ) → ℕ → ℕ → ℕ → ℕ → Type 0
@@ -94,7 +94,7 @@ read_failed_at X G known options a b x y k m fault.Notes p = (inl p.0, p.1)
 read_failed_at X G known options a b x y k m (fault.Folder why) p = absurd p
 read_failed_at X G known options a b x y k m fault.OutOfMemory p = p
 
-pub read_failed : (X : Type 0) (G : X → List LeftOut → Type 0) (known : Known) (options : Options) (a b : Option (List ℕ)) (x y k m : ℕ) (e v : ReadFault) (r : Result Folder ReadFault) → r ≡ Err v → v ≡ e
+pub read_failed : (X : Type 0) (G : X → List LeftOut → Type 0) (known : Known) (options : Options) (a b : Option (List ℕ)) (x y k m : ℕ) (e v : ReadFault) (r : Result FolderTree ReadFault) → r ≡ Err v → v ≡ e
     → TellsMore G (record { old = a; new = b; before = x; now = y }) k m (Err e) → Tells known options (record { old = a; new = b; before = x; now = y }) r
 read_failed X G known options a b x y k m e v r is same p =
-    subst (λ (s : Result Folder ReadFault). Tells known options (record { old = a; new = b; before = x; now = y }) s) (sym (is ∙ ap (λ (f : ReadFault). Err f) same)) (read_failed_at X G known options a b x y k m e p)
+    subst (λ (s : Result FolderTree ReadFault). Tells known options (record { old = a; new = b; before = x; now = y }) s) (sym (is ∙ ap (λ (f : ReadFault). Err f) same)) (read_failed_at X G known options a b x y k m e p)

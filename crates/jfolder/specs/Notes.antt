@@ -11,7 +11,7 @@ use Rattle.jline.specs.Words.{word_of}
 use Rattle.jfolder.specs.declared.fault.ReadFault.{ReadFault}
 use Rattle.jfolder.specs.declared.fault.ReadFault.TheVariants as fault
 use Rattle.jfolder.specs.declared.found.Options.{Options}
-use Rattle.jfolder.specs.declared.reading.Folder.{Folder}
+use Rattle.jfolder.specs.declared.reading.FolderTree.{FolderTree}
 use Rattle.jfolder.specs.declared.reason.Reason.{Reason}
 use Rattle.jfolder.specs.declared.reason.Reason.TheVariants as reason
 
@@ -78,7 +78,7 @@ TellsWhy why notes fault.OutOfMemory = ⊥
 -- A reading tells of the paths that it leaves out, each for a reason that is right, and counts them
 -- modulo 2^64; each path that the host tells of is read, or is one of them. Where the folder itself
 -- is at fault it tells that alone.
-abbrev pub Tells : Known → Options → SinkChange → Result Folder ReadFault → Type 0
+abbrev pub Tells : Known → Options → SinkChange → Result FolderTree ReadFault → Type 0
 Tells known options notes (Ok read) = (lefts : List LeftOut)
     × Appends notes.old notes.new (left_out_text lefts) × (notes.now ≡ notes.before)
     × (read.left_out ≡ length lefts % 2 ^ 64)

@@ -32,7 +32,7 @@ mod words;
 pub use crate::fault::{FolderFault, ReadFault};
 pub use crate::found::{Options, Owner};
 pub use crate::host::{HostFolder, Looked, Names};
-pub use crate::reading::{Folder, read_folder};
+pub use crate::reading::{FolderTree, read_folder};
 pub use crate::reason::Reason;
 pub use crate::text::put_listing;
 pub use crate::tree::{Attributes, Item, What};

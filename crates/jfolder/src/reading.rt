@@ -35,7 +35,7 @@ const MAX_NAME: usize = 254;
 /// A folder that was read: its own attributes, what lies in it, and how many lines tell what was
 /// left out, modulo 2^64.
 #[derive(Drop)]
-pub struct Folder {
+pub struct FolderTree {
     pub root: Attributes,
     pub items: Vec<Item>,
     pub left_out: u64,
@@ -519,7 +519,7 @@ pub fn read_folder<F: HostFolder, N: Sink>(
     folder: &mut F,
     options: &Options,
     notes: &mut N,
-) -> Result<Folder, ReadFault>
+) -> Result<FolderTree, ReadFault>
     ensures fits { IfOk result (λ read. FitsListing read.root read.items.items) }
     ensures tree { IfOk result (λ read. IsTree read.items.items) }
     ensures rises { IfOk result (λ read. Rise read.items.items) }
@@ -545,7 +545,7 @@ pub fn read_folder<F: HostFolder, N: Sink>(
     walk.put_off(paths)?;
     for _ in 0..u64::MAX {
         let Some(path) = walk.pending.pop() else {
-            return Ok(Folder {
+            return Ok(FolderTree {
                 root,
                 items: walk.items,
                 left_out: walk.left_out,

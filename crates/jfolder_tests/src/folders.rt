@@ -1,7 +1,7 @@
 //! Folders, and the texts that are known of them.
 
 use crate::memory::{Memory, Object, make_object};
-use jfolder::{Folder, Options, Owner, ReadFault, put_listing, read_folder};
+use jfolder::{FolderTree, Options, Owner, ReadFault, put_listing, read_folder};
 use jlisting::listing;
 use std::alloc::Global;
 use test_support::Taker;
@@ -79,7 +79,7 @@ pub fn is_read(
 }
 
 /// Whether a folder has this listing, which can be read.
-pub fn is_text_of(alloc: Global, folder: &Folder, text: &[u8]) -> bool {
+pub fn is_text_of(alloc: Global, folder: &FolderTree, text: &[u8]) -> bool {
     let mut sink = Taker::new(alloc);
     let put = put_listing(&folder.root, folder.items.as_slice(), &mut sink);
     put.is_ok() && sink.took(0, text) && listing(alloc, text).is_ok()

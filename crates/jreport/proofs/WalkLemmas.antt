@@ -15,7 +15,7 @@ use Rattle.jmount.specs.Shown.{shown}
 use Rattle.jmount.specs.Find.{way_up}
 use Rattle.jreport.specs.TreeText.{Item, Met, items_of, line_if, line_of, none_met, met_after, todo_after, IsTextFrom, PutsPartFrom, PutsFrom}
 use Rattle.jreport.specs.Walking.{IsTextOf, PutsPartOf, PutsVisit, PutsStep, GoesUp, met_of, items_up, way_of, todo_of, unmet, steps_left}
-use Rattle.jreport.specs.declared.listing.Walk.{Walk}
+use Rattle.jreport.specs.declared.tree_walk.Walk.{Walk}
 use Rattle.jreport.specs.declared.faults.ProgramFault.{ProgramFault}
 use Rattle.jreport.specs.declared.faults.ProgramFault.TheVariants as program
 use Rattle.jreport.specs.declared.faults.ProgramFault.TheVariants.{Output, OutOfMemory}

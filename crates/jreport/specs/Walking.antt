@@ -10,7 +10,7 @@ use Rattle.flashbase.specs.Sinks.{SinkChange}
 use Rattle.jmount.specs.Tree.{State}
 use Rattle.jmount.specs.Find.{way_up}
 use Rattle.jreport.specs.TreeText.{Item, Met, items_of, line_of, met_after, is_entered, AreLinesOf}
-use Rattle.jreport.specs.declared.listing.Walk.{Walk}
+use Rattle.jreport.specs.declared.tree_walk.Walk.{Walk}
 use Rattle.jreport.specs.declared.faults.ProgramFault.{ProgramFault}
 use Rattle.jreport.specs.declared.faults.ProgramFault.TheVariants.{Output, OutOfMemory}
 

@@ -8,7 +8,7 @@ ghost use Rattle.jreport.specs.Causes.{cause_note, limit_note};
 ghost use Rattle.jreport.specs.Reasons.{file_note, host_text, unread_note};
 
 use crate::cause::{Cause, Limit};
-use crate::faults::{ProgramFault, fault_line};
+use crate::faults::{ProgramFault, put_fault};
 use crate::reason::Reason;
 use flashbase::{DeviceFault, Sink};
 use jline::{LineBuffer, put_in_line, put_text};
@@ -271,9 +271,9 @@ fn put_advice<T: Sink>(fault: &ProgramFault<'_>, sink: &mut T) -> Result<(), Dev
 }
 
 /// Puts the line of a fault as it is on standard error, and the note after it, where there is one.
-pub fn fault_lines<T: Sink>(fault: &ProgramFault<'_>, sink: &mut T) -> Result<(), DeviceFault>
+pub fn put_fault_and_note<T: Sink>(fault: &ProgramFault<'_>, sink: &mut T) -> Result<(), DeviceFault>
     ensures { PutsTo T.Sink sink.old sink.new (fault_lines_of fault.now) result }
 {
-    fault_line(fault, sink)?;
+    put_fault(fault, sink)?;
     put_advice(fault, sink)
 }

@@ -5,7 +5,7 @@ ghost use Rattle.flashbase.specs.Sinks.{PutsTo};
 ghost use Rattle.jreport.specs.ExtractionNotes.{attribute_count, attributes_line_of, extraction_notes_of, is_attribute_node, line_of_count, lost_bits_line_of};
 ghost use Rattle.jreport.specs.Notes.{note_line_of};
 
-use crate::notes::note_line;
+use crate::notes::put_note;
 use flashbase::{DeviceFault, Sink};
 use jline::{LineBuffer, put_text};
 use jmount::Mounted;
@@ -59,7 +59,7 @@ fn put_findings<T: Sink>(findings: u64, sink: &mut T) -> Result<(), DeviceFault>
     if findings == 0 {
         return Ok(());
     }
-    note_line(findings, sink)
+    put_note(findings, sink)
 }
 
 fn put_lost_bits<T: Sink>(objects: u64, sink: &mut T) -> Result<(), DeviceFault>

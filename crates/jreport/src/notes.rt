@@ -58,7 +58,7 @@ fn write_note(line: &mut LineBuffer, findings: u64)
 }
 
 /// Puts the note that there are so many such findings, as it is on standard error.
-pub fn note_line<T: Sink>(findings: u64, sink: &mut T) -> Result<(), DeviceFault>
+pub fn put_note<T: Sink>(findings: u64, sink: &mut T) -> Result<(), DeviceFault>
     ensures { PutsTo T.Sink sink.old sink.new (note_line_of findings) result }
 {
     let mut line = LineBuffer::new();

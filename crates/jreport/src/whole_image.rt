@@ -7,7 +7,7 @@ ghost use Rattle.jreport.specs.WholeImage.{IsFaultOfLoad, OfSomeImage, PutsCheck
 
 use crate::faults::ProgramFault;
 use crate::files::content;
-use crate::listing::lines_at;
+use crate::tree_walk::lines_at;
 use crate::notes::noted;
 use crate::refusal::mount_or_tell;
 use crate::report::report_and_scan;
@@ -26,7 +26,7 @@ fn is_any(findings: u64, bad: bool) -> bool
 
 /// Reads an image and puts its report, and then the verdict on its mount, with the shape of its
 /// tree where `shape` asks for it. Answers whether anything was found.
-pub fn check_lines<E: Order, S: Source, T: Sink>(
+pub fn put_check<E: Order, S: Source, T: Sink>(
     alloc: Global,
     source: &mut S,
     geometry: Geometry,
@@ -77,7 +77,7 @@ pub fn image_file<E: Order, T: Sink>(
 }
 
 /// Puts a line for each object of an image's tree, or of the part of it that a path names, as
-/// `list_lines`.
+/// `put_list`.
 pub fn image_tree<E: Order, T: Sink>(
     alloc: Global,
     image: &[u8],
@@ -119,7 +119,7 @@ pub fn file_bytes<E: Order, S: Source, T: Sink>(
 
 /// Reads an image, and puts a line for each object of its tree, or of the part of it that a path
 /// names. Answers how many findings of damage, dirt or the other byte order the image has.
-pub fn list_lines<E: Order, S: Source, T: Sink>(
+pub fn put_list<E: Order, S: Source, T: Sink>(
     alloc: Global,
     source: &mut S,
     geometry: Geometry,

@@ -6,7 +6,7 @@ use jlisting::{BadLine, ListingFault, Rule, WordRule};
 use jlog::SessionFault;
 use jmount::{FindFault, MountFault};
 use jreport::{
-    Cause, Limit, Plan, ProgramFault, Reason, Refused, Unopened, cause_of, fault_line, fault_lines,
+    Cause, Limit, Plan, ProgramFault, Reason, Refused, Unopened, cause_of, put_fault, put_fault_and_note,
     fault_text, first_limit,
 };
 use jscan::{Geometry, Page, ScanFault};
@@ -142,7 +142,7 @@ fn op_faults() -> &'static [(OpFault, &'static str)] {
 fn texts_of(alloc: Global, fault: &ProgramFault<'_>) -> Option<(Vec<u8>, Vec<u8>)> {
     let mut text = FromWriter::new(Vec::new(alloc));
     let mut line = FromWriter::new(Vec::new(alloc));
-    if fault_text(fault, &mut text).is_err() || fault_line(fault, &mut line).is_err() {
+    if fault_text(fault, &mut text).is_err() || put_fault(fault, &mut line).is_err() {
         return None;
     }
     Some((text.into_writer(), line.into_writer()))
@@ -269,7 +269,7 @@ fn texts_of_a_listing(rt: HostRuntime) {
 fn note_after(alloc: Global, fault: &ProgramFault<'_>) -> Option<Vec<u8>> {
     let (_, line) = texts_of(alloc, fault)?;
     let mut lines = FromWriter::new(Vec::new(alloc));
-    if fault_lines(fault, &mut lines).is_err() {
+    if put_fault_and_note(fault, &mut lines).is_err() {
         return None;
     }
     let mut lines = lines.into_writer();

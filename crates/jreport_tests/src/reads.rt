@@ -11,8 +11,8 @@ use flashbase::{FromReader, FromWriter, Sink, Source};
 use jline::put_escaped;
 use jmount::{FindFault, MountFault, mount};
 use jreport::{
-    Found, ProgramFault, check_lines, content, file_bytes, found_in, image_file, image_tree,
-    list_lines, note_line,
+    Found, ProgramFault, put_check, content, file_bytes, found_in, image_file, image_tree,
+    put_list, put_note,
 };
 use jscan::{GREATEST_IMAGE, Geometry};
 use std::alloc::Global;
@@ -108,15 +108,15 @@ pub(crate) fn ask<S: Source, T: Sink>(
 ) -> Result<u64, ProgramFault<'static>> {
     match call {
         Call::Check => {
-            let found = check_lines::<LittleEndian, S, T>(alloc, source, geometry, false, sink)?;
+            let found = put_check::<LittleEndian, S, T>(alloc, source, geometry, false, sink)?;
             Ok(u64::from(found))
         }
         Call::Content(path) => {
             file_bytes::<LittleEndian, S, T>(alloc, source, geometry, path, sink)
         }
-        Call::Listing => list_lines::<LittleEndian, S, T>(alloc, source, geometry, None, sink),
+        Call::Listing => put_list::<LittleEndian, S, T>(alloc, source, geometry, None, sink),
         Call::Part(path) => {
-            list_lines::<LittleEndian, S, T>(alloc, source, geometry, Some(path), sink)
+            put_list::<LittleEndian, S, T>(alloc, source, geometry, Some(path), sink)
         }
     }
 }
@@ -348,7 +348,7 @@ fn counted() -> &'static [(u64, &'static [u8])] {
 fn notes(rt: HostRuntime) {
     for &(findings, wanted) in counted() {
         let mut sink = FromWriter::new(Vec::new(rt.alloc()));
-        equal(&rt, note_line(findings, &mut sink), Ok(()));
+        equal(&rt, put_note(findings, &mut sink), Ok(()));
         equal(&rt, sink.into_writer().as_slice(), wanted);
     }
 }

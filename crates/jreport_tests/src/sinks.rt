@@ -8,7 +8,7 @@ use flashbase::{FromReader, PutFault};
 use jline::{put_escaped, put_in_line, put_text, put_word};
 use jmount::{FindFault, MountFault, mount};
 use jreport::{
-    ProgramFault, content, fault_line, fault_lines, fault_text, note_line, part_lines,
+    ProgramFault, content, put_fault, put_fault_and_note, fault_text, put_note, put_subtree,
     put_compressed, put_decompressed, put_object, put_report, stream_lines, tree_lines,
     verdict_lines,
 };
@@ -84,7 +84,7 @@ fn put_mounted(
             None => Err(FAULT),
         },
         Text::Content => content(&mounted, b"/d/f", sink),
-        Text::Part => part_lines(alloc, &mounted, b"/d", sink),
+        Text::Part => put_subtree(alloc, &mounted, b"/d", sink),
         _ => tree_lines(alloc, &mounted, sink),
     }
 }
@@ -118,13 +118,13 @@ fn put(
         Text::Tree | Text::Part | Text::Object | Text::Content => {
             put_mounted(alloc, text, image, sink)?;
         }
-        Text::Note => note_line(17, sink)?,
+        Text::Note => put_note(17, sink)?,
         Text::Fault => {
             let answer = fault_text(&FAULT, sink);
             put_of(answer, sink.bytes.len())?;
         }
-        Text::FaultLine => fault_line(&FAULT, sink)?,
-        Text::FaultLines => fault_lines(&NOTED_FAULT, sink)?,
+        Text::FaultLine => put_fault(&FAULT, sink)?,
+        Text::FaultLines => put_fault_and_note(&NOTED_FAULT, sink)?,
         Text::Decompressed => put_decompressed(7, 29, 30168, sink)?,
         Text::Compressed => put_compressed(5, 31, 20416, sink)?,
         Text::Plain => put_text(sink, BYTES)?,

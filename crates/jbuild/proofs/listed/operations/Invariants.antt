@@ -1,6 +1,6 @@
 use Rattle.std.proofs.Common.{◌≡◌, ◌++◌}
 use Rattle.std.specs.Vec.Iter.{into_iter_items}
-use Rattle.jbuild.specs.Parts.{part_contents}
+use Rattle.jbuild.specs.HostFiles.{part_contents}
 use Rattle.jbuild.specs.Operations.{ops_in}
 use Rattle.jbuild.proofs.listed.operations.Given as goal
 

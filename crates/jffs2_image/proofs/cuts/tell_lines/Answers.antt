@@ -4,7 +4,7 @@ use Rattle.std.proofs.lemmas.List.{length-map}
 use Rattle.jmount.specs.Mounts.{Answers}
 use Rattle.jlisting.specs.declared.line.Line.{Line}
 use Rattle.jbuild.specs.Operations.{op_in, ops_in}
-use Rattle.jbuild.specs.Parts.{part_contents}
+use Rattle.jbuild.specs.HostFiles.{part_contents}
 use Rattle.jreport.specs.declared.faults.ProgramFault.TheVariants as program
 use Rattle.jffs2_image.proofs.CutRunLemmas.{answer_blames, base_blames, base_due, have_bytes, told_fault, told_lines}
 use Rattle.jffs2_image.proofs.cuts.tell_lines.Goals as goal

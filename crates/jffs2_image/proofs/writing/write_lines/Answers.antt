@@ -7,7 +7,7 @@ use Rattle.jbuild.specs.Accepted.{accepted_line}
 use Rattle.jmount.specs.Mounts.{Answers}
 use Rattle.jlog.specs.Headline.{resume_address}
 use Rattle.jlog.specs.Resuming.{resumes_by}
-use Rattle.jbuild.specs.Parts.{part_contents}
+use Rattle.jbuild.specs.HostFiles.{part_contents}
 use Rattle.jbuild.specs.Operations.{ops_in}
 use Rattle.jsteps.specs.declared.op.Op.{Op}
 use Rattle.jreport.specs.declared.faults.ProgramFault.TheVariants as program
