@@ -12,6 +12,7 @@
 
 mod accepted;
 mod emitting;
+mod host_files;
 pub mod laws;
 mod listed;
 mod host_files;
@@ -20,5 +21,6 @@ mod span;
 
 pub use crate::accepted::put_accepted;
 pub use crate::emitting::{Emitted, emit};
+pub use crate::host_files::HostFiles;
 pub use crate::listed::operations;
 pub use crate::host_files::HostFiles;

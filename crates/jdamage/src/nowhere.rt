@@ -6,12 +6,10 @@ ghost use Rattle.std.specs.Ordering.{nat_cmp};
 ghost use Rattle.jmount.specs.Tree as tree;
 ghost use Rattle.jdamage.specs.Ways.{AreFirsts, LeadNowhere};
 
-use crate::firsts::{Firsts, first_name, is_directory};
+use crate::firsts::{Firsts, ROOT, first_name, is_directory};
 use jmount::Mounted;
 use std::alloc::{AllocError, Global};
 use std::collections::BTreeSet;
-
-const ROOT: u32 = 1;
 
 /// Adds numbers to others.
 fn add_all(numbers: &mut BTreeSet<u32>, more: BTreeSet<u32>) -> Result<(), AllocError>

@@ -39,6 +39,7 @@ mod session_fault;
 mod stream;
 mod tree;
 pub mod tree_laws;
+mod tree_walk;
 mod verdict;
 mod whole_image;
 
@@ -58,5 +59,6 @@ pub use crate::report::{Lines, put_report, scan_lines};
 pub use crate::report_fault::ReportFault;
 pub use crate::stream::stream_lines;
 pub use crate::tree::{push_number, put_object, put_tail, write_mode};
+pub use crate::tree_walk::{put_subtree, tree_lines};
 pub use crate::verdict::verdict_lines;
 pub use crate::whole_image::{put_check, file_bytes, image_file, image_tree, put_list};

@@ -11,6 +11,7 @@ use crate::tree_walk::lines_at;
 use crate::notes::noted;
 use crate::refusal::mount_or_tell;
 use crate::report::report_and_scan;
+use crate::tree_walk::lines_at;
 use crate::verdict::scanned_verdict;
 use flashbase::{Sink, Source, load};
 use jnode::Order;
