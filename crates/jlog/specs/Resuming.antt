@@ -1,5 +1,7 @@
 -- Where writing goes on in a mounted image.
 use Rattle.std.specs.Prelude.{ℕ, ◌+◌, ◌&&◌, Bool, nat_le, if◌then◌else◌, Result, Ok, Err}
+use Rattle.jnode.specs.Header.{header_len}
+use Rattle.jnode.specs.Reading.{inode_len}
 use Rattle.jnode.specs.declared.order.Endian.{Endian}
 use Rattle.jmount.specs.Mount.{Mount}
 use Rattle.jscan.specs.Pages.{page_size}
@@ -18,7 +20,7 @@ resumes_at e size blocks mount =
 
 -- A block holds its marker, and a node of a page's bytes.
 abbrev pub page_fits : ℕ → Page → Bool
-page_fits size page = nat_le (page_size page + 80) size
+page_fits size page = nat_le (page_size page + (header_len + inode_len)) size
 
 -- Nor is an image resumed by a page that its blocks do not hold.
 abbrev pub resumes_by : Page → Endian → ℕ → ℕ → Mount → Result ℕ SessionFault

@@ -3,6 +3,7 @@ use Rattle.std.specs.Prelude.{◌≡◌, ℕ, ◌+◌, ◌≤◌, Bool, IsTrue, 
 use Rattle.byteorder.specs.declared.ByteOrder.{Ghosts as OfByteOrder}
 use Rattle.flashbase.specs.Sinks.{change_of}
 use Rattle.flashbase.specs.declared.sink.Sink.{Ghosts as OfSink}
+use Rattle.jnode.specs.Reading.{inode_len}
 use Rattle.jnode.specs.declared.order.Order.{Ghosts as OfOrder}
 use Rattle.jmount.specs.Shape.{HasShape}
 use Rattle.jsteps.specs.Steps.{sizes, after}
@@ -54,7 +55,7 @@ module _ {E : Type 0} {S : Type 0} {order : OfOrder E} {numbers : OfByteOrder E}
 
   -- its buffer holds the longest node: the fields of an inode node, and the bytes of a page
   abbrev pub HoldsLongestNode : Session E S order numbers sink → Type 0
-  HoldsLongestNode session = page_size (page_of session) + 68 ≤ vec_capacity session.buffer
+  HoldsLongestNode session = page_size (page_of session) + inode_len ≤ vec_capacity session.buffer
 
   -- it goes on from its base, as resuming gives it
   abbrev pub IsResumed : Session E S order numbers sink → Type 0
