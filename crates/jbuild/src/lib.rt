@@ -15,7 +15,6 @@ mod emitting;
 mod host_files;
 pub mod laws;
 mod listed;
-mod host_files;
 mod reading;
 mod span;
 
@@ -23,4 +22,3 @@ pub use crate::accepted::put_accepted;
 pub use crate::emitting::{Emitted, emit};
 pub use crate::host_files::HostFiles;
 pub use crate::listed::operations;
-pub use crate::host_files::HostFiles;

@@ -1,6 +1,6 @@
 //! Listings on bases that hold something. More of them are in tests/program.sh.
 
-use crate::checks::{equal, expect_at};
+use crate::checks::{equal, expect, expect_at};
 use crate::runs::{GEOMETRY, Row, holds, read_files};
 use byteorder::LittleEndian;
 use jbuild::{emit, operations};

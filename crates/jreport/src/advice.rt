@@ -271,7 +271,10 @@ fn put_advice<T: Sink>(fault: &ProgramFault<'_>, sink: &mut T) -> Result<(), Dev
 }
 
 /// Puts the line of a fault as it is on standard error, and the note after it, where there is one.
-pub fn put_fault_and_note<T: Sink>(fault: &ProgramFault<'_>, sink: &mut T) -> Result<(), DeviceFault>
+pub fn put_fault_and_note<T: Sink>(
+    fault: &ProgramFault<'_>,
+    sink: &mut T,
+) -> Result<(), DeviceFault>
     ensures { PutsTo T.Sink sink.old sink.new (fault_lines_of fault.now) result }
 {
     put_fault(fault, sink)?;

@@ -7,7 +7,6 @@ ghost use Rattle.jreport.specs.WholeImage.{IsFaultOfLoad, OfSomeImage, PutsCheck
 
 use crate::faults::ProgramFault;
 use crate::files::content;
-use crate::tree_walk::lines_at;
 use crate::notes::noted;
 use crate::refusal::mount_or_tell;
 use crate::report::report_and_scan;

@@ -118,21 +118,13 @@ fn streams_that_fail_once(rt: HostRuntime) {
     }
 }
 
-/// How many bytes the sink takes, and how many the source gave.
-fn reads() -> &'static [(usize, usize)] {
-    &[
-        (0, 4096),
-        (FIRST_BLOCK.len() - 1, 4096),
-        (FIRST_BLOCK.len(), 8192),
-    ]
-}
-
 /// Where the sink fails, the source was read through the block whose lines it did not take, and no
 /// further.
 #[test]
 fn a_source_is_read_as_far_as_its_lines_go(rt: HostRuntime) -> Result<(), Fail> {
     let image = raw_image(rt.alloc(), TWO_BLOCKS)?;
-    for &(limit, read) in reads() {
+    let lines = FIRST_BLOCK.len();
+    for (limit, read) in [(0, 4096), (lines - 1, 4096), (lines, 8192)] {
         let mut sink = Taker::limited(rt.alloc(), 1, limit);
         let source = Giver::limited(&image, 1000, usize::MAX);
         let (answer, left) = stream_lines::<LittleEndian, _, _>(

@@ -6,8 +6,8 @@ use jlisting::{BadLine, ListingFault, Rule, WordRule};
 use jlog::SessionFault;
 use jmount::{FindFault, MountFault};
 use jreport::{
-    Cause, Limit, Plan, ProgramFault, Reason, Refused, Unopened, cause_of, put_fault, put_fault_and_note,
-    fault_text, first_limit,
+    Cause, Limit, Plan, ProgramFault, Reason, Refused, Unopened, cause_of, fault_text, first_limit,
+    put_fault, put_fault_and_note,
 };
 use jscan::{Geometry, Page, ScanFault};
 use jsteps::OpFault;

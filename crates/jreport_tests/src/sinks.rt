@@ -8,8 +8,8 @@ use flashbase::{FromReader, PutFault};
 use jline::{put_escaped, put_in_line, put_text, put_word};
 use jmount::{FindFault, MountFault, mount};
 use jreport::{
-    ProgramFault, content, put_fault, put_fault_and_note, fault_text, put_note, put_subtree,
-    put_compressed, put_decompressed, put_object, put_report, stream_lines, tree_lines,
+    ProgramFault, content, fault_text, put_compressed, put_decompressed, put_fault,
+    put_fault_and_note, put_note, put_object, put_report, put_subtree, stream_lines, tree_lines,
     verdict_lines,
 };
 use std::alloc::Global;
