@@ -1,5 +1,5 @@
 -- Nodes that stay have room where all have: each begins no later without those that are left out.
-use Rattle.std.proofs.Common.{◌≡◌, ℕ, ◌+◌, ◌*◌, ◌%◌, ◌<◌, ◌≤◌, List, [], ◌∷◌, arith, length, map, sym, subst, None, ⊎_elim}
+use Rattle.std.proofs.Common.{◌≡◌, ℕ, ◌+◌, ◌*◌, ◌%◌, ◌<◌, ◌≤◌, List, [], ◌∷◌, arith, length, map, refl, sym, subst, None, ⊎_elim}
 use Rattle.std.specs.Prelude.{IsTrue}
 use Rattle.std.specs.List.{AllByRecursion}
 use Rattle.std.proofs.lemmas.Bool.{and_from, and_parts, le-leb, leb-true}
@@ -31,7 +31,7 @@ fewer_fit : (e : Endian) (size blocks a b : ℕ) (ns : List (ℕ × NodeRef)) (s
     → AllByRecursion (FitsBlock size) (map (canonical e) (map (λ (n : ℕ × NodeRef). n.1) ns)) → a ≤ b
     → IsTrue (fit size blocks b (map (canonical e) (map (λ (n : ℕ × NodeRef). n.1) ns))) → IsTrue (fit size blocks a (map (canonical e) stay))
 fewer_fit e size blocks a b [] stay left words parts ok up fits =
-    subst (λ (ns : List NodeRef). IsTrue (fit size blocks a (map (canonical e) ns))) (sym parts.0) tt
+    subst (λ (ns : List NodeRef). IsTrue (fit size blocks a (map (canonical e) ns))) (sym parts.0) refl
 fewer_fit e size blocks a b (n ∷ ns) stay left words parts ok up fits =
     let own : ℕ = length (canonical e n.1) in
     let block : FitsBlock size (canonical e n.1) = ok.0 in

@@ -8,7 +8,7 @@ ghost use Rattle.jreport.specs.Causes.{cause_note, limit_note};
 ghost use Rattle.jreport.specs.Reasons.{file_note, host_text, unread_note};
 
 use crate::cause::{Cause, Limit};
-use crate::faults::{ProgramFault, put_fault};
+use crate::faults::{ProgramFault, put_fault_line};
 use crate::reason::Reason;
 use flashbase::{DeviceFault, Sink};
 use jline::{LineBuffer, put_in_line, put_text};
@@ -277,6 +277,6 @@ pub fn put_fault_and_note<T: Sink>(
 ) -> Result<(), DeviceFault>
     ensures { PutsTo T.Sink sink.old sink.new (fault_lines_of fault.now) result }
 {
-    put_fault(fault, sink)?;
+    put_fault_line(fault, sink)?;
     put_advice(fault, sink)
 }

@@ -46,7 +46,7 @@ pub use crate::advice::put_fault_and_note;
 pub use crate::cause::{Cause, Limit, Plan, Refused, cause_of, first_limit};
 pub use crate::converted::{put_compressed, put_decompressed};
 pub use crate::extraction_notes::{attribute_count, put_notes};
-pub use crate::faults::{ProgramFault, fault_text, put_fault};
+pub use crate::faults::{ProgramFault, fault_text, put_fault_line};
 pub use crate::files::content;
 pub use crate::findings::{Found, found_in};
 pub use crate::notes::{noted, put_note};

@@ -8,8 +8,8 @@ use flashbase::{FromReader, PutFault};
 use jline::{put_escaped, put_in_line, put_text, put_word};
 use jmount::{FindFault, MountFault, mount};
 use jreport::{
-    ProgramFault, content, fault_text, put_compressed, put_decompressed, put_fault,
-    put_fault_and_note, put_note, put_object, put_report, put_subtree, stream_lines, tree_lines,
+    ProgramFault, content, fault_text, put_compressed, put_decompressed, put_fault_and_note,
+    put_fault_line, put_note, put_object, put_report, put_subtree, stream_lines, tree_lines,
     verdict_lines,
 };
 use std::alloc::Global;
@@ -123,7 +123,7 @@ fn put(
             let answer = fault_text(&FAULT, sink);
             put_of(answer, sink.bytes.len())?;
         }
-        Text::FaultLine => put_fault(&FAULT, sink)?,
+        Text::FaultLine => put_fault_line(&FAULT, sink)?,
         Text::FaultLines => put_fault_and_note(&NOTED_FAULT, sink)?,
         Text::Decompressed => put_decompressed(7, 29, 30168, sink)?,
         Text::Compressed => put_compressed(5, 31, 20416, sink)?,

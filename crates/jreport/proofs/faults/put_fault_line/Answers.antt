@@ -3,7 +3,7 @@ use Rattle.std.specs.Prelude.{codes}
 use Rattle.flashbase.proofs.DeviceLemmas.{part_before, first_failed, then_puts, then_failed}
 use Rattle.jline.specs.Words.{in_line}
 use Rattle.jreport.specs.Faults.{fault_line_of, fault_text_of}
-use Rattle.jreport.proofs.faults.put_fault.Goals as goal
+use Rattle.jreport.proofs.faults.put_fault_line.Goals as goal
 
 pub returns-in_err-put_text : goal.returns-in_err-put_text
 unfolding fault_line_of
