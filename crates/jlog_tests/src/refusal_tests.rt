@@ -14,29 +14,47 @@ use test_support::{FORBIDS, Taker};
 
 const GEOMETRY: Geometry = Geometry { block: 8192 };
 
+/// Where writing goes on from an image, on a flash of so many blocks of a size.
+fn goes_on(
+    alloc: Global,
+    image: &[u8],
+    block: u32,
+    blocks: u32,
+) -> Result<Result<u32, SessionFault>, Fail> {
+    let geometry = Geometry { block };
+    let mounted = mount::<LittleEndian>(alloc, image, geometry)?;
+    Ok(resume_at::<LittleEndian>(&mounted, geometry, blocks))
+}
+
+/// A flash's block and number of blocks, and where writing begins on it.
+fn empty_flashes() -> &'static [(u32, u32, Result<u32, SessionFault>)] {
+    &[
+        (8192, 1, Ok(0)),
+        (8192, 0, Err(SessionFault::Geometry)),
+        (4096, 1, Err(SessionFault::Geometry)),
+        (8192, 32768, Ok(0)),
+        (8192, 32769, Err(SessionFault::Geometry)),
+        (8192, u32::MAX, Err(SessionFault::Geometry)),
+    ]
+}
+
 #[test]
-fn where_writing_may_go_on(rt: HostRuntime) -> Result<(), Fail> {
-    let alloc = rt.alloc();
-    let long = vec![in alloc; 0xFFu8; 8193]?;
-    let rows: [(&[u8], u32, u32, Result<u32, SessionFault>); 8] = [
-        (&[], 8192, 1, Ok(0)),
-        (&long, 8192, 2, Ok(0)),
-        (&long, 8192, 1, Err(SessionFault::Geometry)),
-        (&[], 8192, 0, Err(SessionFault::Geometry)),
-        (&[], 4096, 1, Err(SessionFault::Geometry)),
-        (&[], 8192, 32768, Ok(0)),
-        (&[], 8192, 32769, Err(SessionFault::Geometry)),
-        (&[], 8192, u32::MAX, Err(SessionFault::Geometry)),
-    ];
-    for (image, block, blocks, want) in rows {
-        let geometry = Geometry { block };
-        let mounted = mount::<LittleEndian>(alloc, image, geometry)?;
-        let found = resume_at::<LittleEndian>(&mounted, geometry, blocks);
+fn where_writing_may_begin(rt: HostRuntime) -> Result<(), Fail> {
+    for &(block, blocks, want) in empty_flashes() {
+        let found = goes_on(rt.alloc(), &[], block, blocks)?;
         equal_at(&rt, found, want, (block, blocks));
     }
+    Ok(())
+}
+
+#[test]
+fn where_writing_may_go_on(rt: HostRuntime) -> Result<(), Fail> {
+    let long = vec![in rt.alloc(); 0xFFu8; 8193]?;
+    equal(&rt, goes_on(rt.alloc(), &long, 8192, 2)?, Ok(0));
+    let too_long = goes_on(rt.alloc(), &long, 8192, 1)?;
+    equal(&rt, too_long, Err(SessionFault::Geometry));
     for blocks in [1, 0] {
-        let mounted = mount::<LittleEndian>(alloc, &FORBIDS, GEOMETRY)?;
-        let found = resume_at::<LittleEndian>(&mounted, GEOMETRY, blocks);
+        let found = goes_on(rt.alloc(), &FORBIDS, 8192, blocks)?;
         equal(&rt, found, Err(SessionFault::ReadOnly));
     }
     Ok(())
@@ -59,9 +77,15 @@ fn told_after(
     Ok(session.blocks_for(alloc, &next))
 }
 
-#[test]
-fn the_blocks_that_hold_an_operation(rt: HostRuntime) -> Result<(), Fail> {
-    let rows: [(&[&str], &str, Result<Option<u32>, SessionFault>); 7] = [
+/// Operations before, the next one, and what is told of its blocks.
+type Row = (
+    &'static [&'static str],
+    &'static str,
+    Result<Option<u32>, SessionFault>,
+);
+
+fn blocks_told() -> &'static [Row] {
+    &[
         (&[], "create /a 644", Ok(Some(1))),
         (&["create /a 644"], "write /a 0 0", Ok(Some(0))),
         (&["create /a 644"], "write /a 0 4000", Ok(Some(1))),
@@ -77,8 +101,12 @@ fn the_blocks_that_hold_an_operation(rt: HostRuntime) -> Result<(), Fail> {
             "write /a 0 0",
             Err(SessionFault::Broken),
         ),
-    ];
-    for (before, line, want) in rows {
+    ]
+}
+
+#[test]
+fn the_blocks_that_hold_an_operation(rt: HostRuntime) -> Result<(), Fail> {
+    for &(before, line, want) in blocks_told() {
         let found = told_after(rt.alloc(), before, line, 124)?;
         equal_at(&rt, found, want, (before.len(), line));
     }

@@ -38,9 +38,9 @@ fn is_reported(report: &RunReport, accepted: usize, nodes: usize) -> bool {
     report.accepted == accepted && places.eq(CUT_PLACES.iter().copied().take(nodes))
 }
 
-#[test]
-fn a_session_breaks_with_its_sink(rt: HostRuntime) -> Result<(), Fail> {
-    for (limit, accepted, nodes) in [
+/// After how many bytes the sink fails, and how many operations are accepted and nodes placed then.
+fn limits() -> &'static [(usize, usize, usize)] {
+    &[
         (0, 0, 0),
         (79, 0, 0),
         (80, 0, 1),
@@ -52,7 +52,12 @@ fn a_session_breaks_with_its_sink(rt: HostRuntime) -> Result<(), Fail> {
         (201, 1, 2),
         (202, 1, 3),
         (203, 1, 3),
-    ] {
+    ]
+}
+
+#[test]
+fn a_session_breaks_with_its_sink(rt: HostRuntime) -> Result<(), Fail> {
+    for &(limit, accepted, nodes) in limits() {
         let (report, sink) = run_onto(rt.alloc(), Taker::limited(rt.alloc(), 7, limit))?;
         equal(&rt, report.stopped, Some(SessionFault::Sink));
         expect_at(&rt, is_reported(&report, accepted, nodes), limit);
@@ -119,9 +124,14 @@ fn stays_broken(alloc: Global, sink: Taker, taken: usize) -> Result<bool, Fail> 
     Ok(is_stopped && sink.bytes.len() == taken && sink.failures == 1)
 }
 
+/// The call at which the sink fails, and how many bytes it took before.
+fn calls_and_bytes() -> &'static [(usize, usize)] {
+    &[(0, 0), (1, 7), (2, 12), (5, 33), (12, 80), (13, 87)]
+}
+
 #[test]
 fn a_broken_session_runs_nothing(rt: HostRuntime) -> Result<(), Fail> {
-    for (calls, taken) in [(0, 0), (1, 7), (2, 12), (5, 33), (12, 80), (13, 87)] {
+    for &(calls, taken) in calls_and_bytes() {
         let sink = Taker::failing(rt.alloc(), 7, calls, calls % 2 == 0);
         expect_at(&rt, stays_broken(rt.alloc(), sink, taken)?, calls);
     }

@@ -142,13 +142,8 @@ fn op_faults() -> &'static [(OpFault, &'static str)] {
 fn texts_of(alloc: Global, fault: &ProgramFault<'_>) -> Option<(Vec<u8>, Vec<u8>)> {
     let mut text = FromWriter::new(Vec::new(alloc));
     let mut line = FromWriter::new(Vec::new(alloc));
-<<<<<<< HEAD
-    if fault_text(fault, &mut text).is_err() || put_fault(fault, &mut line).is_err() {
-        return None;
-=======
     if fault_text(fault, &mut text).is_err() || put_fault_line(fault, &mut line).is_err() {
-        return Err("no text");
->>>>>>> 89eaf3af5074489dd26f8107d7a7420b4fe1b76d
+        return None;
     }
     Some((text.into_writer(), line.into_writer()))
 }
