@@ -27,8 +27,8 @@ fn files_that_were_read(rt: HostRuntime) -> Result<(), Fail> {
 }
 
 /// The listing names one file three times, one that is empty, and one that was not read.
-const TEXT: &[u8] =
-    b"time 7\npart /a 0 f\n# f\npart /b 9 f\npart /a 1 g\npart /a 2 h\nremove /a\nfile 600 /c \\x66\n";
+const TEXT: &[u8] = b"time 7\npart /a 0 f\n# f\npart /b 9 f\npart /a 1 g\npart /a 2 h\nremove /a\n\
+      file 600 /c \\x66\n";
 
 /// Where a write begins, and its bytes.
 type Write = (u32, &'static [u8]);

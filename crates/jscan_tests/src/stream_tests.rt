@@ -147,8 +147,8 @@ fn fails_once(
     Ok(())
 }
 
-/// The call at which the source fails, and how many blocks it gave before: the first is given in two
-/// calls, the second in one, and a fourth tells that there are no more.
+/// The call at which the source fails, and how many blocks it gave before: the first is given in
+/// two calls, the second in one, and a fourth tells that there are no more.
 fn failing_calls() -> &'static [(usize, u64)] {
     &[(0, 0), (1, 0), (2, 1), (3, 1)]
 }
