@@ -6,7 +6,7 @@ use byteorder::LittleEndian;
 use jlog::{Session, SessionFault, resume_at};
 use jmount::mount;
 use jscan::Geometry;
-use jsteps::OpFault;
+use jsteps::{Op, OpFault};
 use std::alloc::Global;
 use std::test::Fail;
 use test_operations::{op_of, ops_of};
@@ -60,21 +60,30 @@ fn where_writing_may_go_on(rt: HostRuntime) -> Result<(), Fail> {
     Ok(())
 }
 
-/// What is told of the blocks of an operation, once others were run on an image without nodes, onto
-/// a sink that takes so many bytes.
+/// What a session tells of the blocks of an operation, once it ran others.
+fn told_by(
+    alloc: Global,
+    mut session: Session<'_, LittleEndian, Taker>,
+    before: &[Op<'_>],
+    next: &Op<'_>,
+) -> Result<Option<u32>, SessionFault> {
+    let _ = session.run(alloc, before);
+    session.blocks_for(alloc, next)
+}
+
+/// The same of lines, on an image without nodes and onto a sink that takes so many bytes.
 fn told_after(
     alloc: Global,
     before: &'static [&'static str],
     line: &'static str,
     limit: usize,
 ) -> Result<Result<Option<u32>, SessionFault>, Fail> {
-    let ops = ops_of(alloc, before, BY)?;
+    let before = ops_of(alloc, before, BY)?;
     let next = op_of(line, BY).ok_or("no operation")?;
     let mounted = mount::<LittleEndian>(alloc, &[], GEOMETRY)?;
     let sink = Taker::limited(alloc, 7, limit);
-    let mut session = Session::<LittleEndian, _>::resume(alloc, &mounted, GEOMETRY, 1, sink)?;
-    let _ = session.run(alloc, &ops);
-    Ok(session.blocks_for(alloc, &next))
+    let session = Session::<LittleEndian, _>::resume(alloc, &mounted, GEOMETRY, 1, sink)?;
+    Ok(told_by(alloc, session, &before, &next))
 }
 
 /// Operations before, the next one, and what is told of its blocks.
