@@ -254,7 +254,7 @@ fn put_ops<E: Order, S: Sink>(
     sink: S,
 ) -> Result<(S, Emitted), (SessionFault, S)>
     requires { flash_of_start start.now
-        ≡ flash_given target.entry.options target.entry.blocks target.entry.page }
+        ≡ flash_given target.options target.blocks target.page }
     ensures emitted { IfOk result (λ done. IsEmitted (form_flash (form_of E.order target.entry))
         (mount_of start.now).image ops.now done.1.report.accepted done.1.report.places.items
         done.1.report.stopped (change_of S.Sink sink done.0)) }
@@ -282,7 +282,7 @@ fn put_image<E: Order, S: Output>(
     output: S,
 ) -> Result<(S, Emitted), (SessionFault, Option<S>)>
     requires { flash_of_start start.now
-        ≡ flash_given target.entry.options target.entry.blocks target.entry.page }
+        ≡ flash_given target.options target.blocks target.page }
     ensures put { IfOk result (λ done. IsPut (form_of E.order target.entry)
         (mount_of start.now) ops.now
         done.1.report.accepted done.1.report.places.items done.1.report.stopped
@@ -326,7 +326,7 @@ fn make_image<'a, E: Order, M: Maker>(
     ops: &[Op<'_>],
 ) -> Result<Emitted, ProgramFault<'a>>
     requires { flash_of_start start.now
-        ≡ flash_given target.entry.options target.entry.blocks target.entry.page }
+        ≡ flash_given target.options target.blocks target.page }
     ensures made { IfOk result (λ done. IsMade (M.held maker.old, M.held maker.new)
         (form_of E.order target.entry) (mount_of start.now) ops.now done.report.accepted
         done.report.places.items done.report.stopped) }
