@@ -155,7 +155,7 @@ fn apart_file<'a, E: Order, L: Loader, M: Maker, T: Sink>(
     asked: Decompression<'a>,
     sink: &mut T,
 ) -> Result<ApartDone, ProgramFault<'a>>
-    requires { asked.entry.options.endian ≡ E.order }
+    requires { asked.options.endian ≡ E.order }
     ensures decompresses { DecompressesApartNamed (M.held maker.old, M.held maker.new)
         asked.entry.options.endian (record {
           options = asked.entry.options;
@@ -243,7 +243,7 @@ pub(crate) fn run_apart<E: Order, L: Loader, M: Maker, T: Output, N: Sink>(
     output: &mut T,
     errors: &mut N,
 ) -> Outcome
-    requires { asked.entry.options.endian ≡ E.order }
+    requires { asked.options.endian ≡ E.order }
     ensures { EndsApart (record {
       options = asked.entry.options;
       image = asked.entry.image.now;

@@ -130,7 +130,7 @@ fn compress_file<'a, E: Order, L: Loader, M: Maker, T: Sink>(
     asked: Compression<'a>,
     sink: &mut T,
 ) -> Result<u64, ProgramFault<'a>>
-    requires { asked.entry.options.endian ≡ E.order }
+    requires { asked.options.endian ≡ E.order }
     ensures compresses { CompressesNamed (M.held maker.old, M.held maker.new)
         asked.entry.options.endian (record {
           options = asked.entry.options;
@@ -170,7 +170,7 @@ pub(crate) fn run_compress<E: Order, L: Loader, M: Maker, T: Output, N: Sink>(
     output: &mut T,
     errors: &mut N,
 ) -> Outcome
-    requires { asked.entry.options.endian ≡ E.order }
+    requires { asked.options.endian ≡ E.order }
     ensures { EndsCompression (record {
       options = asked.entry.options;
       image = asked.entry.image.now;

@@ -211,7 +211,7 @@ pub(crate) fn run_cuts<E: Order, L: Loader, T: Output, N: Sink>(
     output: &mut T,
     errors: &mut N,
 ) -> Outcome
-    requires { asked.entry.options.endian ≡ E.order }
+    requires { asked.options.endian ≡ E.order }
     ensures { EndsCuts (record {
       options = asked.entry.options;
       blocks = asked.entry.blocks;

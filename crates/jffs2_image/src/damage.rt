@@ -49,7 +49,7 @@ fn examine_file<'a, E: Order, L: Loader, T: Output>(
     asked: Examination<'a>,
     output: &mut T,
 ) -> Result<u64, ProgramFault<'a>>
-    requires { asked.entry.options.endian ≡ E.order }
+    requires { asked.options.endian ≡ E.order }
     ensures { TellsDamageOfFile asked.entry.options asked.entry.image.now
         (reads L.told L.failures loader.old loader.new) (output.new ≡ output.old)
         (passage T.taken T.given T.failures output.old output.new) result }
@@ -70,7 +70,7 @@ pub(crate) fn run_damage<E: Order, L: Loader, T: Output, N: Sink>(
     output: &mut T,
     errors: &mut N,
 ) -> Outcome
-    requires { asked.entry.options.endian ≡ E.order }
+    requires { asked.options.endian ≡ E.order }
     ensures { EndsDamage asked.entry.options asked.entry.image.now
         (reads L.told L.failures loader.old loader.new) (output.new ≡ output.old)
         (passage T.taken T.given T.failures output.old output.new)

@@ -42,7 +42,7 @@ fn compare_files<'a, E: Order, L: Loader, T: Output>(
     asked: Comparison<'a>,
     output: &mut T,
 ) -> Result<u64, ProgramFault<'a>>
-    requires { asked.entry.options.endian ≡ E.order }
+    requires { asked.options.endian ≡ E.order }
     ensures { DiffersOfFiles
         (record { options = asked.entry.options; times = asked.entry.times })
         asked.entry.first.now asked.entry.second.now
@@ -76,7 +76,7 @@ pub(crate) fn run_diff<E: Order, L: Loader, T: Output, N: Sink>(
     output: &mut T,
     errors: &mut N,
 ) -> Outcome
-    requires { asked.entry.options.endian ≡ E.order }
+    requires { asked.options.endian ≡ E.order }
     ensures { EndsDiff (record { options = asked.entry.options; times = asked.entry.times })
         asked.entry.first.now asked.entry.second.now
         (reads L.told L.failures loader.old loader.new) (output.new ≡ output.old)

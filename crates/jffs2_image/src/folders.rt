@@ -354,7 +354,7 @@ pub(crate) fn run_extract<E: Order, L: Loader, D: Folders, N: Sink>(
     asked: Extraction<'_>,
     errors: &mut N,
 ) -> Outcome
-    requires { asked.entry.options.endian ≡ E.order }
+    requires { asked.options.endian ≡ E.order }
     ensures { EndsExtraction asked.entry.decompress
         (extracting_of asked.entry.options.endian asked.entry
         (option_map (λ word. word.now) asked.entry.path))

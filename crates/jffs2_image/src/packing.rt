@@ -126,7 +126,7 @@ fn put_text<'a, E: Order, L: Loader, M: Maker, T: Sink>(
     notes: &mut Notes,
     sink: &mut T,
 ) -> Result<u64, ProgramFault<'a>>
-    requires order { asked.entry.options.endian ≡ E.order }
+    requires order { asked.options.endian ≡ E.order }
     requires weak { notes.now.asked ≡ asked.weak }
     ensures { PutsText (packing_view asked.entry) text.now (maker.new ≡ maker.old)
         (reads L.told L.failures loader.old loader.new)
@@ -154,7 +154,7 @@ fn pack_folder<'a, E: Order, L: Loader, M: Maker, D: Folders, T: Output, N: Sink
     output: &mut T,
     errors: &mut N,
 ) -> Result<u64, ProgramFault<'a>>
-    requires order { asked.entry.options.endian ≡ E.order }
+    requires order { asked.options.endian ≡ E.order }
     requires weak { notes.now.asked ≡ asked.weak }
     ensures made { D.made folders.new ≡ D.made folders.old }
     ensures packs { PacksFolder (packing_view asked.entry)
@@ -220,7 +220,7 @@ pub(crate) fn run_pack<E: Order, L: Loader, M: Maker, D: Folders, T: Output, N: 
     output: &mut T,
     errors: &mut N,
 ) -> Outcome
-    requires { asked.entry.options.endian ≡ E.order }
+    requires { asked.options.endian ≡ E.order }
     ensures made { D.made folders.new ≡ D.made folders.old }
     ensures ends { EndsPack (packing_view asked.entry)
         (D.reads folders.old asked.entry.folder.now) (maker.new ≡ maker.old)

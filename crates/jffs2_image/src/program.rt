@@ -261,7 +261,7 @@ pub(crate) fn run_whole<'a, E: Order, L: Loader, M: Maker, T: Output>(
     notes: &mut Notes,
     output: &mut T,
 ) -> Result<u64, ProgramFault<'a>>
-    requires { (options_of request.entry).endian ≡ E.order }
+    requires { (options_of request).endian ≡ E.order }
     ensures meets { MeetsWhole (L.told loader.old) (M.held maker.old, M.held maker.new)
         (view request.entry) (passage T.taken T.given T.failures output.old output.new) result }
     ensures host { BlamesFor (options_of request.entry).endian (view request.entry)
@@ -322,7 +322,7 @@ fn answer_request<'a, E: Order, L: Loader, M: Maker, T: Output>(
     texts: &'a mut Texts,
     output: &mut T,
 ) -> Result<Success, Stop<'a>>
-    requires { (options_of request.entry).endian ≡ E.order }
+    requires { (options_of request).endian ≡ E.order }
     ensures meets { MeetsCommand (output.new ≡ output.old) (L.told loader.old)
         (M.held maker.old, M.held maker.new) (Ok request.entry)
         (passage T.taken T.given T.failures output.old output.new) result }
@@ -410,7 +410,7 @@ pub(crate) fn run_image<E: Order, L: Loader, M: Maker, T: Output, N: Sink>(
     output: &mut T,
     errors: &mut N,
 ) -> Outcome
-    requires { (options_of request.entry).endian ≡ E.order }
+    requires { (options_of request).endian ≡ E.order }
     ensures { (ran : RunsCommand (output.new ≡ output.old) (L.told loader.old)
         (M.held maker.old, M.held maker.new) (Ok request.entry)
         (passage T.taken T.given T.failures output.old output.new)

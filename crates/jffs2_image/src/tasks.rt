@@ -182,7 +182,7 @@ fn run_task_in<'a, E: Order, L: Loader, M: Maker, D: Folders, T: Output, N: Sink
     output: &mut T,
     errors: &mut N,
 ) -> Outcome
-    requires { order_asked task.entry ≡ E.order }
+    requires { order_asked task ≡ E.order }
     ensures { (words : List (List ℕ)) → Asks words (task_view task.entry)
         → RunsTask words (record {
           reading = reads L.told L.failures loader.old loader.new;

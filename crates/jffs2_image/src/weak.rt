@@ -126,7 +126,7 @@ pub(crate) fn run_weak<E: Order, L: Loader, M: Maker, T: Output, N: Sink>(
     output: &mut T,
     errors: &mut N,
 ) -> Outcome
-    requires { (options_of request.entry).endian ≡ E.order }
+    requires { (options_of request).endian ≡ E.order }
     ensures { EndsWeak request.entry (reads L.told L.failures loader.old loader.new)
         (writes (telling M.names M.held M.failures) maker.old maker.new) (maker.new ≡ maker.old)
         (passage T.taken T.given T.failures output.old output.new)
