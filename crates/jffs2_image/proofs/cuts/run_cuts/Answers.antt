@@ -19,8 +19,8 @@ returns-in-Ok g c = record {
   ends = search rules;
 }
 
-pub returns-in-Err : goal.returns-in-Err
-returns-in-Err g c = record {
+pub returns : goal.returns
+returns g c = record {
   answer = Err c.in-Err.fault;
   tells = record {
     taken = g.T.Sink.taken c.tell_files-answer.new.sink;

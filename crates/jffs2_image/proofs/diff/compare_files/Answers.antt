@@ -4,8 +4,8 @@ use Rattle.jffs2_image.proofs.diff.compare_files.Goals as goal
 pub returns : goal.returns
 returns g c =
     inl (record {
-      image = c.in-Ok.first.items;
-      other = c.in-Ok-load_file.second.items;
+      image = c.in-Ok.image.items;
+      other = c.in-Ok-load_file.image.items;
       of_first = search rules;
       of_second = search rules;
       differs = record {

@@ -11,7 +11,7 @@ returns-in-Ok-clause-host g c =
     let r = c.args.request in
     for_answer Success (options_of r).endian (view r) _ _ _ c.in-Ok.findings c.as_success.result c.in-Ok.ensures.host
 
-pub returns-in-Err-clause-host : goal.returns-in-Err-clause-host
-returns-in-Err-clause-host g c =
+pub returns-clause-host : goal.returns-clause-host
+returns-clause-host g c =
     let r = c.args.request in
     for_fault Success (options_of r).endian (view r) _ _ _ c.in-Err.fault c.in-Err.ensures.host
