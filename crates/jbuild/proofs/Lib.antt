@@ -4,3 +4,4 @@ pub mod LengthLemmas
 pub mod BlocksLemmas
 mod PartLemmas
 mod ReadLemmas
+mod SpanLemmas

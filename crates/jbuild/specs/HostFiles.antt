@@ -1,15 +1,15 @@
 -- Files of the host that were read.
 use Rattle.std.specs.Prelude.{◌≡◌, ℕ, ◌<◌, ◌≤◌, List, [], ◌++◌, length, bytes_eq, option_map, Option, Some, IfSome, Result, Ok, Err, if◌then◌else◌}
 use Rattle.std.specs.Option.{option_map_or}
-use Rattle.std.specs.BTreeMap.{get_by_text}
 use Rattle.flashbase.specs.declared.source.LoadFault.{LoadFault}
 use Rattle.flashbase.specs.declared.source.LoadFault.TheVariants.{Device, TooLarge, OutOfMemory}
+use Rattle.jbuild.specs.NamedSpans.{span_of}
 use Rattle.jbuild.specs.Spans.{bytes_of_span}
 use Rattle.jbuild.specs.declared.host_files.HostFiles.{HostFiles}
 
 -- the bytes of the file of a name, if it was read
 abbrev pub read_of : HostFiles → List ℕ → Option (List ℕ)
-read_of parts name = option_map (bytes_of_span parts.bytes.items) (get_by_text parts.files name)
+read_of parts name = option_map (bytes_of_span parts.bytes.items) (span_of parts.files name)
 
 -- the same, where one that was not read has no bytes
 abbrev pub part_contents : HostFiles → List ℕ → List ℕ

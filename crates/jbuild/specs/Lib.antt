@@ -1,5 +1,7 @@
 pub mod Operations
 pub mod Spans
+pub mod Named
+pub mod NamedSpans
 pub mod HostFiles
 pub mod Emitting
 pub mod Accepted

@@ -1,24 +1,24 @@
 //! Files of the host that a listing names.
 
 ghost use Rattle.std.specs.Prelude.{ℕ, ◌≤◌, List, length};
-ghost use Rattle.std.specs.BTreeMap.{get_by_text};
+ghost use Rattle.jbuild.specs.NamedSpans.{span_of};
 ghost use Rattle.jbuild.specs.Spans.{end_of_span};
 
+use crate::named_spans::NamedSpans;
 use crate::reading::{read_behind, ready};
 use crate::span::{Span, bytes_of_span};
 use flashbase::{LoadFault, Source};
 use std::alloc::{AllocError, Global};
-use std::collections::BTreeMap;
 
 /// Files of the host that were read: their bytes one after the other, and where each file has its
 /// own, by their names.
 #[derive(Drop)]
 pub struct HostFiles {
-    files: BTreeMap<String, Span>,
+    files: NamedSpans,
     bytes: Vec<u8>,
     /// What sources are read through, once one is.
     piece: Vec<u8>,
-    ghost within: { (name : List ℕ) → end_of_span (get_by_text files name) ≤ length bytes.items },
+    ghost within: { (name : List ℕ) → end_of_span (span_of files name) ≤ length bytes.items },
 }
 
 impl HostFiles {
@@ -31,7 +31,7 @@ impl HostFiles {
         ensures { (name : List ℕ) → read_of result name ≡ None }
     {
         HostFiles {
-            files: BTreeMap::new(alloc),
+            files: NamedSpans::new(alloc),
             bytes: Vec::new(alloc),
             piece: Vec::new(alloc),
         }
@@ -41,7 +41,7 @@ impl HostFiles {
     pub fn has(&self, name: &str) -> bool
         ensures { result ≡ is_some (read_of self.now name.now) }
     {
-        self.files.contains_key(name)
+        self.files.get(name).is_some()
     }
 
     /// One more file, or new bytes of one.
@@ -92,7 +92,7 @@ impl HostFiles {
                 length,
             },
         ) {
-            Ok(_) => Ok(()),
+            Ok(()) => Ok(()),
             Err(_) => Err(LoadFault::OutOfMemory),
         }
     }
@@ -102,7 +102,7 @@ impl HostFiles {
         ensures { result.now ≡ part_contents self.now name.now }
     {
         match self.files.get(name) {
-            Some(span) => bytes_of_span(&self.bytes, *span),
+            Some(span) => bytes_of_span(&self.bytes, span),
             None => &[],
         }
     }

@@ -15,6 +15,7 @@ mod emitting;
 mod host_files;
 pub mod laws;
 mod listed;
+mod named_spans;
 mod reading;
 mod span;
 

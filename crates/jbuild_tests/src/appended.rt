@@ -1,73 +1,94 @@
 //! Listings on bases that hold something. More of them are in tests/program.sh.
 
-use crate::checks::{equal, expect_at};
+use crate::checks::{equal, expect, expect_at};
 use crate::runs::{GEOMETRY, Row, holds, read_files};
 use byteorder::LittleEndian;
 use jbuild::{emit, operations};
 use jlisting::listing;
-use jlog::SessionFault;
+use jlog::{Place, SessionFault};
 use jmount::mount;
 use jscan::Page;
 use std::alloc::Global;
 use std::test::Fail;
 use test_support::{FORBIDS, LITTLE_MARKER, MADE, Taker};
 
-const ROWS: [Row; 6] = [
-    Row {
-        base: &MADE,
-        blocks: 2,
-        text: b"",
-        places: &[],
-        len: 8192,
-        told: "accepted 0 nodes 0 bytes 0\n",
+/// Where the two nodes of a new file go.
+const NEW_FILE: &[Place] = &[
+    Place {
+        addr: 12,
+        totlen: 68,
     },
-    Row {
-        base: &MADE,
-        blocks: 1,
-        text: b"create 0644 /b\n",
-        places: &[],
-        len: 8192,
-        told: "S2 Full needed 112 free 0",
-    },
-    Row {
-        base: &MADE,
-        blocks: 2,
-        text: b"create 0644 /a\n",
-        places: &[],
-        len: 8192,
-        told: "S1 Refused O5 Exists",
-    },
-    Row {
-        base: &LITTLE_MARKER,
-        blocks: 1,
-        text: b"create 0644 /a\n",
-        places: &[(12, 68), (80, 41)],
-        len: 124,
-        told: "accepted 1 nodes 2 bytes 124\n",
-    },
-    Row {
-        base: &[0x85, 0x19, 0x03, 0x20, 0x0C, 0, 0],
-        blocks: 1,
-        text: b"create 0644 /a\n",
-        places: &[(12, 68), (80, 41)],
-        len: 124,
-        told: "accepted 1 nodes 2 bytes 124\n",
-    },
-    Row {
-        base: &[0xFF; 9000],
-        blocks: 2,
-        text: b"create 0644 /a\n",
-        places: &[(12, 68), (80, 41)],
-        len: 124,
-        told: "accepted 1 nodes 2 bytes 124\n",
+    Place {
+        addr: 80,
+        totlen: 41,
     },
 ];
 
+fn rows() -> &'static [Row<'static>] {
+    &[
+        Row {
+            base: &MADE,
+            blocks: 2,
+            text: b"",
+            places: &[],
+            len: 8192,
+            told: "accepted 0 nodes 0 bytes 0\n",
+        },
+        Row {
+            base: &MADE,
+            blocks: 1,
+            text: b"create 0644 /b\n",
+            places: &[],
+            len: 8192,
+            told: "S2 Full needed 112 free 0",
+        },
+        Row {
+            base: &MADE,
+            blocks: 2,
+            text: b"create 0644 /a\n",
+            places: &[],
+            len: 8192,
+            told: "S1 Refused O5 Exists",
+        },
+        Row {
+            base: &LITTLE_MARKER,
+            blocks: 1,
+            text: b"create 0644 /a\n",
+            places: NEW_FILE,
+            len: 124,
+            told: "accepted 1 nodes 2 bytes 124\n",
+        },
+        Row {
+            base: &[0x85, 0x19, 0x03, 0x20, 0x0C, 0, 0],
+            blocks: 1,
+            text: b"create 0644 /a\n",
+            places: NEW_FILE,
+            len: 124,
+            told: "accepted 1 nodes 2 bytes 124\n",
+        },
+    ]
+}
+
 #[test]
 fn what_is_told(rt: HostRuntime) -> Result<(), Fail> {
-    for row in ROWS {
-        expect_at(&rt, holds::<LittleEndian>(rt.alloc(), &row)?, row.told);
+    for row in rows() {
+        expect_at(&rt, holds::<LittleEndian>(rt.alloc(), row)?, row.told);
     }
+    Ok(())
+}
+
+#[test]
+fn a_base_that_is_erased(rt: HostRuntime) -> Result<(), Fail> {
+    let erased = vec![in rt.alloc(); 0xFFu8; 9000]?;
+    let row = Row {
+        base: &erased,
+        blocks: 2,
+        text: b"create 0644 /a\n",
+        places: NEW_FILE,
+        len: 124,
+        told: "accepted 1 nodes 2 bytes 124\n",
+    };
+    expect(&rt, holds::<LittleEndian>(rt.alloc(), &row)?);
     Ok(())
 }
 
@@ -89,18 +110,28 @@ fn refused(alloc: Global, base: &[u8], blocks: u32) -> Result<Option<SessionFaul
     }
 }
 
-#[test]
-fn bases_that_are_not_gone_on_from(rt: HostRuntime) -> Result<(), Fail> {
-    let long = vec![in rt.alloc(); 0xFFu8; 8193]?;
-    let rows: [(&[u8], u32, SessionFault); 5] = [
-        (&long, 1, SessionFault::Geometry),
+/// Bases, the number of blocks, and why nothing is put.
+fn not_gone_on_from() -> &'static [(&'static [u8], u32, SessionFault)] {
+    &[
         (&[], 0, SessionFault::Geometry),
         (&[], 32769, SessionFault::Geometry),
         (&FORBIDS, 1, SessionFault::ReadOnly),
         (&FORBIDS, 0, SessionFault::ReadOnly),
-    ];
-    for (base, blocks, fault) in rows {
+    ]
+}
+
+#[test]
+fn bases_that_are_not_gone_on_from(rt: HostRuntime) -> Result<(), Fail> {
+    for &(base, blocks, fault) in not_gone_on_from() {
         equal(&rt, refused(rt.alloc(), base, blocks)?, Some(fault));
     }
+    Ok(())
+}
+
+#[test]
+fn a_base_that_is_longer_than_the_flash(rt: HostRuntime) -> Result<(), Fail> {
+    let long = vec![in rt.alloc(); 0xFFu8; 8193]?;
+    let found = refused(rt.alloc(), &long, 1)?;
+    equal(&rt, found, Some(SessionFault::Geometry));
     Ok(())
 }

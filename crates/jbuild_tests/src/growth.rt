@@ -88,22 +88,24 @@ fn fault(alloc: Global, row: &Row<'_>, whole: &[u8]) -> Option<(SessionFault, us
     Some((fault, whole.len().saturating_sub(left)))
 }
 
-const ROWS: [Row<'static>; 2] = [
-    Row {
-        base: &[],
-        from: 0,
-        blocks: 1,
-        text: SMALL,
-        told: b"accepted 4 nodes 6 bytes 412\n",
-    },
-    Row {
-        base: &MADE,
-        from: 8192,
-        blocks: 3,
-        text: b"create 0644 /b\npart /b 0 two\nmkdir 0755 /d\nrename /b /d/c\n",
-        told: b"accepted 4 nodes 8 bytes 12568\n",
-    },
-];
+fn rows() -> &'static [Row<'static>] {
+    &[
+        Row {
+            base: &[],
+            from: 0,
+            blocks: 1,
+            text: SMALL,
+            told: b"accepted 4 nodes 6 bytes 412\n",
+        },
+        Row {
+            base: &MADE,
+            from: 8192,
+            blocks: 3,
+            text: b"create 0644 /b\npart /b 0 two\nmkdir 0755 /d\nrename /b /d/c\n",
+            told: b"accepted 4 nodes 8 bytes 12568\n",
+        },
+    ]
+}
 
 /// Whether a growth that is refused is told as such, before the base's bytes or after them, and the
 /// next call, with memory, answers as if there had been none before. Where the memory for what is
@@ -126,8 +128,8 @@ fn holds(alloc: Global, row: &Row<'_>) -> bool {
 /// Passes with each allocation failing in turn too.
 #[test]
 fn refused_growth_is_want_of_memory(rt: HostRuntime) {
-    for row in ROWS {
-        expect(&rt, holds(rt.alloc(), &row));
+    for row in rows() {
+        expect(&rt, holds(rt.alloc(), row));
     }
     // The name's node is cut, and writing goes on in the next block.
     let cut = Row {

@@ -8,12 +8,12 @@ use jlog::{SessionFault, page_fits};
 use jmount::mount;
 use jscan::{Geometry, Page};
 use jsteps::{Op, Text};
+use std::alloc::Global;
 use std::test::Fail;
 use test_support::Taker;
 
-const BYTES: [u8; 16_384] = [9; 16_384];
-
-fn write(len: usize) -> [Op<'static>; 2] {
+/// A file, and a byte that is written.
+fn write() -> [Op<'static>; 2] {
     [
         Op::Create {
             time: 0,
@@ -26,47 +26,43 @@ fn write(len: usize) -> [Op<'static>; 2] {
             time: 0,
             path: Text::lent(b"/a"),
             offset: 0,
-            bytes: Text::lent(BYTES.get(..len).unwrap_or(&BYTES)),
+            bytes: Text::lent(&[9]),
         },
+    ]
+}
+
+/// Why a write into a block of so many bytes is refused by this page; none where it is not. The
+/// sink comes back as it was.
+fn refused(alloc: Global, page: Page, block: u32) -> Result<Option<SessionFault>, Fail> {
+    let geometry = Geometry { block };
+    let mounted = mount::<LittleEndian>(alloc, &[], geometry)?;
+    let (ops, sink) = (write(), Taker::new(alloc));
+    match emit::<LittleEndian, _>(alloc, &mounted, geometry, 1, page, &ops, sink) {
+        Ok(_done) => Ok(None),
+        Err((fault, sink)) if sink.took(0, &[]) => Ok(Some(fault)),
+        Err(_) => Err(Fail::from("the sink is not as it was")),
+    }
+}
+
+/// A page, the least block that holds it, one that is smaller, and why a write is refused there.
+fn pages() -> &'static [(Page, u32, u32, Option<SessionFault>)] {
+    &[
+        (Page::P4096, 4176, 8192, None),
+        (Page::P8192, 8272, 8268, Some(SessionFault::Geometry)),
+        (Page::P16384, 16_464, 16_460, Some(SessionFault::Geometry)),
     ]
 }
 
 /// A block holds its marker, the fields of a node and a page, or the flash is not one to write.
 #[test]
 fn blocks_that_hold_a_page(rt: HostRuntime) -> Result<(), Fail> {
-    let alloc = rt.alloc();
-    for (page, least) in [
-        (Page::P4096, 4176),
-        (Page::P8192, 8272),
-        (Page::P16384, 16_464),
-    ] {
+    for &(page, least, block, wanted) in pages() {
         expect(&rt, page_fits(Geometry { block: least }, page));
-        expect(&rt, !page_fits(Geometry { block: least - 4 }, page));
-        let geometry = Geometry {
-            block: least.max(8196) - 4,
+        let less = Geometry {
+            block: least.saturating_sub(4),
         };
-        let mounted = mount::<LittleEndian>(alloc, &[], geometry)?;
-        let sink = Taker::new(alloc);
-        let refused = match emit::<LittleEndian, _>(
-            alloc,
-            &mounted,
-            geometry,
-            1,
-            page,
-            &write(1),
-            sink,
-        ) {
-            Ok(_done) => None,
-            Err((fault, sink)) => {
-                expect(&rt, sink.took(0, &[]));
-                Some(fault)
-            }
-        };
-        let wanted = match page {
-            Page::P4096 => None,
-            _ => Some(SessionFault::Geometry),
-        };
-        equal(&rt, refused, wanted);
+        expect(&rt, !page_fits(less, page));
+        equal(&rt, refused(rt.alloc(), page, block)?, wanted);
     }
     Ok(())
 }

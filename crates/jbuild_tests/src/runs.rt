@@ -3,7 +3,7 @@
 use flashbase::FromWriter;
 use jbuild::{Emitted, HostFiles, emit, operations, put_accepted};
 use jlisting::listing;
-use jlog::{RunReport, resume_at};
+use jlog::{Place, RunReport, resume_at};
 use jmount::mount;
 use jnode::Order;
 use jscan::{Geometry, Page};
@@ -13,12 +13,14 @@ use std::test::Fail;
 pub const GEOMETRY: Geometry = Geometry { block: 8192 };
 
 /// Files of the host: their names, their one byte, and how often they have it.
-const FILES: [(&str, u8, usize); 4] = [
-    ("page", 2, 4096),
-    ("two", 1, 8192),
-    ("three", 3, 12288),
-    ("four", 4, 16384),
-];
+fn files() -> &'static [(&'static str, u8, usize)] {
+    &[
+        ("page", 2, 4096),
+        ("two", 1, 8192),
+        ("three", 3, 12288),
+        ("four", 4, 16384),
+    ]
+}
 
 /// What went out for a listing on a base, what the run did, and the line that tells of it.
 #[derive(Drop)]
@@ -39,7 +41,7 @@ pub fn file_of(alloc: Global, byte: u8, len: usize) -> Result<Vec<u8>, AllocErro
 /// The files, read.
 pub fn read_files(alloc: Global) -> Result<HostFiles, Fail> {
     let mut parts = HostFiles::new(alloc);
-    for (name, byte, len) in FILES {
+    for &(name, byte, len) in files() {
         parts.insert(name.to_string(alloc)?, &file_of(alloc, byte, len)?)?;
     }
     Ok(parts)
@@ -82,11 +84,11 @@ pub fn made<E: Order>(
 
 /// A listing on a base: where its nodes go, how many bytes go out in all, and what is told.
 #[derive(Clone, Copy)]
-pub struct Row {
-    pub base: &'static [u8],
+pub struct Row<'r> {
+    pub base: &'r [u8],
     pub blocks: u32,
     pub text: &'static [u8],
-    pub places: &'static [(u32, u32)],
+    pub places: &'static [Place],
     pub len: usize,
     pub told: &'static str,
 }
@@ -100,13 +102,8 @@ fn is_told(alloc: Global, outcome: &Outcome, told: &str) -> Result<bool, Fail> {
 }
 
 /// Whether a row holds in an order.
-pub fn holds<E: Order>(alloc: Global, row: &Row) -> Result<bool, Fail> {
+pub fn holds<E: Order>(alloc: Global, row: &Row<'_>) -> Result<bool, Fail> {
     let outcome = made::<E>(alloc, row.base, row.blocks, row.text)?;
-    let places = outcome
-        .report
-        .places
-        .iter()
-        .map(|place| (place.addr, place.totlen));
-    let is_placed = places.eq(row.places.iter().copied());
+    let is_placed = outcome.report.places.as_slice() == row.places;
     Ok(is_placed && outcome.output.len() == row.len && is_told(alloc, &outcome, row.told)?)
 }

@@ -9,6 +9,7 @@ use jlog::{Place, SessionFault};
 use jmount::mount;
 use jscan::Page;
 use std::alloc::Global;
+use std::process::Abort;
 use std::test::Fail;
 use test_support::{MADE, Taker};
 
@@ -44,26 +45,39 @@ fn a_sink_that_takes_one_byte_a_call(rt: HostRuntime) -> Result<(), Fail> {
     Ok(())
 }
 
-#[test]
-fn a_sink_that_fails_at_the_base(rt: HostRuntime) -> Result<(), Fail> {
-    let whole = made::<LittleEndian>(rt.alloc(), &MADE, 2, TEXT)?;
-    for limit in [0, 1, 123, 124, 125, 380, 8191] {
-        let Err((fault, sink)) = emitted(rt.alloc(), Taker::limited(rt.alloc(), 4096, limit))?
-        else {
-            return Err(Fail::from("it is emitted"));
-        };
-        equal(&rt, fault, SessionFault::Sink);
-        equal(&rt, sink.bytes.len(), limit);
-        expect(&rt, whole.output.starts_with(&sink.bytes));
-        equal(&rt, sink.failures, 1);
-    }
+/// After how many bytes the sink fails, all of them of the base.
+fn base_limits() -> &'static [usize] {
+    &[0, 1, 123, 124, 125, 380, 8191]
+}
+
+/// Stops the test unless a sink that fails at the base comes back with what it took.
+fn fails_at_the_base(
+    rt: &impl Abort,
+    alloc: Global,
+    whole: &[u8],
+    limit: usize,
+) -> Result<(), Fail> {
+    let Err((fault, sink)) = emitted(alloc, Taker::limited(alloc, 4096, limit))? else {
+        return Err(Fail::from("it is emitted"));
+    };
+    equal(rt, fault, SessionFault::Sink);
+    equal(rt, (sink.bytes.len(), sink.failures), (limit, 1));
+    expect(rt, whole.starts_with(&sink.bytes));
     Ok(())
 }
 
 #[test]
-fn a_sink_that_fails_later(rt: HostRuntime) -> Result<(), Fail> {
+fn a_sink_that_fails_at_the_base(rt: HostRuntime) -> Result<(), Fail> {
     let whole = made::<LittleEndian>(rt.alloc(), &MADE, 2, TEXT)?;
-    let rows = [
+    for &limit in base_limits() {
+        fails_at_the_base(&rt, rt.alloc(), &whole.output, limit)?;
+    }
+    Ok(())
+}
+
+/// After how many bytes the sink fails, and how many lines are accepted and nodes placed then.
+fn later_limits() -> &'static [(usize, usize, usize)] {
+    &[
         (8192, 0, 0),
         (8271, 0, 0),
         (8272, 0, 1),
@@ -71,55 +85,82 @@ fn a_sink_that_fails_later(rt: HostRuntime) -> Result<(), Fail> {
         (8316, 1, 2),
         (8386, 1, 3),
         (8387, 1, 3),
-    ];
-    for (limit, accepted, places) in rows {
-        let Ok((sink, Emitted { report, blocks })) = emitted(
-            rt.alloc(),
-            Taker::limited(rt.alloc(), 7, limit),
-        )?
-        else {
-            return Err(Fail::from("not emitted"));
-        };
-        equal(&rt, report.stopped, Some(SessionFault::Sink));
-        expect(&rt, blocks == Ok(None));
-        equal(
-            &rt,
-            (report.accepted, report.places.len()),
-            (accepted, places),
-        );
-        equal(&rt, (sink.bytes.len(), sink.failures), (limit, 1));
-        expect(&rt, whole.output.starts_with(&sink.bytes));
+    ]
+}
+
+/// Stops the test unless a sink that fails later has what it took, and the report says so.
+fn fails_later(
+    rt: &impl Abort,
+    alloc: Global,
+    whole: &[u8],
+    limit: usize,
+    counted: (usize, usize),
+) -> Result<(), Fail> {
+    let Ok((sink, Emitted { report, blocks })) = emitted(alloc, Taker::limited(alloc, 7, limit))?
+    else {
+        return Err(Fail::from("not emitted"));
+    };
+    equal(rt, report.stopped, Some(SessionFault::Sink));
+    expect(rt, blocks == Ok(None));
+    equal(rt, (report.accepted, report.places.len()), counted);
+    equal(rt, (sink.bytes.len(), sink.failures), (limit, 1));
+    expect(rt, whole.starts_with(&sink.bytes));
+    Ok(())
+}
+
+#[test]
+fn a_sink_that_fails_later(rt: HostRuntime) -> Result<(), Fail> {
+    let whole = made::<LittleEndian>(rt.alloc(), &MADE, 2, TEXT)?;
+    for &(limit, accepted, places) in later_limits() {
+        fails_later(&rt, rt.alloc(), &whole.output, limit, (accepted, places))?;
     }
     Ok(())
+}
+
+/// What a run onto a sink reports as its end, and its sink.
+fn ended(alloc: Global, sink: Taker) -> Result<(Option<SessionFault>, Taker), Fail> {
+    match emitted(alloc, sink)? {
+        Ok((sink, Emitted { report, .. })) => Ok((report.stopped, sink)),
+        Err((fault, sink)) => Ok((Some(fault), sink)),
+    }
+}
+
+/// Whether a sink that fails once, at this call, does not fail, since there are fewer calls. It has
+/// a beginning of what goes out.
+fn ends(rt: &impl Abort, alloc: Global, whole: &[u8], calls: usize) -> Result<bool, Fail> {
+    let sink = Taker {
+        calls,
+        is_silent: calls % 2 == 0,
+        ..Taker::limited(alloc, 500, usize::MAX)
+    };
+    let (stopped, sink) = ended(alloc, sink)?;
+    expect(rt, whole.starts_with(&sink.bytes));
+    if stopped.is_none() {
+        expect(rt, sink.took(0, whole));
+        return Ok(true);
+    }
+    let found = (stopped, sink.failures);
+    equal_at(rt, found, (Some(SessionFault::Sink), 1), calls);
+    Ok(false)
+}
+
+/// After how many calls the sink fails no more, since there are no more.
+fn count_of_calls(rt: &impl Abort, alloc: Global, whole: &[u8]) -> Result<usize, Fail> {
+    for calls in 0..100usize {
+        if ends(rt, alloc, whole, calls)? {
+            return Ok(calls);
+        }
+    }
+    Err(Fail::from("it goes on failing"))
 }
 
 /// The sink fails once, at each of its calls in turn: by an Err, or by taking nothing.
 #[test]
 fn a_sink_that_fails_once(rt: HostRuntime) -> Result<(), Fail> {
     let whole = made::<LittleEndian>(rt.alloc(), &MADE, 2, TEXT)?;
-    for calls in 0..100usize {
-        let sink = Taker {
-            calls,
-            is_silent: calls % 2 == 0,
-            ..Taker::limited(rt.alloc(), 500, usize::MAX)
-        };
-        let (stopped, sink) = match emitted(rt.alloc(), sink)? {
-            Ok((sink, Emitted { report, .. })) => (report.stopped, sink),
-            Err((fault, sink)) => (Some(fault), sink),
-        };
-        expect(&rt, whole.output.starts_with(&sink.bytes));
-        if stopped.is_none() {
-            expect(&rt, calls > 20 && sink.took(0, &whole.output));
-            return Ok(());
-        }
-        equal_at(
-            &rt,
-            (stopped, sink.failures),
-            (Some(SessionFault::Sink), 1),
-            calls,
-        );
-    }
-    Err(Fail::from("it goes on failing"))
+    let count = count_of_calls(&rt, rt.alloc(), &whole.output)?;
+    expect(&rt, count > 20);
+    Ok(())
 }
 
 const LINE: &[u8] = b"accepted 3 nodes 2 bytes 112\n";

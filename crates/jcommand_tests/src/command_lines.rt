@@ -519,7 +519,8 @@ fn args_that_are_wrong_to_write(rt: HostRuntime) -> Result<(), Fail> {
     equal(
         &rt,
         answer.as_str(),
-        "wrong error: invalid value '' for '--blocks <N>': wanted a number of blocks in decimal digits, below 4294967296\n\n\
+        "wrong error: invalid value '' for '--blocks <N>': wanted a number of blocks in decimal \
+         digits, below 4294967296\n\n\
          For more information, try 'jffs2_image build --help'.\n",
     );
     Ok(())

@@ -3,6 +3,8 @@
 use crate::answers::answer;
 use crate::checks::equal_at;
 use jcompr::{DataFault, Method};
+use std::alloc::Global;
+use std::process::Abort;
 
 /// A block of its own codes, of 96 bytes.
 const TEXT: &[u8] =
@@ -30,31 +32,50 @@ fn long_copy() -> [u8; 279] {
     data
 }
 
+/// Data, the length that is asked for, and the checksum of their content; none where they are
+/// refused.
+fn rows() -> &'static [(Method, &'static [u8], usize, Option<u32>)] {
+    &[
+        (Method::Rtime, b"a\x13", 20, Some(0x29BA_1043)),
+        (Method::Rtime, b"a\x13", 21, None),
+        (Method::Zlib, TEXT, 96, Some(0x4C22_6E7D)),
+        (Method::Zlib, TEXT, 95, None),
+        (Method::Zlib, LONG, 70_000, Some(0xB480_2AD8)),
+    ]
+}
+
+/// Stops the test unless data have a content of this checksum, or none. Where memory is refused,
+/// they are asked for again.
+fn agrees(
+    rt: &impl Abort,
+    alloc: Global,
+    method: Method,
+    data: &[u8],
+    size: usize,
+    wanted: Option<u32>,
+) {
+    let mut found = answer(rt, alloc, method, data, size);
+    if found == Err(DataFault::OutOfMemory) {
+        found = answer(rt, alloc, method, data, size);
+    }
+    equal_at(rt, found, Ok(wanted), (method, size));
+}
+
 /// Passes with each allocation failing in turn too: memory is then blamed and not the data, nothing
 /// is appended, and the next call, with memory, answers as if there had been none before.
 #[test]
 fn refused_growth_is_want_of_memory(rt: HostRuntime) {
     let alloc = rt.alloc();
-    let copy = long_copy();
-    for (method, data, size, wanted) in [
-        (Method::Rtime, b"a\x13".as_slice(), 20, Some(0x29BA_1043)),
-        (
-            Method::Rtime,
-            [0xFF; 548].as_slice(),
-            70_144,
-            Some(0x070F_8C2E),
-        ),
-        (Method::Rtime, b"a\x13".as_slice(), 21, None),
-        (Method::Zlib, TEXT, 96, Some(0x4C22_6E7D)),
-        (Method::Zlib, TEXT, 95, None),
-        (Method::Zlib, LONG, 70_000, Some(0xB480_2AD8)),
-        (Method::Lzo, copy.as_slice(), 68_885, Some(0x8F28_43BF)),
-        (Method::Lzo, copy.as_slice(), 68_886, None),
-    ] {
-        let mut found = answer(&rt, alloc, method, data, size);
-        if found == Err(DataFault::OutOfMemory) {
-            found = answer(&rt, alloc, method, data, size);
-        }
-        equal_at(&rt, found, Ok(wanted), (method, size));
+    for &(method, data, size, wanted) in rows() {
+        agrees(&rt, alloc, method, data, size, wanted);
     }
+}
+
+#[test]
+fn refused_growth_of_long_contents(rt: HostRuntime) {
+    let (alloc, copy) = (rt.alloc(), long_copy());
+    let (first, second) = (Some(0x070F_8C2E), Some(0x8F28_43BF));
+    agrees(&rt, alloc, Method::Rtime, &[0xFF; 548], 70_144, first);
+    agrees(&rt, alloc, Method::Lzo, &copy, 68_885, second);
+    agrees(&rt, alloc, Method::Lzo, &copy, 68_886, None);
 }

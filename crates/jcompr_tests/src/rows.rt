@@ -11,84 +11,80 @@ const THREES: &[u8] = b"abcabcabcabcabcabc";
 
 const WORDS: &[u8] = b"abcdefgh abcd efgh abcdefgh xyzabcd abefgh abcdefghabcdefgh";
 
-/// Data, the length that is asked for, and the content; none where the data are refused.
-const ROWS: [(Method, &[u8], usize, Option<&[u8]>); 20] = [
-    (Method::Rtime, b"a\x13", 20, Some(RUN)),
-    (Method::Rtime, b"a\x00b\x00c\x0f", 18, Some(THREES)),
-    (Method::Rtime, b"a\x13", 19, None),
-    (Method::Rtime, b"a", 1, None),
-    (Method::Rtime, b"", 0, Some(b"")),
-    (
-        Method::Zlib,
-        b"\x78\x9C\x03\x00\x00\x00\x00\x01",
-        0,
-        Some(b""),
-    ),
-    (
-        Method::Zlib,
-        b"\x78\x9C\x4B\x4C\xC4\x04\x00\x4F\xA6\x07\x95",
-        20,
-        Some(RUN),
-    ),
-    (
-        Method::Zlib,
-        b"\x78\x9C\x4B\x4C\xC4\x04\x00\x4F\xA6\x07\x95",
-        19,
-        None,
-    ),
-    (
-        Method::Zlib,
-        b"\x78\x9C\x4B\x4C\xC4\x04\x00\x4F\xA6\x07\x95",
-        21,
-        None,
-    ),
-    (
-        Method::Zlib,
-        b"\x78\x01\x01\x14\x00\xEB\xFFaaaaaaaaaaaaaaaaaaaa\x4F\xA6\x07\x95",
-        20,
-        Some(RUN),
-    ),
-    (
-        Method::Zlib,
-        b"\x78\x9C\x4B\x4C\x4A\x4E\x44\x45\x00\x41\x7C\x06\xE5",
-        18,
-        Some(THREES),
-    ),
-    (
-        Method::Zlib,
-        b"\x78\x9C\x4B\x4C\x4A\x4E\x44\x45\x00\x41\x7C\x06\xE5\xFF",
-        18,
-        Some(THREES),
-    ),
-    (
-        Method::Zlib,
-        b"\x78\x9C\x4B\x4C\x4A\x4E\x44\x45\x00\x41\x7C\x06\xE4",
-        18,
-        None,
-    ),
-    (Method::Zlib, b"", 0, None),
-    (Method::Lzo, b"\x12a\x31\x00\x00\x11\x00\x00", 20, Some(RUN)),
-    (
-        Method::Lzo,
-        b"\x14abc\x2D\x08\x00\x11\x00\x00",
-        18,
-        Some(THREES),
-    ),
-    (
-        Method::Lzo,
-        b"\x25aaaaaaaaaaaaaaaaaaaa\x11\x00\x00",
-        20,
-        Some(RUN),
-    ),
-    (
-        Method::Lzo,
-        b"\x1Aabcdefgh\x20a\x01\x20\x27\x24\x00\x83\x01xyz\x96\x02ab\x2B\x5C\x00\xFC\x00\x11\x00\x00",
-        59,
-        Some(WORDS),
-    ),
-    (Method::Lzo, b"\x11\x00\x00", 0, Some(b"")),
-    (Method::Lzo, b"\x11\x00\x00\x00", 0, None),
-];
+/// Data, the length that is asked for, and the content.
+fn contents() -> &'static [(Method, &'static [u8], usize, &'static [u8])] {
+    &[
+        (Method::Rtime, b"a\x13", 20, RUN),
+        (Method::Rtime, b"a\x00b\x00c\x0f", 18, THREES),
+        (Method::Rtime, b"", 0, b""),
+        (Method::Zlib, b"\x78\x9C\x03\x00\x00\x00\x00\x01", 0, b""),
+        (
+            Method::Zlib,
+            b"\x78\x9C\x4B\x4C\xC4\x04\x00\x4F\xA6\x07\x95",
+            20,
+            RUN,
+        ),
+        (
+            Method::Zlib,
+            b"\x78\x01\x01\x14\x00\xEB\xFFaaaaaaaaaaaaaaaaaaaa\x4F\xA6\x07\x95",
+            20,
+            RUN,
+        ),
+        (
+            Method::Zlib,
+            b"\x78\x9C\x4B\x4C\x4A\x4E\x44\x45\x00\x41\x7C\x06\xE5",
+            18,
+            THREES,
+        ),
+        (
+            Method::Zlib,
+            b"\x78\x9C\x4B\x4C\x4A\x4E\x44\x45\x00\x41\x7C\x06\xE5\xFF",
+            18,
+            THREES,
+        ),
+        (Method::Lzo, b"\x12a\x31\x00\x00\x11\x00\x00", 20, RUN),
+        (Method::Lzo, b"\x14abc\x2D\x08\x00\x11\x00\x00", 18, THREES),
+        (
+            Method::Lzo,
+            b"\x25aaaaaaaaaaaaaaaaaaaa\x11\x00\x00",
+            20,
+            RUN,
+        ),
+        (
+            Method::Lzo,
+            b"\x1Aabcdefgh\x20a\x01\x20\x27\x24\x00\x83\x01xyz\x96\x02ab\x2B\x5C\x00\xFC\x00\
+              \x11\x00\x00",
+            59,
+            WORDS,
+        ),
+        (Method::Lzo, b"\x11\x00\x00", 0, b""),
+    ]
+}
+
+/// Data that are refused for this length.
+fn refused() -> &'static [(Method, &'static [u8], usize)] {
+    &[
+        (Method::Rtime, b"a\x13", 19),
+        (Method::Rtime, b"a", 1),
+        (
+            Method::Zlib,
+            b"\x78\x9C\x4B\x4C\xC4\x04\x00\x4F\xA6\x07\x95",
+            19,
+        ),
+        (
+            Method::Zlib,
+            b"\x78\x9C\x4B\x4C\xC4\x04\x00\x4F\xA6\x07\x95",
+            21,
+        ),
+        (
+            Method::Zlib,
+            b"\x78\x9C\x4B\x4C\x4A\x4E\x44\x45\x00\x41\x7C\x06\xE4",
+            18,
+        ),
+        (Method::Zlib, b"", 0),
+        (Method::Lzo, b"\x11\x00\x00\x00", 0),
+    ]
+}
 
 /// Whether data have just this content.
 fn has_content(
@@ -108,8 +104,12 @@ fn has_content(
 
 #[test]
 fn worked_rows(rt: HostRuntime) {
-    for (method, data, size, content) in ROWS {
-        let is_so = has_content(rt.alloc(), method, data, size, content);
+    for &(method, data, size, content) in contents() {
+        let is_so = has_content(rt.alloc(), method, data, size, Some(content));
+        expect_at(&rt, is_so, (method, data, size));
+    }
+    for &(method, data, size) in refused() {
+        let is_so = has_content(rt.alloc(), method, data, size, None);
         expect_at(&rt, is_so, (method, data, size));
     }
 }
@@ -127,30 +127,38 @@ fn numbers_of_methods(rt: HostRuntime) {
     }
 }
 
-#[test]
-fn texts_of_faults(rt: HostRuntime) -> Result<(), Fail> {
-    for (fault, text) in [
+fn faults() -> &'static [(DataFault, &'static str)] {
+    &[
         (
             DataFault::Wrong,
             "the data do not give that number of bytes",
         ),
         (DataFault::OutOfMemory, "out of memory"),
-    ] {
+    ]
+}
+
+#[test]
+fn texts_of_faults(rt: HostRuntime) -> Result<(), Fail> {
+    for &(fault, text) in faults() {
         let shown = format!(in rt.alloc(); "{fault}")?;
         expect_at(&rt, shown.as_str() == text, text);
     }
     Ok(())
 }
 
-/// Checksums by zlib.
-#[test]
-fn checksums(rt: HostRuntime) {
-    for (bytes, wanted) in [
-        (b"".as_slice(), 0x0000_0001),
+fn sums() -> &'static [(&'static [u8], u64)] {
+    &[
+        (b"", 0x0000_0001),
         (b"a", 0x0062_0062),
         (THREES, 0x417C_06E5),
         (b"Wikipedia", 0x11E6_0398),
-    ] {
+    ]
+}
+
+/// Checksums by zlib.
+#[test]
+fn checksums(rt: HostRuntime) {
+    for &(bytes, wanted) in sums() {
         equal_at(&rt, adler(bytes), wanted, wanted);
     }
 }

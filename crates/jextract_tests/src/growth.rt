@@ -156,14 +156,18 @@ fn part_fault(alloc: Global, image: &[u8], path: &[u8], calls: u64) -> Option<Ex
     }
 }
 
+/// Paths, and by how many calls the parts there are made.
+fn parts() -> &'static [(&'static [u8], u64)] {
+    &[(b"/d", 6), (b"/d/f", 4)]
+}
+
 /// Passes with each allocation failing in turn too, in the same way.
 #[test]
 fn refused_growth_of_parts(rt: HostRuntime) {
     let Ok(image) = image_of(rt.alloc(), PLAIN) else {
         return;
     };
-    let parts: [(&[u8], u64); 2] = [(b"/d", 6), (b"/d/f", 4)];
-    for (path, calls) in parts {
+    for &(path, calls) in parts() {
         if let Some(refused) = part_fault(rt.alloc(), &image, path, calls) {
             equal(&rt, refused, ExtractFault::OutOfMemory);
             equal(&rt, part_fault(rt.alloc(), &image, path, calls), None);

@@ -13,42 +13,45 @@ use std::test::Fail;
 use test_support::{FILE, Node};
 
 /// What is made of an image.
-fn made(
-    alloc: Global,
-    nodes: &[Node<'_>],
-    geometry: Geometry,
-) -> Result<(String, Totals), &'static str> {
+fn made(alloc: Global, nodes: &[Node<'_>], geometry: Geometry) -> Result<(String, Totals), Fail> {
     let image = image_of(alloc, nodes)?;
-    let mounted = mount::<LittleEndian>(alloc, &image, geometry).map_err(|_| "no mount")?;
+    let mounted = mount::<LittleEndian>(alloc, &image, geometry)?;
     let mut folder = Recorder::new(alloc, u64::MAX, u64::MAX);
     let mut notes = FromWriter::new(Vec::new(alloc));
-    let totals = extract(alloc, &mounted, false, &mut folder, &mut notes).map_err(
-        |_| "not extracted",
-    )?;
+    let totals = extract(alloc, &mounted, false, &mut folder, &mut notes)?;
     Ok((folder.lines, totals))
+}
+
+/// Which bytes of 4,096 zeros, 4,096 letters and 4,098 zeros a file has, and how its content ends.
+fn contents() -> &'static [(usize, usize, &'static str)] {
+    &[
+        (0, 0, "]"),
+        (0, 1, "[(1)]"),
+        (0, 4096, "[(4096)]"),
+        (0, 4098, "[(4096)yy]"),
+        (4094, 4097, "[\0\0y]"),
+        (4096, 12290, "y(4098)]"),
+    ]
+}
+
+/// Whether what is made of a file of these bytes ends so.
+fn ends_with(alloc: Global, content: &[u8], shown: &str) -> Result<bool, Fail> {
+    let nodes = [Node::Inode(2, FILE, content), Node::Entry(1, 2, b"f")];
+    let (lines, _) = made(alloc, &nodes, LARGE)?;
+    let end = format!(in alloc; "{shown} 644 7 5\nattributes  755 0 0\n")?;
+    Ok(lines.ends_with(end.as_str()))
 }
 
 /// A block of 4,096 zeros is a hole, also at the end, where it is as short as the file; a zero
 /// beside another byte is written.
 #[test]
 fn blocks_of_zeros(rt: HostRuntime) -> Result<(), Fail> {
-    let mut bytes = [0u8; 12290];
-    bytes[4096..8192].fill(b'y');
-    let rows: [(&[u8], &str); 6] = [
-        (b"", "]"),
-        (&bytes[..1], "[(1)]"),
-        (&bytes[..4096], "[(4096)]"),
-        (&bytes[..4098], "[(4096)yy]"),
-        (&bytes[4094..4097], "[\0\0y]"),
-        (&bytes[4096..], "y(4098)]"),
-    ];
-    for (content, shown) in rows {
-        let nodes = [Node::Inode(2, FILE, content), Node::Entry(1, 2, b"f")];
-        let (lines, _) = made(rt.alloc(), &nodes, LARGE)?;
-        let end = format!(in rt.alloc(); "{shown} 644 7 5\nattributes  755 0 0\n").map_err(
-            |_| "no memory",
-        )?;
-        expect(&rt, lines.ends_with(end.as_str()));
+    let mut bytes = vec![in rt.alloc(); 0u8; 4096]?;
+    bytes.resize(8192, b'y')?;
+    bytes.resize(12290, 0)?;
+    for &(from, to, shown) in contents() {
+        let content = bytes.get(from..to).unwrap_or(&[]);
+        expect(&rt, ends_with(rt.alloc(), content, shown)?);
     }
     Ok(())
 }

@@ -8,6 +8,7 @@ use flashbase::FromWriter;
 use jextract::{Part, PartFault, extract_part, part_at};
 use jmount::{FindFault, mount};
 use std::alloc::Global;
+use std::process::Abort;
 use std::test::Fail;
 use test_support::{DIRECTORY, FILE, Node, SYMLINK};
 
@@ -45,15 +46,13 @@ fn extracted(
     alloc: Global,
     path: &[u8],
     owners: bool,
-) -> Result<(String, (u64, u64), Vec<u8>), &'static str> {
+) -> Result<(String, (u64, u64), Vec<u8>), Fail> {
     let image = image_of(alloc, TREE)?;
-    let mounted = mount::<LittleEndian>(alloc, &image, LARGE).map_err(|_| "no mount")?;
-    let part = part_at(alloc, &mounted, path).map_err(|_| "no part")?;
+    let mounted = mount::<LittleEndian>(alloc, &image, LARGE)?;
+    let part = part_at(alloc, &mounted, path)?;
     let mut folder = Recorder::new(alloc, u64::MAX, u64::MAX);
     let mut notes = FromWriter::new(Vec::new(alloc));
-    let totals = extract_part(alloc, &mounted, &part, owners, &mut folder, &mut notes).map_err(
-        |_| "not extracted",
-    )?;
+    let totals = extract_part(alloc, &mounted, &part, owners, &mut folder, &mut notes)?;
     let counted = (totals.left_out, totals.lost_bits);
     Ok((folder.lines, counted, notes.into_writer()))
 }
@@ -140,15 +139,24 @@ attributes  755 0 0\n",
     "left out /p: FIFO\nleft out /x: no inode\n",
 );
 
-const ROWS: [Row; 6] = [DEEP, A_FILE, A_FURTHER_NAME, A_SYMLINK, A_FIFO, THE_ROOT];
+fn rows() -> &'static [Row] {
+    &[DEEP, A_FILE, A_FURTHER_NAME, A_SYMLINK, A_FIFO, THE_ROOT]
+}
+
+/// Stops the test unless this is made and told of a part.
+fn is_made(rt: &impl Abort, alloc: Global, row: &Row) -> Result<(), Fail> {
+    let (path, made, counted, told) = row;
+    let (lines, totals, notes) = extracted(alloc, path, false)?;
+    equal(rt, lines.as_str(), *made);
+    equal(rt, totals, *counted);
+    equal(rt, notes.as_slice(), told.as_bytes());
+    Ok(())
+}
 
 #[test]
 fn worked_parts(rt: HostRuntime) -> Result<(), Fail> {
-    for (path, made, counted, told) in ROWS {
-        let (lines, totals, notes) = extracted(rt.alloc(), path, false)?;
-        equal(&rt, lines.as_str(), made);
-        equal(&rt, totals, counted);
-        equal(&rt, notes.as_slice(), told.as_bytes());
+    for row in rows() {
+        is_made(&rt, rt.alloc(), row)?;
     }
     Ok(())
 }
@@ -176,28 +184,28 @@ fn fault_of(part: Result<Part<'_>, PartFault>) -> u8 {
     }
 }
 
-const FAULTS: [(&[u8], u8); 12] = [
-    (b"/", 0),
-    (b"/a/b", 0),
-    (b"/a/f", 1),
-    (b"", 2),
-    (b"a", 2),
-    (b"/a/", 2),
-    (b"/a/./f", 2),
-    (b"/q", 3),
-    (b"/a/b/q/r", 3),
-    (b"/x", 3),
-    (b"/a/f/g", 4),
-    (b"/a/s/g", 4),
-];
+fn faults() -> &'static [(&'static [u8], u8)] {
+    &[
+        (b"/", 0),
+        (b"/a/b", 0),
+        (b"/a/f", 1),
+        (b"", 2),
+        (b"a", 2),
+        (b"/a/", 2),
+        (b"/a/./f", 2),
+        (b"/q", 3),
+        (b"/a/b/q/r", 3),
+        (b"/x", 3),
+        (b"/a/f/g", 4),
+        (b"/a/s/g", 4),
+    ]
+}
 
 #[test]
 fn paths_without_a_part(rt: HostRuntime) -> Result<(), Fail> {
     let image = image_of(rt.alloc(), TREE)?;
-    let Ok(mounted) = mount::<LittleEndian>(rt.alloc(), &image, LARGE) else {
-        return Err(Fail::from("no mount"));
-    };
-    for (path, wanted) in FAULTS {
+    let mounted = mount::<LittleEndian>(rt.alloc(), &image, LARGE)?;
+    for &(path, wanted) in faults() {
         equal(&rt, fault_of(part_at(rt.alloc(), &mounted, path)), wanted);
     }
     Ok(())

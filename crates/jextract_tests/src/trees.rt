@@ -8,6 +8,7 @@ use flashbase::FromWriter;
 use jextract::extract;
 use jmount::mount;
 use std::alloc::Global;
+use std::process::Abort;
 use std::test::Fail;
 use test_support::{DIRECTORY, FILE, Node, SYMLINK};
 
@@ -17,14 +18,12 @@ fn extracted(
     alloc: Global,
     nodes: &[Node<'_>],
     owners: bool,
-) -> Result<(String, (u64, u64), Vec<u8>), &'static str> {
+) -> Result<(String, (u64, u64), Vec<u8>), Fail> {
     let image = image_of(alloc, nodes)?;
-    let mounted = mount::<LittleEndian>(alloc, &image, LARGE).map_err(|_| "no mount")?;
+    let mounted = mount::<LittleEndian>(alloc, &image, LARGE)?;
     let mut folder = Recorder::new(alloc, u64::MAX, u64::MAX);
     let mut notes = FromWriter::new(Vec::new(alloc));
-    let totals = extract(alloc, &mounted, owners, &mut folder, &mut notes).map_err(
-        |_| "not extracted",
-    )?;
+    let totals = extract(alloc, &mounted, owners, &mut folder, &mut notes)?;
     let counted = (totals.left_out, totals.lost_bits);
     Ok((folder.lines, counted, notes.into_writer()))
 }
@@ -150,24 +149,38 @@ left out /g: bad target\n\
 left out /h: bad target\n",
 );
 
-const ROWS: [Row; 5] = [PLAIN_TREE, BAD_NAMES, TWINS, CIRCLE, OTHER_KINDS];
+fn rows() -> &'static [Row] {
+    &[PLAIN_TREE, BAD_NAMES, TWINS, CIRCLE, OTHER_KINDS]
+}
 
-#[test]
-fn worked_trees(rt: HostRuntime) -> Result<(), Fail> {
-    for (nodes, made, counted, told) in ROWS {
-        let (lines, totals, notes) = extracted(rt.alloc(), nodes, false)?;
-        equal(&rt, lines.as_str(), made);
-        equal(&rt, totals, counted);
-        equal(&rt, notes.as_slice(), told.as_bytes());
-    }
+/// Stops the test unless this is made and told of a tree.
+fn is_made(rt: &impl Abort, alloc: Global, row: &Row) -> Result<(), Fail> {
+    let (nodes, made, counted, told) = row;
+    let (lines, totals, notes) = extracted(alloc, nodes, false)?;
+    equal(rt, lines.as_str(), *made);
+    equal(rt, totals, *counted);
+    equal(rt, notes.as_slice(), told.as_bytes());
     Ok(())
 }
 
 #[test]
+fn worked_trees(rt: HostRuntime) -> Result<(), Fail> {
+    for row in rows() {
+        is_made(&rt, rt.alloc(), row)?;
+    }
+    Ok(())
+}
+
+/// Whether no path is made twice of a tree, with its owners.
+fn is_each_made_once(alloc: Global, row: &Row) -> Result<bool, Fail> {
+    let (lines, _, _) = extracted(alloc, row.0, true)?;
+    Ok(is_made_once(alloc, lines.as_str())?)
+}
+
+#[test]
 fn no_path_is_made_twice(rt: HostRuntime) -> Result<(), Fail> {
-    for (nodes, ..) in ROWS {
-        let (lines, _, _) = extracted(rt.alloc(), nodes, true)?;
-        expect(&rt, is_made_once(rt.alloc(), lines.as_str())?);
+    for row in rows() {
+        expect(&rt, is_each_made_once(rt.alloc(), row)?);
     }
     expect(
         &rt,
@@ -209,8 +222,19 @@ fn bits_that_go_with_owners(rt: HostRuntime) -> Result<(), Fail> {
     equal(
         &rt,
         lines.as_str(),
-        "directory \nfile a\ncontent a [x] 755 7 5\nlink b a\nfile c\ncontent c [x] 711 7 5\nfile e\n\
-content e [x] 0 7 5\ndirectory f\nattributes f 1775 7 5\nfile g\ncontent g [x] 1644 7 5\nattributes  755 0 0\n",
+        "directory \n\
+file a\n\
+content a [x] 755 7 5\n\
+link b a\n\
+file c\n\
+content c [x] 711 7 5\n\
+file e\n\
+content e [x] 0 7 5\n\
+directory f\n\
+attributes f 1775 7 5\n\
+file g\n\
+content g [x] 1644 7 5\n\
+attributes  755 0 0\n",
     );
     equal(&rt, totals, (0, 4));
     let (lines, totals, _) = extracted(rt.alloc(), &nodes, true)?;

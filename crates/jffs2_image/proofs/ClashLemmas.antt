@@ -25,7 +25,7 @@ use Rattle.jexpand.specs.declared.fault.ConvertFault.TheVariants as convert
 use Rattle.jreport.specs.Notes.{note_line_of}
 use Rattle.jreport.specs.declared.faults.ProgramFault.{ProgramFault}
 use Rattle.jreport.specs.declared.faults.ProgramFault.TheVariants as program
-use Rattle.jffs2_image.specs.ClashRuns.{DecompressesApartFile, DecompressesApartNamed, FinishesApart, HoldsApart, note_if_any}
+use Rattle.jffs2_image.specs.ClashRuns.{DecompressesApartFile, DecompressesApartNamed, HoldsApart, note_if_any}
 use Rattle.jffs2_image.specs.Compressing.{CompressionAsked}
 use Rattle.jffs2_image.specs.Decompressing.{HoldsMade, IsNotWritten, fault_of_conversion}
 use Rattle.jffs2_image.specs.Host.{BlamesDecompress, MakesFile}
@@ -134,37 +134,6 @@ apart_not_written held e size output image old n stay left (program.NoSpace fold
 apart_not_written held e size output image old n stay left (program.Data addr) is parts not = absurd not
 apart_not_written held e size output image old n stay left (program.TooLong addr) is parts not = absurd not
 apart_not_written held e size output image old n stay left (program.Clash addr other) is parts not = absurd not
-
--- ---- to the last byte
-
--- a fault stays what it is, whether the output was finished or not
-pub apart_failed : (A E : Type 0) (asked : CompressionAsked) (reading : FileReads) (writing : FileWrites) (untouched : Type 0) (output : SinkChange) (taken : Option (List ℕ)) (count : ℕ) (fault : ProgramFault)
-    (finished : Result A E) (result : Result ApartDone ProgramFault)
-    → DecompressesApartNamed writing.held asked.options.endian asked (reading.told asked.image) (record { old = output.old; new = taken; before = output.before; now = count }) (Err fault)
-    → BlamesDecompress {T = ApartDone} untouched (MakesFile asked.output writing.names_old writing.names_new) reading.before reading.now writing.before writing.now (Err fault)
-    → OnOk finished (Keeps taken output.new) → IsBehind output.new taken → CountsErr count output.now finished → IsErrAnd result (λ is. is ≡ fault)
-    → FinishesApart asked reading writing untouched output result
-apart_failed A E asked reading writing untouched output taken count fault finished (Ok n) named host kept behind counts is = absurd is
-apart_failed A E asked reading writing untouched output taken count fault (Ok x) (Err other) named host kept behind counts is = record {
-  taken = taken;
-  count = count;
-  answer = Err fault;
-  finished = true;
-  decompresses = named;
-  finishes = (kept, counts);
-  comes_to = cc;
-  host = host;
-}
-apart_failed A E asked reading writing untouched output taken count fault (Err x) (Err other) named host kept behind counts is = record {
-  taken = taken;
-  count = count;
-  answer = Err fault;
-  finished = false;
-  decompresses = named;
-  finishes = (behind, counts);
-  comes_to = cc;
-  host = host;
-}
 
 -- ---- as a command
 

@@ -1,9 +1,10 @@
 -- A command is to blame for what its request is to blame for.
-use Rattle.std.proofs.Common.{ℕ, Ok, Err, inl, inr}
+use Rattle.std.proofs.Common.{ℕ, Bool, true, false, Result, Ok, Err, inl, inr}
 use Rattle.jnode.specs.declared.order.Endian.{Endian}
 use Rattle.jcommand.specs.Parsed.{Parsed, ScanParsed, CheckParsed, ListParsed, CatParsed, BuildParsed, AppendParsed, DecompressParsed}
 use Rattle.jreport.specs.declared.faults.ProgramFault.{ProgramFault}
 use Rattle.jffs2_image.specs.Host.{BlamesFor, MakesFile}
+use Rattle.jffs2_image.specs.Runs.{answer_finished}
 use Rattle.jffs2_image.specs.Writes.{FileReads, FileWrites}
 use Rattle.jffs2_image.proofs.DecompressingLemmas.{decompress_any, reads_any, refused_any, refused_none}
 use Rattle.jffs2_image.proofs.HostLemmas.{any_blame}
@@ -31,3 +32,18 @@ for_answer T e (AppendParsed options blocks page decompress image listing output
 for_answer T e (AppendParsed options blocks page decompress image listing output) u reading writing n x (inr w) =
     absurd (refused_none ℕ decompress e options.geometry.block (reading.told image) _ n w)
 for_answer T e (DecompressParsed options image output) u reading writing n x w = w
+
+-- an output that fails in the end blames no other file
+pub for_finished : (e : Endian) (parsed : Parsed) (u : Type 0) (reading : FileReads) (writing : FileWrites) (answer : Result ℕ ProgramFault) (all : Bool)
+    → BlamesFor {T = ℕ} e parsed u reading writing answer → BlamesFor {T = ℕ} e parsed u reading writing (answer_finished answer all)
+for_finished e parsed u reading writing (Ok n) true w = w
+for_finished e (ScanParsed options image) u reading writing (Ok n) false w = w
+for_finished e (CheckParsed options shape image) u reading writing (Ok n) false w = w
+for_finished e (ListParsed options decompress image path) u reading writing (Ok n) false w = w
+for_finished e (CatParsed options decompress image path) u reading writing (Ok n) false w = w
+for_finished e (BuildParsed options blocks page listing output) u reading writing (Ok n) false w = w.2
+for_finished e (AppendParsed options blocks page decompress image listing output) u reading writing (Ok n) false (inl w) = inl w.2
+for_finished e (AppendParsed options blocks page decompress image listing output) u reading writing (Ok n) false (inr w) =
+    absurd (refused_none ℕ decompress e options.geometry.block (reading.told image) _ n w)
+for_finished e (DecompressParsed options image output) u reading writing (Ok n) false w = w.2
+for_finished e parsed u reading writing (Err f) all w = w

@@ -17,7 +17,7 @@ use Rattle.jexpand.specs.declared.fault.ConvertFault.{ConvertFault}
 use Rattle.jexpand.specs.declared.fault.ConvertFault.TheVariants as convert
 use Rattle.jreport.specs.declared.faults.ProgramFault.{ProgramFault}
 use Rattle.jreport.specs.declared.faults.ProgramFault.TheVariants as program
-use Rattle.jffs2_image.specs.Compressing.{CompressesFile, CompressesNamed, CompressionAsked, FinishesCompression, GivesPacked, HoldsPacked}
+use Rattle.jffs2_image.specs.Compressing.{CompressesFile, CompressesNamed, CompressionAsked, GivesPacked, HoldsPacked}
 use Rattle.jffs2_image.specs.Decompressing.{HoldsMade, IsNotWritten, fault_of_conversion}
 use Rattle.jffs2_image.specs.Host.{BlamesDecompress, MakesFile}
 use Rattle.jffs2_image.specs.Runs.{Says}
@@ -139,37 +139,6 @@ blames_any S T u v rb rn mb mn (program.NoSpace folder) blames = blames
 blames_any S T u v rb rn mb mn (program.Data addr) blames = blames
 blames_any S T u v rb rn mb mn (program.TooLong addr) blames = blames
 blames_any S T u v rb rn mb mn (program.Clash addr other) blames = blames
-
--- ---- to the last byte
-
--- a fault stays what it is, whether the output was finished or not
-pub stays_failed : (A E : Type 0) (asked : CompressionAsked) (reading : FileReads) (writing : FileWrites) (untouched : Type 0) (output : SinkChange) (taken : Option (List ℕ)) (count : ℕ) (fault : ProgramFault)
-    (finished : Result A E) (result : Result ℕ ProgramFault)
-    → CompressesNamed writing.held asked.options.endian asked (reading.told asked.image) (record { old = output.old; new = taken; before = output.before; now = count }) (Err fault)
-    → BlamesDecompress {T = ℕ} untouched (MakesFile asked.output writing.names_old writing.names_new) reading.before reading.now writing.before writing.now (Err fault)
-    → OnOk finished (Keeps taken output.new) → IsBehind output.new taken → CountsErr count output.now finished → IsErrAnd result (λ is. is ≡ fault)
-    → FinishesCompression asked reading writing untouched output result
-stays_failed A E asked reading writing untouched output taken count fault finished (Ok n) named host kept behind counts is = absurd is
-stays_failed A E asked reading writing untouched output taken count fault (Ok x) (Err other) named host kept behind counts is = record {
-  taken = taken;
-  count = count;
-  answer = Err fault;
-  finished = true;
-  compresses = named;
-  finishes = (kept, counts);
-  comes_to = cc;
-  host = host;
-}
-stays_failed A E asked reading writing untouched output taken count fault (Err x) (Err other) named host kept behind counts is = record {
-  taken = taken;
-  count = count;
-  answer = Err fault;
-  finished = false;
-  compresses = named;
-  finishes = (behind, counts);
-  comes_to = cc;
-  host = host;
-}
 
 -- ---- as a command
 

@@ -25,7 +25,7 @@ use Rattle.jreport.specs.Refusal.{IsRefusalTold}
 use Rattle.jreport.specs.declared.faults.ProgramFault.{ProgramFault}
 use Rattle.jreport.proofs.RefusalLemmas.{refusal_cases}
 use Rattle.jreport.specs.declared.faults.ProgramFault.TheVariants as program
-use Rattle.jffs2_image.specs.CutRuns.{BlamesReading, CutsAsked, FinishesCuts, IsBaseOf, IsLinesFault, TellsFiles, TellsLines, TellsOn, TellsText, answer_of_cuts, flash_asked}
+use Rattle.jffs2_image.specs.CutRuns.{BlamesReading, CutsAsked, IsBaseOf, IsLinesFault, TellsFiles, TellsLines, TellsOn, TellsText, answer_of_cuts, flash_asked}
 use Rattle.jffs2_image.specs.Host.{AreAllRead, AreLoaded, AreRead, HaveBytes, IsReadFault}
 use Rattle.jffs2_image.specs.Writes.{IsBehind, IsPartUnread, IsUnreadFile}
 
@@ -149,26 +149,3 @@ told_files told later e flash on listing base text sink r same is loaded tells =
 pub listing_unread : (told : List ℕ → Option (List ℕ)) (e : Endian) (flash : Flash) (on : Option (List ℕ)) (listing base : List ℕ) (sink : SinkChange) (f : ProgramFault)
     → IsBaseOf told on base → IsUnreadFile listing (told listing) f → sink.new ≡ sink.old → sink.now ≡ sink.before → TellsFiles told e flash on listing sink (Err f)
 listing_unread told e flash on listing base sink f is unread new now = inr (f, refl, inr ((base, is), unread), new, now)
-
--- a fault stays what it is
-pub still_failed : (A E : Type 0) (told : List ℕ → Option (List ℕ)) (asked : CutsAsked) (output : SinkChange) (taken : Option (List ℕ)) (count : ℕ) (fault : ProgramFault) (finished : Result A E)
-    → TellsFiles told asked.options.endian (flash_asked asked) asked.on asked.listing (record { old = output.old; new = taken; before = output.before; now = count }) (Err fault)
-    → OnOk finished (Keeps taken output.new) → IsBehind output.new taken → CountsErr count output.now finished → FinishesCuts told asked output (Err fault)
-still_failed A E told asked output taken count fault (Ok x) tells kept behind counts = record {
-  taken = taken;
-  count = count;
-  answer = Err fault;
-  finished = true;
-  tells = tells;
-  finishes = (kept, counts);
-  comes_to = refl;
-}
-still_failed A E told asked output taken count fault (Err x) tells kept behind counts = record {
-  taken = taken;
-  count = count;
-  answer = Err fault;
-  finished = false;
-  tells = tells;
-  finishes = (behind, counts);
-  comes_to = refl;
-}

@@ -8,7 +8,7 @@ use Rattle.flashbase.specs.Sinks.{SinkChange}
 use Rattle.jcommand.specs.declared.parsed.Options.{Options}
 use Rattle.jreport.specs.Refusal.{IsRefusalTold}
 use Rattle.jreport.specs.declared.faults.ProgramFault.{ProgramFault}
-use Rattle.jffs2_image.specs.DamageRuns.{TellsDamage, FinishesDamage}
+use Rattle.jffs2_image.specs.DamageRuns.{TellsDamage}
 use Rattle.jffs2_image.specs.Writes.{IsBehind}
 
 -- an image that does not mount is why
@@ -16,28 +16,3 @@ pub not_mounted : (options : Options) (image : List ℕ) (output : SinkChange) (
     → IsRefusalTold options.endian options.geometry.block image fault → output.new ≡ output.old → output.now ≡ output.before → TellsDamage options image output r
 not_mounted options image output fault (Ok n) is why same count = absurd is
 not_mounted options image output fault (Err x) is why same count = inr (fault, ap Err is, why, same, count)
-
--- a fault stays what it is, whether the output was finished or not
-pub stopped_telling : (A E : Type 0) (options : Options) (image : List ℕ) (output : SinkChange) (taken : Option (List ℕ)) (count : ℕ) (fault : ProgramFault) (finished : Result A E) (r : Result ℕ ProgramFault)
-    → TellsDamage options image (record { old = output.old; new = taken; before = output.before; now = count }) (Err fault)
-    → OnOk finished (Keeps taken output.new) → IsBehind output.new taken → CountsErr count output.now finished
-    → IsErrAnd r (λ is. is ≡ fault) → FinishesDamage options image output r
-stopped_telling A E options image output taken count fault finished (Ok n) tells kept behind counts is = absurd is
-stopped_telling A E options image output taken count fault (Ok x) (Err other) tells kept behind counts is = record {
-  taken = taken;
-  count = count;
-  answer = Err fault;
-  finished = true;
-  tells = tells;
-  finishes = (kept, counts);
-  comes_to = ap Err is;
-}
-stopped_telling A E options image output taken count fault (Err x) (Err other) tells kept behind counts is = record {
-  taken = taken;
-  count = count;
-  answer = Err fault;
-  finished = false;
-  tells = tells;
-  finishes = (behind, counts);
-  comes_to = ap Err is;
-}

@@ -16,3 +16,6 @@ pub mod WeakLemmas
 mod PackedTreeLemmas
 pub mod PackLemmas
 mod FirstLemmas
+mod KeepingLemmas
+mod FinishLemmas
+mod SameLemmas

@@ -17,18 +17,6 @@ use Rattle.jffs2_image.proofs.PackedTreeLemmas.{gives_folder}
 use Rattle.jffs2_image.specs.declared.packing.Listed.{Listed}
 use Rattle.jffs2_image.specs.declared.weak.Notes.{Notes}
 
--- a fault stays what it is, whether the output was finished or not
-pub stays_unwritten : (A E : Type 0) (asked : PackingParsed) (text : List ℕ) (u : Type 0) (reading : FileReads) (writing : FileWrites) (output : SinkChange) (notes : Notes) (taken : Option (List ℕ)) (count : ℕ)
-    (fault : ProgramFault) (finished : Result A E) (result : Result ℕ ProgramFault)
-    → PutsText asked text u reading writing (record { old = output.old; new = taken; before = output.before; now = count }) notes (Err fault)
-    → OnOk finished (Keeps taken output.new) → IsBehind output.new taken → CountsErr count output.now finished → IsErrAnd result (λ is. is ≡ fault)
-    → WritesText asked text u reading writing output notes result
-stays_unwritten A E asked text u reading writing output notes taken count fault finished (Ok n) puts kept behind counts is = absurd is
-stays_unwritten A E asked text u reading writing output notes taken count fault (Ok x) (Err other) puts kept behind counts is =
-    record { taken = taken; count = count; answer = Err fault; finished = true; puts = puts; finishes = (kept, counts); comes_to = cc }
-stays_unwritten A E asked text u reading writing output notes taken count fault (Err x) (Err other) puts kept behind counts is =
-    record { taken = taken; count = count; answer = Err fault; finished = false; puts = puts; finishes = (behind, counts); comes_to = cc }
-
 -- ---- a folder whose listing was read
 
 reads_text : (known : Known) (options : Options) (name : List ℕ) (notes : SinkChange) (listed : Listed) → ReadsGiven known options name notes (Ok listed) → ReadsListing known options name notes (Ok listed)

@@ -24,7 +24,7 @@ use Rattle.jreport.specs.declared.faults.ProgramFault.TheVariants as program
 use Rattle.jffs2_image.specs.Compressing.{CompressionAsked}
 use Rattle.jffs2_image.specs.Decompressing.{HoldsMade, IsNotConverted, IsNotWritten, line_of_counts}
 use Rattle.jffs2_image.specs.Host.{AreLoaded, BlamesDecompress, MakesFile}
-use Rattle.jffs2_image.specs.Runs.{Finishes, IsSaid}
+use Rattle.jffs2_image.specs.Runs.{GoesOut, IsSaid}
 use Rattle.jffs2_image.specs.Writes.{Held, IsUnreadFile, FileReads, FileWrites}
 use Rattle.jffs2_image.specs.declared.clashes.ApartDone.{ApartDone}
 
@@ -88,11 +88,6 @@ DecompressesApartNamed held e asked bytes told answer =
 
 -- ---- as a command
 
-abbrev pub apart_finished : Result ApartDone ProgramFault → Bool → Result ApartDone ProgramFault
-apart_finished (Ok done) true = Ok done
-apart_finished (Ok done) false = Err program.Output
-apart_finished (Err fault) finished = Err fault
-
 -- what is said on standard error: a line for each node that is left out and the note on findings,
 -- or the fault
 abbrev pub said_of_apart : Result ApartDone ProgramFault → List ℕ
@@ -104,20 +99,13 @@ abbrev pub outcome_of_apart : Result ApartDone ProgramFault → Outcome
 outcome_of_apart (Ok done) = outcome_of (length done.left.items)
 outcome_of_apart (Err fault) = outcome.Fault
 
--- The file of a name is decompressed into that of another, all that was put is given on, and a
--- fault is blamed on the file that failed. `untouched`: no file is made.
-pub record FinishesApart (asked : CompressionAsked) (reading : FileReads) (writing : FileWrites)
-    (untouched : Type 0) (output : SinkChange) (result : Result ApartDone ProgramFault) : Type
-    0 where
-  pub taken : Option (List ℕ)
-  pub count : ℕ
-  pub answer : Result ApartDone ProgramFault
-  pub finished : Bool
+-- The file of a name is decompressed into that of another, and a fault is blamed on the file that
+-- failed. `untouched`: no file is made.
+pub record DecompressesApartAsked (asked : CompressionAsked) (reading : FileReads)
+    (writing : FileWrites) (untouched : Type 0) (told : SinkChange)
+    (answer : Result ApartDone ProgramFault) : Type 0 where
   pub decompresses : DecompressesApartNamed writing.held asked.options.endian asked
-      (reading.told asked.image)
-      (record { old = output.old; new = taken; before = output.before; now = count }) answer
-  pub finishes : Finishes taken output.new count output.now finished
-  pub comes_to : result ≡ apart_finished answer finished
+      (reading.told asked.image) told answer
   pub host : BlamesDecompress untouched
       (MakesFile asked.output writing.names_old writing.names_new) reading.before reading.now
       writing.before writing.now answer
@@ -126,7 +114,7 @@ pub record FinishesApart (asked : CompressionAsked) (reading : FileReads) (writi
 pub record EndsApart (asked : CompressionAsked) (reading : FileReads) (writing : FileWrites)
     (untouched : Type 0) (output errors : SinkChange) (result : Outcome) : Type 0 where
   pub answer : Result ApartDone ProgramFault
-  pub decompresses : FinishesApart asked reading writing untouched output answer
+  pub decompresses : GoesOut (DecompressesApartAsked asked reading writing untouched) output answer
   pub said : IsSaid errors.old errors.new errors.before errors.now (said_of_apart answer)
   pub ends : result ≡ outcome_of_apart answer
 

@@ -20,7 +20,7 @@ use Rattle.jreport.specs.declared.faults.ProgramFault.{ProgramFault}
 use Rattle.jreport.specs.declared.faults.ProgramFault.TheVariants as program
 use Rattle.jffs2_image.specs.Decompressing.{HoldsMade, IsNotWritten, fault_of_conversion}
 use Rattle.jffs2_image.specs.Host.{AreLoaded, BlamesDecompress, MakesFile}
-use Rattle.jffs2_image.specs.Runs.{Finishes, Says, answer_finished, note_after}
+use Rattle.jffs2_image.specs.Runs.{GoesOut, Says, note_after}
 use Rattle.jffs2_image.specs.Writes.{GivesText, Held, IsUnreadFile, FileReads, FileWrites}
 
 -- a beginning of an image of these nodes was given on
@@ -96,20 +96,13 @@ abbrev pub outcome_of_compression : Result ℕ ProgramFault → Outcome
 outcome_of_compression (Ok n) = outcome.Done
 outcome_of_compression (Err fault) = outcome.Fault
 
--- The file of a name is compressed into that of another, all that was put is given on, and a fault
--- is blamed on the file that failed. `untouched`: no file is made.
-pub record FinishesCompression (asked : CompressionAsked) (reading : FileReads)
-    (writing : FileWrites) (untouched : Type 0) (output : SinkChange)
-    (result : Result ℕ ProgramFault) : Type 0 where
-  pub taken : Option (List ℕ)
-  pub count : ℕ
-  pub answer : Result ℕ ProgramFault
-  pub finished : Bool
+-- The file of a name is compressed into that of another, and a fault is blamed on the file that
+-- failed. `untouched`: no file is made.
+pub record CompressesAsked (asked : CompressionAsked) (reading : FileReads)
+    (writing : FileWrites) (untouched : Type 0) (told : SinkChange)
+    (answer : Result ℕ ProgramFault) : Type 0 where
   pub compresses : CompressesNamed writing.held asked.options.endian asked
-      (reading.told asked.image)
-      (record { old = output.old; new = taken; before = output.before; now = count }) answer
-  pub finishes : Finishes taken output.new count output.now finished
-  pub comes_to : result ≡ answer_finished answer finished
+      (reading.told asked.image) told answer
   pub host : BlamesDecompress untouched
       (MakesFile asked.output writing.names_old writing.names_new) reading.before reading.now
       writing.before writing.now answer
@@ -118,7 +111,7 @@ pub record FinishesCompression (asked : CompressionAsked) (reading : FileReads)
 pub record EndsCompression (asked : CompressionAsked) (reading : FileReads) (writing : FileWrites)
     (untouched : Type 0) (output errors : SinkChange) (result : Outcome) : Type 0 where
   pub answer : Result ℕ ProgramFault
-  pub compresses : FinishesCompression asked reading writing untouched output answer
+  pub compresses : GoesOut (CompressesAsked asked reading writing untouched) output answer
   pub said : Says ((errors.new ≡ errors.old) × (errors.now ≡ errors.before)) errors.old errors.new
       errors.before errors.now (said_after_compression answer)
   pub ends : result ≡ outcome_of_compression answer

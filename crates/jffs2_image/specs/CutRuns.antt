@@ -31,7 +31,7 @@ use Rattle.jcommand.specs.declared.parsed.Options.{Options}
 use Rattle.jcommand.specs.declared.outcome.Outcome.{Outcome}
 use Rattle.jcommand.specs.declared.outcome.Outcome.TheVariants as outcome
 use Rattle.jffs2_image.specs.Host.{AreAllRead, AreLoaded, HaveBytes}
-use Rattle.jffs2_image.specs.Runs.{Finishes, Says, answer_finished}
+use Rattle.jffs2_image.specs.Runs.{GoesOut, Says}
 use Rattle.jffs2_image.specs.Writes.{IsNamedByLine, IsPartUnread, IsUnreadFile, FileReads, flash_plan}
 
 -- ---- the lines of a listing
@@ -156,17 +156,10 @@ abbrev pub flash_asked : CutsAsked → Flash
 flash_asked asked =
     record { geometry = asked.options.geometry; blocks = asked.blocks; page = asked.page }
 
--- It is told, and all that was put is given on.
-pub record FinishesCuts (told : List ℕ → Option (List ℕ)) (asked : CutsAsked) (output : SinkChange)
-    (result : Result ℕ ProgramFault) : Type 0 where
-  pub taken : Option (List ℕ)
-  pub count : ℕ
-  pub answer : Result ℕ ProgramFault
-  pub finished : Bool
-  pub tells : TellsFiles told asked.options.endian (flash_asked asked) asked.on asked.listing
-      (record { old = output.old; new = taken; before = output.before; now = count }) answer
-  pub finishes : Finishes taken output.new count output.now finished
-  pub comes_to : result ≡ answer_finished answer finished
+abbrev pub TellsAsked : (List ℕ → Option (List ℕ)) → CutsAsked → SinkChange
+    → Result ℕ ProgramFault → Type 0
+TellsAsked told asked =
+    TellsFiles told asked.options.endian (flash_asked asked) asked.on asked.listing
 
 -- on standard error: a fault
 abbrev pub said_after_cuts : Result ℕ ProgramFault → Option (List ℕ)
@@ -181,7 +174,7 @@ outcome_of_cuts (Err fault) = outcome.Fault
 pub record EndsCuts (asked : CutsAsked) (reading : FileReads) (output errors : SinkChange)
     (result : Outcome) : Type 0 where
   pub answer : Result ℕ ProgramFault
-  pub tells : FinishesCuts reading.told asked output answer
+  pub tells : GoesOut (TellsAsked reading.told asked) output answer
   pub blames : BlamesReading reading.before reading.now answer
   pub said : Says ((errors.new ≡ errors.old) × (errors.now ≡ errors.before)) errors.old errors.new
       errors.before errors.now (said_after_cuts answer)

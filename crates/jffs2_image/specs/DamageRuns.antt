@@ -15,7 +15,7 @@ use Rattle.jcommand.specs.declared.parsed.Options.{Options}
 use Rattle.jcommand.specs.declared.outcome.Outcome.{Outcome}
 use Rattle.jffs2_image.specs.DiffRuns.{IsBlamedFile, said_after_diff, outcome_of_diff}
 use Rattle.jffs2_image.specs.Host.{AreLoaded}
-use Rattle.jffs2_image.specs.Runs.{Finishes, Says, answer_finished}
+use Rattle.jffs2_image.specs.Runs.{GoesOut, Says}
 use Rattle.jffs2_image.specs.Writes.{FileReads}
 
 -- how many damaged nodes and missing objects are told, to the greatest u64, or why not all
@@ -42,28 +42,12 @@ TellsDamage options image output result =
     × IsRefusalTold options.endian options.geometry.block image fault
     × (output.new ≡ output.old) × (output.now ≡ output.before))
 
--- the same, and all that was put is given on
-pub record FinishesDamage (options : Options) (image : List ℕ) (output : SinkChange)
-    (result : Result ℕ ProgramFault) : Type 0 where
-  pub taken : Option (List ℕ)
-  pub count : ℕ
-  pub answer : Result ℕ ProgramFault
-  pub finished : Bool
-  pub tells : TellsDamage options image (record {
-    old = output.old;
-    new = taken;
-    before = output.before;
-    now = count;
-  }) answer
-  pub finishes : Finishes taken output.new count output.now finished
-  pub comes_to : result ≡ answer_finished answer finished
-
--- the file was read, and its image is told of; no file failed
+-- the file was read, and what is told of its image goes out; no file failed
 pub record TellsFile (options : Options) (file : List ℕ) (reading : FileReads) (output : SinkChange)
     (result : Result ℕ ProgramFault) : Type 0 where
   pub image : List ℕ
   pub of_file : AreLoaded (reading.told file) image
-  pub tells : FinishesDamage options image output result
+  pub tells : GoesOut (TellsDamage options image) output result
   pub reads : reading.now ≡ reading.before
 
 -- the same; or it can't be read to its end, and `untouched` holds, the output is as it was

@@ -15,7 +15,7 @@ use Rattle.jcommand.specs.declared.parsed.Options.{Options}
 use Rattle.jcommand.specs.declared.outcome.Outcome.{Outcome}
 use Rattle.jcommand.specs.declared.outcome.Outcome.TheVariants as outcome
 use Rattle.jffs2_image.specs.Host.{AreLoaded, ReadsFile}
-use Rattle.jffs2_image.specs.Runs.{Finishes, Says, answer_finished}
+use Rattle.jffs2_image.specs.Runs.{GoesOut, Says}
 use Rattle.jffs2_image.specs.Writes.{IsUnreadFile, FileReads}
 
 -- how two images are compared
@@ -49,22 +49,6 @@ DiffersOf by first second output result =
     × IsUnmounted by first second fault
     × (output.new ≡ output.old) × (output.now ≡ output.before))
 
--- the same, and all that was put is given on
-pub record FinishesDiff (by : Comparing) (first second : List ℕ) (output : SinkChange)
-    (result : Result ℕ ProgramFault) : Type 0 where
-  pub taken : Option (List ℕ)
-  pub count : ℕ
-  pub answer : Result ℕ ProgramFault
-  pub finished : Bool
-  pub differs : DiffersOf by first second (record {
-    old = output.old;
-    new = taken;
-    before = output.before;
-    now = count;
-  }) answer
-  pub finishes : Finishes taken output.new count output.now finished
-  pub comes_to : result ≡ answer_finished answer finished
-
 -- ---- the files of two names
 
 -- a file is not read to its end, and is blamed for what it did
@@ -79,14 +63,14 @@ IsFirstUnread first second reading fault =
     ⊎ ((bytes : List ℕ) × AreLoaded (reading.told first) bytes
     × IsBlamedFile second reading fault)
 
--- both files were read, and their images are compared; no file failed
+-- both files were read, and what their images differ in goes out; no file failed
 pub record DiffersAsFiles (by : Comparing) (first second : List ℕ) (reading : FileReads)
     (output : SinkChange) (result : Result ℕ ProgramFault) : Type 0 where
   pub image : List ℕ
   pub other : List ℕ
   pub of_first : AreLoaded (reading.told first) image
   pub of_second : AreLoaded (reading.told second) other
-  pub differs : FinishesDiff by image other output result
+  pub differs : GoesOut (DiffersOf by image other) output result
   pub reads : reading.now ≡ reading.before
 
 -- the same; or one of them can't be read to its end, and `untouched` holds, the output is as it was

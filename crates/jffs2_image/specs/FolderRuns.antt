@@ -15,7 +15,7 @@ use Rattle.jcommand.specs.Status.{outcome_of}
 use Rattle.jcommand.specs.declared.outcome.Outcome.{Outcome}
 use Rattle.jcommand.specs.declared.outcome.Outcome.TheVariants as outcome
 use Rattle.jffs2_image.specs.Folders.{Extracting, FillsAsked, ListsFolder, settings}
-use Rattle.jffs2_image.specs.Runs.{Finishes, Says, answer_finished}
+use Rattle.jffs2_image.specs.Runs.{GoesOut, Says}
 use Rattle.jffs2_image.specs.declared.folders.Extracted.{Extracted}
 use Rattle.jffs2_image.specs.Writes.{FileReads}
 
@@ -86,25 +86,13 @@ abbrev pub outcome_of_listing : Result ℕ ProgramFault → Outcome
 outcome_of_listing (Ok n) = outcome_of n
 outcome_of_listing (Err fault) = outcome.Fault
 
--- The listing of the folder of a name, of which this is known, goes out, and all that was put is
--- given on.
-pub record FinishesListing (known : Known) (options : reading.Options) (name : List ℕ)
-    (output notes : SinkChange) (result : Result ℕ ProgramFault) : Type 0 where
-  pub taken : Option (List ℕ)
-  pub count : ℕ
-  pub answer : Result ℕ ProgramFault
-  pub finished : Bool
-  pub lists : ListsFolder known options name
-      (record { old = output.old; new = taken; before = output.before; now = count }) notes answer
-  pub finishes : Finishes taken output.new count output.now finished
-  pub comes_to : result ≡ answer_finished answer finished
-
--- The same by a host that gives the folder and takes it back; or there is no memory for it, and the
--- output and the notes are as they were.
+-- The listing of the folder of a name, of which this is known, goes out, by a host that gives the
+-- folder and takes it back; or there is no memory for it, and the output and the notes are as they
+-- were.
 abbrev pub ListsGiven : Type 0 → Known → reading.Options → List ℕ → SinkChange → SinkChange
     → Result ℕ ProgramFault → Type 0
 ListsGiven untouched known options name output notes result =
-    FinishesListing known options name output notes result
+    GoesOut (λ sink answer. ListsFolder known options name sink notes answer) output result
     ⊎ ((result ≡ Err program.OutOfMemory) × untouched × (notes.new ≡ notes.old)
     × (notes.now ≡ notes.before))
 

@@ -20,7 +20,7 @@ use Rattle.jcommand.specs.declared.outcome.Outcome.TheVariants as outcome
 use Rattle.jffs2_image.specs.Folders.{IsListable, IsReadingFault, settings}
 use Rattle.jffs2_image.specs.Host.{Blames, MakesFile, RunsFiles}
 use Rattle.jffs2_image.specs.PackedTrees.{GivesFolder}
-use Rattle.jffs2_image.specs.Runs.{Finishes, Says, answer_finished}
+use Rattle.jffs2_image.specs.Runs.{GoesOut, Says}
 use Rattle.jffs2_image.specs.WeakRuns.{AreNotesOn, flash_given, notes_said}
 use Rattle.jffs2_image.specs.Writes.{ImageForm, WritesImage, image_form, FileReads, FileWrites}
 use Rattle.jffs2_image.specs.declared.packing.Listed.{Listed}
@@ -90,21 +90,11 @@ pub record PutsText (asked : PackingParsed) (text : List ℕ) (unmade : Type 0)
       (flash_given asked.options (blocks_of asked) asked.page) [] text notes)
 
 -- the same to the last byte of the line
-pub record WritesText (asked : PackingParsed) (text : List ℕ) (unmade : Type 0)
-    (reading : FileReads) (writing : FileWrites) (output : SinkChange) (notes : Notes)
-    (result : Result ℕ ProgramFault) : Type 0 where
-  pub taken : Option (List ℕ)
-  pub count : ℕ
-  pub answer : Result ℕ ProgramFault
-  pub finished : Bool
-  pub puts : PutsText asked text unmade reading writing (record {
-    old = output.old;
-    new = taken;
-    before = output.before;
-    now = count;
-  }) notes answer
-  pub finishes : Finishes taken output.new count output.now finished
-  pub comes_to : result ≡ answer_finished answer finished
+abbrev pub WritesText : PackingParsed → List ℕ → Type 0 → FileReads → FileWrites → SinkChange
+    → Notes → Result ℕ ProgramFault → Type 0
+WritesText asked text unmade reading writing output notes result =
+    GoesOut (λ sink answer. PutsText asked text unmade reading writing sink notes answer) output
+    result
 
 -- what it comes to that a text was written: the number of objects that were left out of it
 abbrev pub left_out_of : FolderTree → Result ℕ ProgramFault → Result ℕ ProgramFault

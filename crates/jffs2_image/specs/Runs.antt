@@ -202,24 +202,33 @@ abbrev pub Finishes : Option (List ℕ) → Option (List ℕ) → ℕ → ℕ �
 Finishes taken given before now true = Keeps taken given × (now ≡ before)
 Finishes taken given before now false = IsBehind given taken × (now ≡ next_count before)
 
--- the answer of a request whose output was finished
-abbrev pub answer_finished : Result ℕ ProgramFault → Bool → Result ℕ ProgramFault
-answer_finished (Ok n) true = Ok n
-answer_finished (Ok n) false = Err program.Output
+-- the answer of a command whose output was finished
+abbrev pub answer_finished : {T : Type 0} → Result T ProgramFault → Bool → Result T ProgramFault
+answer_finished (Ok found) true = Ok found
+answer_finished (Ok found) false = Err program.Output
 answer_finished (Err fault) finished = Err fault
 
--- A request is met in the order that it names, and all that was put is given on. The new bytes of
--- the output are those that it gave on.
-pub record MeetsWhole (told : List ℕ → Option (List ℕ)) (held : Held) (parsed : Parsed)
-    (output : SinkChange) (result : Result ℕ ProgramFault) : Type 0 where
+-- What a command puts and answers is as `Puts` says, and all that was put is given on, also before
+-- a fault. The new bytes of the output are those that it gave on.
+pub record GoesOut {T : Type 0} (Puts : SinkChange → Result T ProgramFault → Type 0)
+    (output : SinkChange) (result : Result T ProgramFault) : Type 0 where
   pub taken : Option (List ℕ)
   pub count : ℕ
-  pub answer : Result ℕ ProgramFault
+  pub answer : Result T ProgramFault
   pub finished : Bool
-  pub meets : Meets told held (options_parsed parsed).endian parsed
-      (record { old = output.old; new = taken; before = output.before; now = count }) answer
+  pub puts : Puts (record {
+    old = output.old;
+    new = taken;
+    before = output.before;
+    now = count;
+  }) answer
   pub finishes : Finishes taken output.new count output.now finished
   pub comes_to : result ≡ answer_finished answer finished
+
+-- A request is met in the order that it names, and all that was put is given on.
+abbrev pub MeetsWhole : (List ℕ → Option (List ℕ)) → Held → Parsed → SinkChange
+    → Result ℕ ProgramFault → Type 0
+MeetsWhole told held parsed = GoesOut (Meets told held (options_parsed parsed).endian parsed)
 
 -- ---- a run
 

@@ -3,8 +3,12 @@ use Rattle.std.specs.Prelude.{◌≡◌, ◌⊎◌, ℕ, List, Option, Some, Res
 use Rattle.flashbase.specs.Sinks.{SinkChange}
 use Rattle.jextract.specs.Folders.{Made}
 use Rattle.jfolder.specs.Known.{Known}
-use Rattle.jcommand.specs.Parsed.{IsFaultless, TaskParsed, parsed_from, placing_from}
+use Rattle.jnode.specs.declared.order.Endian.{Endian}
+use Rattle.jnode.specs.declared.order.Endian.TheVariants as endian
+use Rattle.jcommand.specs.Parsed.{IsFaultless, TaskParsed, options_of, parsed_from, placing_from}
 use Rattle.jcommand.specs.declared.parsed.Request.{Request}
+use Rattle.jcommand.specs.declared.parsed.Task.{Task}
+use Rattle.jcommand.specs.declared.parsed.Task.TheVariants as task
 use Rattle.jcommand.specs.declared.command_line.RequestFault.{RequestFault}
 use Rattle.jcommand.specs.declared.outcome.Outcome.{Outcome}
 use Rattle.jffs2_image.specs.ClashRuns.{RunsApart}
@@ -89,6 +93,20 @@ pack_around a = record {
   output = a.output;
   errors = a.errors;
 }
+
+-- the byte order that a task is given, where it is given one
+abbrev pub order_asked : Task → Endian
+order_asked (task.Image request) = (options_of request).endian
+order_asked (task.Weak request) = (options_of request).endian
+order_asked (task.Extract asked) = asked.options.endian
+order_asked (task.Listing asked) = endian.Little
+order_asked (task.Info image) = endian.Little
+order_asked (task.Cuts asked) = asked.options.endian
+order_asked (task.Compress asked) = asked.options.endian
+order_asked (task.Diff asked) = asked.options.endian
+order_asked (task.Apart asked) = asked.options.endian
+order_asked (task.Damage asked) = asked.options.endian
+order_asked (task.Pack asked) = asked.options.endian
 
 -- The words make a request, whose answer goes out, or are answered by a text; or they ask to fill
 -- or to read a folder, for what an image tells of itself, for what stands after a stop of writing

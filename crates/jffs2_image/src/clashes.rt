@@ -9,7 +9,7 @@ ghost use Rattle.jlog.specs.Places.{end_of_all};
 ghost use Rattle.jconvert.specs.Apart.{HaveRoom, image_of_nodes};
 ghost use Rattle.jconvert.specs.Converting.{least_written};
 ghost use Rattle.jcommand.specs.Status.{outcome_of};
-ghost use Rattle.jffs2_image.specs.ClashRuns.{DecompressesApartFile, DecompressesApartNamed, EndsApart, FinishesApart, left_line, left_lines, said_of_apart};
+ghost use Rattle.jffs2_image.specs.ClashRuns.{DecompressesApartFile, DecompressesApartNamed, EndsApart, left_line, left_lines, said_of_apart};
 ghost use Rattle.jffs2_image.specs.Decompressing.{HoldsMade, IsNotWritten};
 ghost use Rattle.jffs2_image.specs.Host.{BlamesDecompress, HasFailed, MakesFile};
 ghost use Rattle.jffs2_image.specs.Runs.{IsSaid};
@@ -19,16 +19,15 @@ ghost use Rattle.jffs2_image.specs.Placing.{telling, writes};
 
 use crate::decompressing::{conversion_fault, sink_cause};
 use crate::host::{Loader, MakeFault, Maker};
-use crate::output::Output;
+use crate::output::{Output, finished};
 use crate::program::{note, report_fault};
 use crate::writing::load_file;
-use byteorder::{BigEndian, LittleEndian};
 use flashbase::{DeviceFault, Sink};
-use jcommand::{Decompression, Options, Outcome};
+use jcommand::{Decompression, Outcome};
 use jconvert::{ConvertFault, LeftOut, Parted, judge, part, write_nodes};
 use jline::{LineBuffer, put_text};
 use jlog::SessionFault;
-use jnode::{Endian, NodeRef, Order};
+use jnode::{NodeRef, Order};
 use jreport::{ProgramFault, Unopened, found_in, put_decompressed};
 use jscan::Geometry;
 use std::alloc::Global;
@@ -148,27 +147,31 @@ pub fn decompress_apart_into<'a, E: Order, M: Maker, T: Sink>(
     }
 }
 
-/// The same of the file of a name.
-pub fn apart_file<'a, E: Order, L: Loader, M: Maker, T: Sink>(
+/// The same of the file that is asked for.
+fn apart_file<'a, E: Order, L: Loader, M: Maker, T: Sink>(
     alloc: Global,
     loader: &mut L,
     maker: &mut M,
-    options: Options,
-    image: &'a str,
-    output: &'a str,
+    asked: Decompression<'a>,
     sink: &mut T,
 ) -> Result<ApartDone, ProgramFault<'a>>
-    ensures decompresses { DecompressesApartNamed (M.held maker.old, M.held maker.new) E.order
-        (record {
-          options = options;
-          image = image.entry.now;
-          output = output.entry.now;
-        }) (L.told loader.old image.entry.now) (change_of T.Sink sink.old sink.new) result }
+    requires { asked.options.endian ≡ E.order }
+    ensures decompresses { DecompressesApartNamed (M.held maker.old, M.held maker.new)
+        asked.entry.options.endian (record {
+          options = asked.entry.options;
+          image = asked.entry.image.now;
+          output = asked.entry.output.now;
+        }) (L.told loader.old asked.entry.image.now) (change_of T.Sink sink.old sink.new) result }
     ensures host { BlamesDecompress (maker.new ≡ maker.old)
-        (MakesFile output.entry.now (M.names maker.old) (M.names maker.new))
+        (MakesFile asked.entry.output.now (M.names maker.old) (M.names maker.new))
         (L.failures loader.old) (L.failures loader.new)
         (M.failures maker.old) (M.failures maker.new) result }
 {
+    let Decompression {
+        options,
+        image,
+        output,
+    } = asked;
     let bytes = match load_file(loader, image) {
         Ok(bytes) => bytes,
         Err(fault) => return Err(fault),
@@ -181,64 +184,6 @@ pub fn apart_file<'a, E: Order, L: Loader, M: Maker, T: Sink>(
         output,
         sink,
     )
-}
-
-/// The same in the byte order that is asked for.
-fn apart_in_order<'a, L: Loader, M: Maker, T: Sink>(
-    alloc: Global,
-    loader: &mut L,
-    maker: &mut M,
-    options: Options,
-    image: &'a str,
-    output: &'a str,
-    sink: &mut T,
-) -> Result<ApartDone, ProgramFault<'a>>
-    ensures decompresses { DecompressesApartNamed (M.held maker.old, M.held maker.new)
-        options.endian (record {
-          options = options;
-          image = image.entry.now;
-          output = output.entry.now;
-        }) (L.told loader.old image.entry.now) (change_of T.Sink sink.old sink.new) result }
-    ensures host { BlamesDecompress (maker.new ≡ maker.old)
-        (MakesFile output.entry.now (M.names maker.old) (M.names maker.new))
-        (L.failures loader.old) (L.failures loader.new)
-        (M.failures maker.old) (M.failures maker.new) result }
-{
-    match options.endian {
-        Endian::Little => apart_file::<LittleEndian, L, M, T>(
-            alloc, loader, maker, options, image, output, sink,
-        ),
-        Endian::Big => apart_file::<BigEndian, L, M, T>(
-            alloc, loader, maker, options, image, output, sink,
-        ),
-    }
-}
-
-/// The same to the last byte of what is told.
-fn apart_whole<'a, L: Loader, M: Maker, T: Output>(
-    alloc: Global,
-    loader: &mut L,
-    maker: &mut M,
-    options: Options,
-    image: &'a str,
-    made: &'a str,
-    output: &mut T,
-) -> Result<ApartDone, ProgramFault<'a>>
-    ensures { FinishesApart (record {
-      options = options;
-      image = image.entry.now;
-      output = made.entry.now;
-    }) (reads L.told L.failures loader.old loader.new)
-        (writes (telling M.names M.held M.failures) maker.old maker.new) (maker.new ≡ maker.old)
-        (passage T.taken T.given T.failures output.old output.new) result }
-{
-    let answer = apart_in_order(alloc, loader, maker, options, image, made, output);
-    let finished = output.finish();
-    let done = answer?;
-    match finished {
-        Ok(()) => Ok(done),
-        Err(_) => Err(ProgramFault::Output),
-    }
 }
 
 /// Writes the line of a node that is left out over what a buffer has.
@@ -290,14 +235,15 @@ fn tell_apart<E: Sink>(done: &ApartDone, errors: &mut E) -> Outcome
 }
 
 /// `decompress --clashes higher` as a command.
-pub fn run_apart<L: Loader, M: Maker, T: Output, E: Sink>(
+pub(crate) fn run_apart<E: Order, L: Loader, M: Maker, T: Output, N: Sink>(
     alloc: Global,
     loader: &mut L,
     maker: &mut M,
     asked: Decompression<'_>,
     output: &mut T,
-    errors: &mut E,
+    errors: &mut N,
 ) -> Outcome
+    requires { asked.options.endian ≡ E.order }
     ensures { EndsApart (record {
       options = asked.entry.options;
       image = asked.entry.image.now;
@@ -305,14 +251,10 @@ pub fn run_apart<L: Loader, M: Maker, T: Output, E: Sink>(
     }) (reads L.told L.failures loader.old loader.new)
         (writes (telling M.names M.held M.failures) maker.old maker.new) (maker.new ≡ maker.old)
         (passage T.taken T.given T.failures output.old output.new)
-        (change_of E.Sink errors.old errors.new) result }
+        (change_of N.Sink errors.old errors.new) result }
 {
-    let Decompression {
-        options,
-        image,
-        output: made,
-    } = asked;
-    match apart_whole(alloc, loader, maker, options, image, made, output) {
+    let answer = apart_file::<E, L, M, T>(alloc, loader, maker, asked, output);
+    match finished(answer, output) {
         Ok(done) => tell_apart(&done, errors),
         Err(fault) => report_fault(&fault, errors),
     }

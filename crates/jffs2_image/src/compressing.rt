@@ -3,7 +3,7 @@ ghost use Rattle.std.specs.Prelude.{◌≡◌, ◌⊎◌, ℕ, List, None, IfOk,
 ghost use Rattle.std.specs.Io.KnownBytes.{Appends};
 ghost use Rattle.jconvert.specs.Converting.{convert_fault};
 ghost use Rattle.jconvert.specs.Compressing.{IsPackedImage};
-ghost use Rattle.jffs2_image.specs.Compressing.{CompressesFile, CompressesNamed, EndsCompression, FinishesCompression, GivesPacked};
+ghost use Rattle.jffs2_image.specs.Compressing.{CompressesFile, CompressesNamed, EndsCompression, GivesPacked};
 ghost use Rattle.jffs2_image.specs.Decompressing.{HoldsMade, IsNotWritten};
 ghost use Rattle.jffs2_image.specs.Host.{BlamesDecompress, HasFailed, MakesFile};
 ghost use Rattle.jffs2_image.specs.Writes.{IsFaultOfMaking};
@@ -13,15 +13,14 @@ ghost use Rattle.jffs2_image.specs.Placing.{telling, writes};
 
 use crate::decompressing::{conversion_fault, sink_cause};
 use crate::host::{Loader, MakeFault, Maker};
-use crate::output::Output;
+use crate::output::{Output, finished};
 use crate::program::{note, report_fault};
 use crate::writing::load_file;
-use byteorder::{BigEndian, LittleEndian};
 use flashbase::{DeviceFault, Sink};
-use jcommand::{Compression, Options, Outcome};
+use jcommand::{Compression, Outcome};
 use jconvert::{ConvertFault, judge_plain, write_packed};
 use jlog::SessionFault;
-use jnode::{Endian, Order};
+use jnode::Order;
 use jreport::{ProgramFault, Unopened, found_in, put_compressed};
 use jscan::Geometry;
 use std::alloc::Global;
@@ -123,27 +122,31 @@ pub fn compress_into<'a, E: Order, M: Maker, T: Sink>(
     }
 }
 
-/// The same of the file of a name.
-pub fn compress_file<'a, E: Order, L: Loader, M: Maker, T: Sink>(
+/// The same of the file that is asked for.
+fn compress_file<'a, E: Order, L: Loader, M: Maker, T: Sink>(
     alloc: Global,
     loader: &mut L,
     maker: &mut M,
-    options: Options,
-    image: &'a str,
-    output: &'a str,
+    asked: Compression<'a>,
     sink: &mut T,
 ) -> Result<u64, ProgramFault<'a>>
-    ensures compresses { CompressesNamed (M.held maker.old, M.held maker.new) E.order
-        (record {
-          options = options;
-          image = image.entry.now;
-          output = output.entry.now;
-        }) (L.told loader.old image.entry.now) (change_of T.Sink sink.old sink.new) result }
+    requires { asked.options.endian ≡ E.order }
+    ensures compresses { CompressesNamed (M.held maker.old, M.held maker.new)
+        asked.entry.options.endian (record {
+          options = asked.entry.options;
+          image = asked.entry.image.now;
+          output = asked.entry.output.now;
+        }) (L.told loader.old asked.entry.image.now) (change_of T.Sink sink.old sink.new) result }
     ensures host { BlamesDecompress (maker.new ≡ maker.old)
-        (MakesFile output.entry.now (M.names maker.old) (M.names maker.new))
+        (MakesFile asked.entry.output.now (M.names maker.old) (M.names maker.new))
         (L.failures loader.old) (L.failures loader.new)
         (M.failures maker.old) (M.failures maker.new) result }
 {
+    let Compression {
+        options,
+        image,
+        output,
+    } = asked;
     let bytes = match load_file(loader, image) {
         Ok(bytes) => bytes,
         Err(fault) => return Err(fault),
@@ -158,73 +161,16 @@ pub fn compress_file<'a, E: Order, L: Loader, M: Maker, T: Sink>(
     )
 }
 
-/// The same in the byte order that is asked for.
-fn compress_in_order<'a, L: Loader, M: Maker, T: Sink>(
-    alloc: Global,
-    loader: &mut L,
-    maker: &mut M,
-    options: Options,
-    image: &'a str,
-    output: &'a str,
-    sink: &mut T,
-) -> Result<u64, ProgramFault<'a>>
-    ensures compresses { CompressesNamed (M.held maker.old, M.held maker.new) options.endian
-        (record {
-          options = options;
-          image = image.entry.now;
-          output = output.entry.now;
-        }) (L.told loader.old image.entry.now) (change_of T.Sink sink.old sink.new) result }
-    ensures host { BlamesDecompress (maker.new ≡ maker.old)
-        (MakesFile output.entry.now (M.names maker.old) (M.names maker.new))
-        (L.failures loader.old) (L.failures loader.new)
-        (M.failures maker.old) (M.failures maker.new) result }
-{
-    match options.endian {
-        Endian::Little => compress_file::<LittleEndian, L, M, T>(
-            alloc, loader, maker, options, image, output, sink,
-        ),
-        Endian::Big => compress_file::<BigEndian, L, M, T>(
-            alloc, loader, maker, options, image, output, sink,
-        ),
-    }
-}
-
-/// The same to the last byte of what is told.
-fn compress_whole<'a, L: Loader, M: Maker, T: Output>(
-    alloc: Global,
-    loader: &mut L,
-    maker: &mut M,
-    options: Options,
-    image: &'a str,
-    made: &'a str,
-    output: &mut T,
-) -> Result<u64, ProgramFault<'a>>
-    ensures { FinishesCompression (record {
-      options = options;
-      image = image.entry.now;
-      output = made.entry.now;
-    }) (reads L.told L.failures loader.old loader.new)
-        (writes (telling M.names M.held M.failures) maker.old maker.new) (maker.new ≡ maker.old)
-        (passage T.taken T.given T.failures output.old output.new) result }
-{
-    let answer = compress_in_order(alloc, loader, maker, options, image, made, output);
-    let finished = output.finish();
-    let findings = answer?;
-    match finished {
-        Ok(()) => Ok(findings),
-        Err(_) => Err(ProgramFault::Output),
-    }
-}
-
 /// `compress` as a command.
-pub fn run_compress<L: Loader, M: Maker, T: Output, E: Sink>(
+pub(crate) fn run_compress<E: Order, L: Loader, M: Maker, T: Output, N: Sink>(
     alloc: Global,
     loader: &mut L,
     maker: &mut M,
     asked: Compression<'_>,
     output: &mut T,
-    errors: &mut E,
+    errors: &mut N,
 ) -> Outcome
+    requires { asked.options.endian ≡ E.order }
     ensures { EndsCompression (record {
       options = asked.entry.options;
       image = asked.entry.image.now;
@@ -232,14 +178,10 @@ pub fn run_compress<L: Loader, M: Maker, T: Output, E: Sink>(
     }) (reads L.told L.failures loader.old loader.new)
         (writes (telling M.names M.held M.failures) maker.old maker.new) (maker.new ≡ maker.old)
         (passage T.taken T.given T.failures output.old output.new)
-        (change_of E.Sink errors.old errors.new) result }
+        (change_of N.Sink errors.old errors.new) result }
 {
-    let Compression {
-        options,
-        image,
-        output: made,
-    } = asked;
-    match compress_whole(alloc, loader, maker, options, image, made, output) {
+    let answer = compress_file::<E, L, M, T>(alloc, loader, maker, asked, output);
+    match finished(answer, output) {
         Ok(findings) => note(findings, errors),
         Err(fault) => report_fault(&fault, errors),
     }

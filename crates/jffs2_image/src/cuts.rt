@@ -9,15 +9,14 @@ ghost use Rattle.jcuts.specs.declared.cuts.CutsFault.{CutsFault};
 ghost use Rattle.jcuts.specs.declared.lines.Telling.TheVariants.{Nodes};
 ghost use Rattle.std.specs.Prelude.{Result};
 ghost use Rattle.jffs2_image.specs.Host.{AreRead};
-ghost use Rattle.jffs2_image.specs.CutRuns.{answer_of_cuts, cause_of_cuts, BlamesReading, EndsCuts, FinishesCuts, IsBaseOf, IsBaseUnread, IsNotStarted, TellsFiles, TellsText};
+ghost use Rattle.jffs2_image.specs.CutRuns.{answer_of_cuts, cause_of_cuts, BlamesReading, EndsCuts, IsBaseOf, IsBaseUnread, IsNotStarted, TellsFiles, TellsText};
 ghost use Rattle.flashbase.specs.Sinks.{change_of};
 ghost use Rattle.jffs2_image.specs.Tasks.{passage, reads};
 
 use crate::host::Loader;
-use crate::output::Output;
+use crate::output::{Output, finished};
 use crate::program::report_fault;
 use crate::writing::{Texts, load_file, load_parts, numbers_of};
-use byteorder::{BigEndian, LittleEndian};
 use flashbase::Sink;
 use jbuild::{HostFiles, operations};
 use jcommand::{Cuts, Outcome};
@@ -25,7 +24,7 @@ use jcuts::{CutsFault, Telling, put_cuts};
 use jlisting::{Line, listing};
 use jlog::{Flash, SessionFault, Start};
 use jmount::Mounted;
-use jnode::{Endian, Order};
+use jnode::Order;
 use jreport::{Cause, Plan, ProgramFault, Reason, cause_of, mount_or_tell};
 use jsteps::Op;
 use std::alloc::Global;
@@ -204,66 +203,15 @@ fn tell_files<'a, E: Order, L: Loader, T: Sink>(
     )
 }
 
-/// The same in the byte order that is asked for.
-fn tell_in_order<'a, L: Loader, T: Sink>(
-    alloc: Global,
-    loader: &mut L,
-    asked: Cuts<'a>,
-    texts: &'a mut Texts,
-    sink: &mut T,
-) -> Result<u64, ProgramFault<'a>>
-    ensures tells { TellsFiles (L.told loader.old) asked.entry.options.endian
-        (record {
-          geometry = asked.entry.options.geometry;
-          blocks = asked.entry.blocks;
-          page = asked.entry.page;
-        }) (option_map (λ name. name.now) asked.entry.on)
-        asked.entry.listing.now (change_of T.Sink sink.old sink.new) result }
-    ensures blames { BlamesReading (L.failures loader.old) (L.failures loader.new) result }
-{
-    match asked.options.endian {
-        Endian::Little => tell_files::<LittleEndian, L, T>(alloc, loader, asked, texts, sink),
-        Endian::Big => tell_files::<BigEndian, L, T>(alloc, loader, asked, texts, sink),
-    }
-}
-
-/// The same to the last byte. What was put goes out, also before a fault.
-fn tell_whole<'a, L: Loader, T: Output>(
-    alloc: Global,
-    loader: &mut L,
-    asked: Cuts<'a>,
-    texts: &'a mut Texts,
-    output: &mut T,
-) -> Result<u64, ProgramFault<'a>>
-    ensures tells { FinishesCuts (L.told loader.old) (record {
-      options = asked.entry.options;
-      blocks = asked.entry.blocks;
-      page = asked.entry.page;
-      on = option_map (λ name. name.now) asked.entry.on;
-      listing = asked.entry.listing.now;
-    })
-        (passage T.taken T.given T.failures output.old output.new) result }
-    ensures blames { BlamesReading (L.failures loader.old) (L.failures loader.new) result }
-{
-    let answer = tell_in_order::<L, T>(alloc, loader, asked, texts, output);
-    let finished = output.finish();
-    match answer {
-        Ok(weak) => match finished {
-            Ok(()) => Ok(weak),
-            Err(_) => Err(ProgramFault::Output),
-        },
-        Err(fault) => Err(fault),
-    }
-}
-
 /// `cuts` as a command.
-pub fn run_cuts<L: Loader, T: Output, E: Sink>(
+pub(crate) fn run_cuts<E: Order, L: Loader, T: Output, N: Sink>(
     alloc: Global,
     loader: &mut L,
     asked: Cuts<'_>,
     output: &mut T,
-    errors: &mut E,
+    errors: &mut N,
 ) -> Outcome
+    requires { asked.options.endian ≡ E.order }
     ensures { EndsCuts (record {
       options = asked.entry.options;
       blocks = asked.entry.blocks;
@@ -272,10 +220,11 @@ pub fn run_cuts<L: Loader, T: Output, E: Sink>(
       listing = asked.entry.listing.now;
     }) (reads L.told L.failures loader.old loader.new)
         (passage T.taken T.given T.failures output.old output.new)
-        (change_of E.Sink errors.old errors.new) result }
+        (change_of N.Sink errors.old errors.new) result }
 {
     let mut texts = Texts::new(alloc);
-    match tell_whole(alloc, loader, asked, &mut texts, output) {
+    let answer = tell_files::<E, L, T>(alloc, loader, asked, &mut texts, output);
+    match finished(answer, output) {
         Ok(weak) => Outcome::of(weak),
         Err(fault) => report_fault(&fault, errors),
     }

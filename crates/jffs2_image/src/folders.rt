@@ -7,23 +7,23 @@ ghost use Rattle.jcommand.specs.Parsed.{ExtractParsed, ListingParsed, IsFaultles
 ghost use Rattle.jextract.specs.Folders.{Made};
 ghost use Rattle.jffs2_image.specs.Folders.{ExtractsImage, ExtractsBytes, ExtractsPart, ExtractsTaken, FillsAsked, FillsFolder, IsExtractFault, extracting_of, IsReadingFault, ListsFolder, settings, filling};
 ghost use Rattle.jcommand.specs.Status.{outcome_of};
-ghost use Rattle.jffs2_image.specs.FolderRuns.{EndsExtraction, EndsListing, FinishesListing, ListsGiven, found_by_extraction, notes_after_extraction};
+ghost use Rattle.jffs2_image.specs.FolderRuns.{EndsExtraction, EndsListing, ListsGiven, found_by_extraction, notes_after_extraction};
 ghost use Rattle.jffs2_image.specs.Runs.{Says};
 ghost use Rattle.jffs2_image.specs.Tasks.{passage};
 ghost use Rattle.jffs2_image.specs.Tasks as tasks;
 
 use crate::decompressing::{Taken, take_image};
 use crate::host::Loader;
-use crate::output::Output;
+use crate::output::{Output, finished};
 use crate::program::report_fault;
+use crate::refusing::Refusing;
 use crate::writing::load_file;
-use byteorder::{BigEndian, LittleEndian};
 use flashbase::{DeviceFault, Sink};
 use jcommand::{Extraction, FolderListing, Outcome, Owner};
 use jextract::{ExtractFault, Folder, PartFault, Totals, extract, extract_part, part_at};
 use jfolder::{HostFolder, ReadFault, put_listing, read_folder};
 use jmount::Mounted;
-use jnode::{Endian, Order};
+use jnode::Order;
 use jreport::{
     ProgramFault, Reason, Unopened, attribute_count, mount_or_tell, noted, path_word, put_notes,
 };
@@ -36,12 +36,6 @@ pub struct Extracted {
     pub totals: Totals,
     pub findings: u64,
     pub attributes: u64,
-}
-
-/// A folder of the host that says why it refused.
-pub trait Refusing {
-    /// Why the last call failed that did, as far as the host tells.
-    fn reason(&self) -> Reason;
 }
 
 /// Gives folders of the host by their names, and takes them back.
@@ -226,34 +220,8 @@ fn extract_image<'a, E: Order, L: Loader, X: Folder + Refusing, N: Sink>(
     extract_bytes::<E, X, N>(alloc, image, asked, path, folder, notes)
 }
 
-/// The same in the byte order that is asked for.
-fn extract_in_order<'a, L: Loader, X: Folder + Refusing, N: Sink>(
-    alloc: Global,
-    loader: &mut L,
-    asked: Extraction<'a>,
-    path: Option<&[u8]>,
-    folder: &mut X,
-    notes: &mut N,
-) -> Result<Extracted, ProgramFault<'a>>
-    ensures { ExtractsImage asked.entry.decompress
-        (extracting_of asked.entry.options.endian asked.entry (option_map (λ p. p.now) path.entry))
-        asked.entry.image.now
-        (tasks.reads L.told L.failures loader.old loader.new)
-        (filling X.made X.failures folder.old folder.new
-        (change_of N.Sink notes.old notes.new)) result }
-{
-    match asked.options.endian {
-        Endian::Little => {
-            extract_image::<LittleEndian, L, X, N>(alloc, loader, asked, path, folder, notes)
-        }
-        Endian::Big => {
-            extract_image::<BigEndian, L, X, N>(alloc, loader, asked, path, folder, notes)
-        }
-    }
-}
-
 /// The same into a folder that the host gives, and takes back.
-fn fill<'a, L: Loader, D: Folders, N: Sink>(
+fn fill<'a, E: Order, L: Loader, D: Folders, N: Sink>(
     alloc: Global,
     loader: &mut L,
     folders: &mut D,
@@ -262,7 +230,7 @@ fn fill<'a, L: Loader, D: Folders, N: Sink>(
     notes: &mut N,
 ) -> Result<Extracted, ProgramFault<'a>>
     ensures { FillsFolder asked.entry.decompress
-        (extracting_of asked.entry.options.endian asked.entry (option_map (λ p. p.now) path.entry))
+        (extracting_of E.order asked.entry (option_map (λ p. p.now) path.entry))
         asked.entry.image.now
         (tasks.reads L.told L.failures loader.old loader.new) (D.made folders.old)
         (D.made folders.new)
@@ -272,13 +240,20 @@ fn fill<'a, L: Loader, D: Folders, N: Sink>(
     let Ok(mut folder) = folders.filled(name, asked.quiet) else {
         return Err(ProgramFault::OutOfMemory);
     };
-    let answer = extract_in_order(alloc, loader, asked, path, &mut folder, notes);
+    let answer = extract_image::<E, L, D::Filled, N>(
+        alloc,
+        loader,
+        asked,
+        path,
+        &mut folder,
+        notes,
+    );
     folders.take_filled(name, folder);
     answer
 }
 
 /// The same by the words of a command line: that of the path is judged before the image is opened.
-fn fill_asked<'a, L: Loader, D: Folders, N: Sink>(
+fn fill_asked<'a, E: Order, L: Loader, D: Folders, N: Sink>(
     alloc: Global,
     loader: &mut L,
     folders: &mut D,
@@ -286,7 +261,7 @@ fn fill_asked<'a, L: Loader, D: Folders, N: Sink>(
     notes: &mut N,
 ) -> Result<Extracted, ProgramFault<'a>>
     ensures { FillsAsked asked.entry.decompress
-        (extracting_of asked.entry.options.endian asked.entry
+        (extracting_of E.order asked.entry
         (option_map (λ word. word.now) asked.entry.path))
         asked.entry.image.now
         (tasks.reads L.told L.failures loader.old loader.new) (D.made folders.old)
@@ -294,13 +269,13 @@ fn fill_asked<'a, L: Loader, D: Folders, N: Sink>(
         (change_of N.Sink notes.old notes.new) result }
 {
     let Some(word) = asked.path else {
-        return fill(alloc, loader, folders, asked, None, notes);
+        return fill::<E, L, D, N>(alloc, loader, folders, asked, None, notes);
     };
     let path = match path_word(alloc, word.as_bytes()) {
         Ok(path) => path,
         Err(fault) => return Err(fault),
     };
-    fill(alloc, loader, folders, asked, Some(path.as_slice()), notes)
+    fill::<E, L, D, N>(alloc, loader, folders, asked, Some(path.as_slice()), notes)
 }
 
 /// What a reading of the folder of a name gives up for; `reason` is why the folder refused.
@@ -372,22 +347,23 @@ fn outcome_of_extracted(done: Extracted) -> Outcome
 }
 
 /// `extract` as a command: the image of a name in the folder of a name.
-pub fn run_extract<L: Loader, D: Folders, E: Sink>(
+pub(crate) fn run_extract<E: Order, L: Loader, D: Folders, N: Sink>(
     alloc: Global,
     loader: &mut L,
     folders: &mut D,
     asked: Extraction<'_>,
-    errors: &mut E,
+    errors: &mut N,
 ) -> Outcome
+    requires { asked.options.endian ≡ E.order }
     ensures { EndsExtraction asked.entry.decompress
         (extracting_of asked.entry.options.endian asked.entry
         (option_map (λ word. word.now) asked.entry.path))
         asked.entry.image.now
         (tasks.reads L.told L.failures loader.old loader.new) (D.made folders.old)
         (D.made folders.new)
-        (change_of E.Sink errors.old errors.new) result }
+        (change_of N.Sink errors.old errors.new) result }
 {
-    match fill_asked(alloc, loader, folders, asked, errors) {
+    match fill_asked::<E, L, D, N>(alloc, loader, folders, asked, errors) {
         Ok(done) => {
             note_extraction(done, errors);
             outcome_of_extracted(done)
@@ -407,29 +383,7 @@ pub(crate) fn settings_of(owner: Option<Owner>, time: Option<u32>) -> jfolder::O
     jfolder::Options { owner, time }
 }
 
-/// `listing` to the last byte.
-fn list_whole<'a, H: HostFolder + Refusing, T: Output, N: Sink>(
-    alloc: Global,
-    options: jfolder::Options,
-    name: &'a str,
-    folder: &mut H,
-    output: &mut T,
-    notes: &mut N,
-) -> Result<u64, ProgramFault<'a>>
-    ensures { FinishesListing (H.known folder.old) options name.entry.now
-        (passage T.taken T.given T.failures output.old output.new)
-        (change_of N.Sink notes.old notes.new) result }
-{
-    let answer = list_folder(alloc, options, name, folder, output, notes);
-    let finished = output.finish();
-    let left_out = answer?;
-    match finished {
-        Ok(()) => Ok(left_out),
-        Err(_) => Err(ProgramFault::Output),
-    }
-}
-
-/// The same of a folder that the host gives, and takes back.
+/// `listing` to the last byte, of a folder that the host gives, and takes back.
 fn list_given<'a, D: Folders, T: Output, N: Sink>(
     alloc: Global,
     folders: &mut D,
@@ -447,9 +401,9 @@ fn list_given<'a, D: Folders, T: Output, N: Sink>(
     let Ok(mut folder) = folders.read(name, quiet) else {
         return Err(ProgramFault::OutOfMemory);
     };
-    let answer = list_whole(alloc, options, name, &mut folder, output, notes);
+    let answer = list_folder(alloc, options, name, &mut folder, output, notes);
     folders.take_read(folder);
-    answer
+    finished(answer, output)
 }
 
 /// `listing` as a command: that of the folder of a name.

@@ -1,12 +1,15 @@
 //! Files of the host: those that are read whole, and the one that is made.
 ghost use Rattle.std.specs.Prelude.{◌≡◌, ◌<◌, ◌≤◌, ◌++◌, ℕ, List, [], ◌∷◌, Option, IfOk, IfErr, IfSome, OnOk, None, Some, Err, length, vec_len};
+ghost use Rattle.jreport.specs.declared.reason.Reason.{Reason};
 ghost use Rattle.flashbase.specs.Device.{CountsErr, CountsLoad, next_count};
 ghost use Rattle.jffs2_image.specs.Filling.{HoldsFilled, HoldsFilledInPart};
+ghost use Rattle.jffs2_image.specs.Reasons.{reason_of_last};
 ghost use Rattle.jffs2_image.specs.Host.{AreAllLoaded, AreOf, CountsFile, CountsNotMade, GivesFile, HoldsBy, MakesBy};
 
 use crate::filling::{Filling, fill_output};
 use crate::kept::KeptFiles;
 use crate::output::{BufferedOutput, Output};
+use crate::refusing::Refusing;
 use crate::source::FileSource;
 use flashbase::{DeviceFault, LoadFault, Source};
 use jbuild::HostFiles;
@@ -28,13 +31,16 @@ pub enum FileFault {
 
 /// Reads files, whole or as sources.
 pub trait Loader {
-    type Opened: Source;
+    type Opened: Source + Refusing;
 
     /// The bytes of the file of a name, where they are told.
     ghost told: { Self → List ℕ → Option (List ℕ) };
 
     /// How often a file was not opened, or failed while it was read, modulo 2^64.
     ghost failures: { Self → ℕ };
+
+    /// Why the file that was closed last failed, as far as the host tells.
+    ghost last_reason: { Self → Reason };
 
     /// The files that it has read already, which it gives once.
     fn read_before(&mut self) -> HostFiles
@@ -62,10 +68,11 @@ pub trait Loader {
     /// Takes back a file that was opened, with its count of failures.
     fn close(&mut self, opened: Self::Opened)
         ensures count { failures self.new ≡ Self.Opened.failures opened }
+        ensures reason { last_reason self.new ≡ Self.Opened.last_reason opened }
         ensures stays { (other : List ℕ) → told self.new other ≡ told self.old other };
 
-    /// Why the file that was read last failed, as far as the host tells.
-    fn reason(&self) -> Reason;
+    fn reason(&self) -> Reason
+        ensures { result ≡ last_reason self.now };
 }
 
 /// Why a file was not made.
@@ -78,7 +85,7 @@ pub enum MakeFault {
 
 /// Makes files, lends them out to be written, and takes them back.
 pub trait Maker {
-    type Made: Output;
+    type Made: Output + Refusing;
 
     /// How often a file was not made, or failed until it was given back, modulo 2^64.
     ghost failures: { Self → ℕ };
@@ -89,6 +96,9 @@ pub trait Maker {
     /// What was given to each file that it made and that is lent out no more, in order, where it is
     /// told.
     ghost held: { Self → Option (List (List ℕ)) };
+
+    /// Why the file that was taken back last failed, as far as the host tells.
+    ghost last_reason: { Self → Reason };
 
     /// Makes the file of a name, empty, also in place of one that is there. It goes on with the
     /// count of failures.
@@ -103,6 +113,7 @@ pub trait Maker {
     /// Takes back a file that was made, with its count of failures.
     fn take_back(&mut self, made: Self::Made)
         ensures count { failures self.new ≡ Self.Made.failures made }
+        ensures reason { last_reason self.new ≡ Self.Made.last_reason made }
         ensures names { names self.new ≡ names self.old }
         ensures held { IfSome (held self.old) (λ files.
             IfSome (Self.Made.given made)
@@ -116,8 +127,8 @@ pub trait Maker {
             (λ _. HoldsFilledInPart (held self.old, held self.new) filling) }
         ensures count { CountsErr (failures self.old) (failures self.new) result };
 
-    /// Why the file that was taken back last failed, as far as the host tells.
-    fn reason(&self) -> Reason;
+    fn reason(&self) -> Reason
+        ensures { result ≡ last_reason self.now };
 }
 
 /// How many bytes a file is asked for at once.
@@ -209,6 +220,8 @@ impl<'r, R: Files + AllocGlobal> Loader for FileLoader<'r, R> {
 
     ghost failures = { λ s. s.failures };
 
+    ghost last_reason = { λ s. s.reason };
+
     fn read_before(&mut self) -> HostFiles {
         match self.kept.replace(None) {
             Some(files) => files.into_parts(),
@@ -249,19 +262,13 @@ impl<'r, R: Files + AllocGlobal> Loader for FileLoader<'r, R> {
     }
 }
 
-/// Why a file that is there failed.
-pub(crate) fn reason_of_last<W: Write + Drop>(last: &Option<BufferedOutput<W>>) -> Reason {
-    match last {
-        Some(output) => output.reason(),
-        None => Reason::Other,
-    }
-}
-
 /// Fills up a file that is there.
 pub(crate) fn fill_last<W: Write + Drop>(
     last: &mut Option<BufferedOutput<W>>,
     filling: Filling,
-) -> Result<(), Reason> {
+) -> Result<(), Reason>
+    ensures { IfErr result (λ reason. reason ≡ reason_of_last last.new) }
+{
     match last {
         Some(output) => {
             let length = output.length();
@@ -279,6 +286,8 @@ pub(crate) fn fill_last<W: Write + Drop>(
 pub struct FileMaker<'r, R: Files + AllocGlobal> {
     pub(crate) rt: &'r R,
     pub(crate) failures: u64,
+    /// Why the file that was taken back last failed.
+    pub(crate) reason: Reason,
     last: Option<BufferedOutput<R::File>>,
 }
 
@@ -289,6 +298,7 @@ impl<'r, R: Files + AllocGlobal> FileMaker<'r, R> {
         FileMaker {
             rt,
             failures: 0,
+            reason: Reason::Other,
             last: None,
         }
     }
@@ -302,6 +312,8 @@ impl<'r, R: Files + AllocGlobal> Maker for FileMaker<'r, R> {
     ghost names = { λ _. None };
 
     ghost held = { λ _. None };
+
+    ghost last_reason = { λ s. s.reason };
 
     fn make(&mut self, name: &str) -> Result<BufferedOutput<R::File>, MakeFault> {
         let file = match fs::create(self.rt, name) {
@@ -319,11 +331,12 @@ impl<'r, R: Files + AllocGlobal> Maker for FileMaker<'r, R> {
 
     fn take_back(&mut self, made: BufferedOutput<R::File>) {
         self.failures = made.failures();
+        self.reason = made.reason();
         self.last = Some(made);
     }
 
     fn reason(&self) -> Reason {
-        reason_of_last(&self.last)
+        self.reason
     }
 
     fn fill_up(&mut self, filling: Filling) -> Result<(), Reason> {

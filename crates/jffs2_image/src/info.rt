@@ -3,7 +3,7 @@ ghost use Rattle.std.specs.Prelude.{◌≡◌, ◌≤◌, IfErr, IfOk, is_some, 
 ghost use Rattle.std.specs.Io.KnownBytes.{Appends};
 ghost use Rattle.flashbase.specs.Sinks.{PutsTo, change_of};
 ghost use Rattle.jscan.specs.Image.{greatest_image};
-ghost use Rattle.jinfo.specs.Containers.{container_line};
+ghost use Rattle.jinfo.specs.Containers.{container_line, container_of};
 ghost use Rattle.jinfo.specs.Infos.{order_of};
 ghost use Rattle.jinfo.specs.InfoText.{info_text};
 ghost use Rattle.jffs2_image.specs.Host.{HasFailed, ReadsFile};
@@ -13,10 +13,10 @@ ghost use Rattle.jffs2_image.specs.Writes.{GivesText};
 ghost use Rattle.jffs2_image.specs.Tasks.{passage, reads};
 
 use crate::host::Loader;
-use crate::output::Output;
+use crate::output::{Output, finished};
 use crate::program::report_fault;
 use crate::writing::load_file;
-use flashbase::{DeviceFault, Sink};
+use flashbase::Sink;
 use jcommand::Outcome;
 use jinfo::{Container, InfoFault, container_of, put_container_note, put_info};
 use jnode::Endian;
@@ -31,50 +31,31 @@ pub struct Informed {
     pub container: Option<Container>,
 }
 
-/// Puts all lines of an image, and answers its byte order.
-fn put_lines<T: Output>(image: &[u8], output: &mut T) -> Result<Option<Endian>, DeviceFault>
+/// Puts all lines of an image, and answers what it was found to be.
+fn put_lines<T: Output>(image: &[u8], output: &mut T) -> Result<Informed, ProgramFault<'static>>
     requires { length image.now ≤ greatest_image }
-    ensures order { IfOk result (λ order. order ≡ order_of image.now) }
+    ensures order { IfOk result (λ found. found.order ≡ order_of image.now) }
+    ensures container { IfOk result (λ found. found.container ≡ container_of image.now) }
+    ensures fault { IfErr result (λ fault. fault ≡ ProgramFault.Output) }
     ensures puts { PutsTo T.Sink output.old output.new (info_text image.now) result }
 {
     match put_info(image, output) {
-        Ok(order) => Ok(order),
-        Err(InfoFault::Output | InfoFault::TooLarge) => Err(DeviceFault),
+        Ok(order) => Ok(Informed {
+            order,
+            container: container_of(image),
+        }),
+        Err(InfoFault::Output | InfoFault::TooLarge) => Err(ProgramFault::Output),
     }
 }
 
 /// The same to the last byte.
-fn put_whole<T: Output>(image: &[u8], output: &mut T) -> Result<Option<Endian>, DeviceFault>
-    requires { length image.now ≤ greatest_image }
-    ensures order { IfOk result (λ order. order ≡ order_of image.now) }
-    ensures whole { IfOk result (λ _. Appends (T.taken output.old) (T.given output.new)
-        (info_text image.now) × (T.failures output.new ≡ T.failures output.old)) }
-    ensures part { IfErr result (λ _. GivesText (T.taken output.old) (T.given output.new)
-        (info_text image.now)) }
-    ensures failed { IfErr result (λ _. HasFailed (T.failures output.old)
-        (T.failures output.new)) }
-{
-    let put = put_lines(image, output);
-    let finished = output.finish();
-    match (put, finished) {
-        (Ok(order), Ok(())) => Ok(order),
-        _ => Err(DeviceFault),
-    }
-}
-
-/// The same, with what the file begins as.
 fn inform<T: Output>(image: &[u8], output: &mut T) -> Result<Informed, ProgramFault<'static>>
     requires { length image.now ≤ greatest_image }
     ensures { InformsOf image.now
         (passage T.taken T.given T.failures output.old output.new) result }
 {
-    match put_whole(image, output) {
-        Ok(order) => Ok(Informed {
-            order,
-            container: container_of(image),
-        }),
-        Err(DeviceFault) => Err(ProgramFault::Output),
-    }
+    let answer = put_lines(image, output);
+    finished(answer, output)
 }
 
 /// The same of the file of a name.

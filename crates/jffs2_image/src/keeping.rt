@@ -1,11 +1,15 @@
 //! A folder of the system whose regular files are read when they are found.
 
+ghost use Rattle.std.specs.Prelude.{◌≡◌, ℕ, List, false, option_map, string_bytes, IfOk, IsFalse, IsSome, IsTrue, None, bytes_eq};
+ghost use Rattle.jffs2_image.specs.Keeping.{files_of_keeper, kept_files, kept_of, looked_size};
 ghost use Rattle.jfolder.specs.Known.{nothing};
+ghost use Rattle.jhost.specs.ReadFolders.{last_kind};
+ghost use Rattle.jreport.specs.Reasons.{reason_of_kind};
 
 use crate::first::FirstBytes;
-use crate::folders::Refusing;
 use crate::host::{FileLoader, Loader};
 use crate::kept::KeptFiles;
+use crate::refusing::Refusing;
 use jfolder::{FolderFault, HostFolder, Looked, Names};
 use jhost::ReadFolder;
 use jreport::Reason;
@@ -22,7 +26,11 @@ pub struct Keeper<'r, R: Files + AllocGlobal> {
 }
 
 impl<'r, R: Files + AllocGlobal> Keeper<'r, R> {
-    pub fn new(alloc: Global, loader: FileLoader<'r, R>) -> Self {
+    /// A keeper of no files yet.
+    pub fn new(alloc: Global, loader: FileLoader<'r, R>) -> Self
+        ensures none { (name : List ℕ) → kept_of result.files name ≡ None }
+        ensures loader { result.loader ≡ loader.entry }
+    {
         Keeper {
             alloc,
             loader,
@@ -32,7 +40,13 @@ impl<'r, R: Files + AllocGlobal> Keeper<'r, R> {
 
     /// Whether the file of a name was read and is kept. It is not asked for more than its size,
     /// where it has one.
-    fn keep(&mut self, name: String, size: u64) -> bool {
+    fn keep(&mut self, name: String, size: u64) -> bool
+        ensures kept { IsTrue result → IsSome (kept_of self.new.files (string_bytes name)) }
+        ensures none { IsFalse result → (n : List ℕ)
+            → kept_of self.new.files n ≡ kept_of self.old.files n }
+        ensures others { (n : List ℕ) → bytes_eq (string_bytes name) n ≡ false
+            → kept_of self.new.files n ≡ kept_of self.old.files n }
+    {
         let Ok(file) = self.loader.open(name.as_str()) else {
             return false;
         };
@@ -56,7 +70,11 @@ pub struct KeepingFolder<'r, R: Files + AllocGlobal + Clock + Eprint> {
 }
 
 impl<'r, R: Files + AllocGlobal + Clock + Eprint> KeepingFolder<'r, R> {
-    pub fn new(alloc: Global, folder: ReadFolder<'r, R>, keeper: Option<Keeper<'r, R>>) -> Self {
+    /// A folder that is read, with a keeper where its files are to be kept.
+    pub fn new(alloc: Global, folder: ReadFolder<'r, R>, keeper: Option<Keeper<'r, R>>) -> Self
+        ensures folder { result.folder ≡ folder.entry }
+        ensures files { kept_files result ≡ option_map files_of_keeper keeper.entry }
+    {
         KeepingFolder {
             folder,
             keeper,
@@ -66,7 +84,9 @@ impl<'r, R: Files + AllocGlobal + Clock + Eprint> KeepingFolder<'r, R> {
     }
 
     /// The size of the object of a path, where it was looked at last; else 0.
-    fn size_of(&self, path: &str) -> u64 {
+    fn size_of(&self, path: &str) -> u64
+        ensures { result ≡ looked_size self.now path.now }
+    {
         if self.looked.as_str() == path {
             self.size
         } else {
@@ -76,7 +96,9 @@ impl<'r, R: Files + AllocGlobal + Clock + Eprint> KeepingFolder<'r, R> {
 
     /// Whether the file of a path was read and is kept. One that fails may do so again when it is
     /// opened for its bytes, and is told then.
-    fn keep(&mut self, path: &str) -> Result<bool, FolderFault> {
+    fn keep(&mut self, path: &str) -> Result<bool, FolderFault>
+        ensures { IfOk result (λ kept. IsTrue kept → IsSome (kept_files self.new)) }
+    {
         let size = self.size_of(path);
         match &mut self.keeper {
             Some(keeper) => Ok(keeper.keep(self.folder.host_path(path)?, size)),
@@ -85,7 +107,9 @@ impl<'r, R: Files + AllocGlobal + Clock + Eprint> KeepingFolder<'r, R> {
     }
 
     /// Takes away what was told of how far it is. Answers the files that were kept.
-    pub fn finish(self) -> Option<KeptFiles> {
+    pub fn finish(self) -> Option<KeptFiles>
+        ensures { result ≡ kept_files self.entry }
+    {
         let KeepingFolder {
             mut folder,
             keeper,
@@ -100,6 +124,8 @@ impl<'r, R: Files + AllocGlobal + Clock + Eprint> KeepingFolder<'r, R> {
 }
 
 impl<'r, R: Files + AllocGlobal + Clock + Eprint> Refusing for KeepingFolder<'r, R> {
+    ghost last_reason = { λ s. reason_of_kind (last_kind s.folder) };
+
     fn reason(&self) -> Reason {
         Reason::of_kind(self.folder.kind())
     }

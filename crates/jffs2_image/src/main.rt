@@ -26,6 +26,7 @@ pub mod output;
 mod packing;
 pub mod placing;
 pub mod program;
+mod refusing;
 pub mod source;
 pub mod system;
 pub mod tasks;

@@ -1,13 +1,15 @@
 //! Standard output, through a buffer that is emptied before a run ends.
-ghost use Rattle.std.specs.Prelude.{◌≡◌, ℕ, List, Option, IfOk, IfErr, OnOk};
+ghost use Rattle.std.specs.Prelude.{◌≡◌, ℕ, Bool, List, Option, IfOk, IfErr, OnOk};
 ghost use Rattle.std.specs.Io.KnownBytes.{Keeps};
 ghost use Rattle.std.specs.IoError.{error_kind};
 ghost use Rattle.std.specs.Io.Buffered.{writer_contents, writer_inner};
 ghost use Rattle.flashbase.specs.Device.{CountsErr, PutsOnce};
+ghost use Rattle.jffs2_image.specs.Runs.{Finishes, answer_finished};
 ghost use Rattle.jffs2_image.specs.Writes.{IsBehind};
 
+use crate::refusing::Refusing;
 use flashbase::{DeviceFault, Sink};
-use jreport::Reason;
+use jreport::{ProgramFault, Reason};
 use std::alloc::Global;
 use std::fs::OpenFile;
 use std::io;
@@ -27,6 +29,26 @@ pub trait Output: Sink {
         ensures part { IsBehind (given self.new) (Self.taken self.new) }
         ensures taken { Keeps (Self.taken self.old) (Self.taken self.new) }
         ensures count { CountsErr (Self.failures self.old) (Self.failures self.new) result };
+}
+
+/// What a command comes to whose output ends here. What was put goes out, also before a fault; an
+/// answer stands where all of it went out.
+pub(crate) fn finished<'a, A: Drop, T: Output>(
+    answer: Result<A, ProgramFault<'a>>,
+    output: &mut T,
+) -> Result<A, ProgramFault<'a>>
+    ensures { (all : Bool) × Finishes (T.taken output.old) (T.given output.new)
+        (T.failures output.old) (T.failures output.new) all
+        × (result ≡ answer_finished answer.entry all) }
+{
+    let finished = output.finish();
+    match answer {
+        Ok(found) => match finished {
+            Ok(()) => Ok(found),
+            Err(_) => Err(ProgramFault::Output),
+        },
+        Err(fault) => Err(fault),
+    }
 }
 
 /// A writer after a buffer. A call that was interrupted, or that takes nothing of a nonempty slice,
@@ -105,11 +127,6 @@ impl<W: Write + Drop> BufferedOutput<W> {
         self.failures
     }
 
-    /// Why it failed last, as far as the host tells.
-    pub(crate) fn reason(&self) -> Reason {
-        self.reason
-    }
-
     /// How many bytes it took, up to the greatest u64.
     pub(crate) fn length(&self) -> u64 {
         self.length
@@ -120,6 +137,14 @@ impl<W: Write + OpenFile + Drop> BufferedOutput<W> {
     /// Waits until what was given on is on the disk.
     pub(crate) fn sync(&self) -> io::Result<()> {
         self.writer.get_ref().sync_all()
+    }
+}
+
+impl<W: Write + Drop> Refusing for BufferedOutput<W> {
+    ghost last_reason = { λ s. s.reason };
+
+    fn reason(&self) -> Reason {
+        self.reason
     }
 }
 

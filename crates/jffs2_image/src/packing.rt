@@ -3,24 +3,24 @@
 ghost use Rattle.std.specs.Prelude.{◌≡◌, ◌==◌, Ok, if◌then◌else◌};
 ghost use Rattle.jcommand.specs.Parsed.{packing_view};
 ghost use Rattle.jffs2_image.specs.Folders.{settings};
-ghost use Rattle.jffs2_image.specs.PackRuns.{EndsPack, PacksFolder, PutsText, ReadsGiven, ReadsListing, WritesText, blocks_of, most_blocks, outcome_of_packing, said_after_packing};
+ghost use Rattle.jffs2_image.specs.PackRuns.{EndsPack, PacksFolder, PutsText, ReadsGiven, ReadsListing, blocks_of, most_blocks, outcome_of_packing, said_after_packing};
 ghost use Rattle.jffs2_image.specs.Runs.{Says};
 ghost use Rattle.flashbase.specs.Sinks.{change_of};
 ghost use Rattle.jffs2_image.specs.Tasks.{passage, reads};
 ghost use Rattle.jffs2_image.specs.Placing.{telling, writes};
 
-use crate::folders::{Folders, Refusing, put_read, read_fault, settings_of};
+use crate::folders::{Folders, put_read, read_fault, settings_of};
 use crate::host::{Loader, Maker};
-use crate::output::Output;
+use crate::output::{Output, finished};
 use crate::program::report_fault;
+use crate::refusing::Refusing;
 use crate::weak::{Notes, put_notes};
 use crate::writing::{Texts, Writing, write_image};
-use byteorder::{BigEndian, LittleEndian};
 use flashbase::Sink;
 use jcommand::{Outcome, Packing, Target};
 use jcuts::Held;
 use jfolder::{HostFolder, read_folder};
-use jnode::Endian;
+use jnode::Order;
 use jreport::ProgramFault;
 use jscan::GREATEST_IMAGE;
 use std::alloc::Global;
@@ -116,7 +116,7 @@ fn read_given<'a, D: Folders, N: Sink>(
 }
 
 /// Writes the image of what a listing's text makes of an empty file system.
-fn put_text<'a, L: Loader, M: Maker, T: Sink>(
+fn put_text<'a, E: Order, L: Loader, M: Maker, T: Sink>(
     alloc: Global,
     loader: &mut L,
     maker: &mut M,
@@ -126,7 +126,8 @@ fn put_text<'a, L: Loader, M: Maker, T: Sink>(
     notes: &mut Notes,
     sink: &mut T,
 ) -> Result<u64, ProgramFault<'a>>
-    requires { notes.now.asked ≡ asked.weak }
+    requires order { asked.options.endian ≡ E.order }
+    requires weak { notes.now.asked ≡ asked.weak }
     ensures { PutsText (packing_view asked.entry) text.now (maker.new ≡ maker.old)
         (reads L.told L.failures loader.old loader.new)
         (writes (telling M.names M.held M.failures) maker.old maker.new)
@@ -137,45 +138,12 @@ fn put_text<'a, L: Loader, M: Maker, T: Sink>(
         base: &[],
         text,
     };
-    match asked.options.endian {
-        Endian::Little => write_image::<LittleEndian, L, M, T>(
-            alloc, loader, maker, work, unread, notes, sink,
-        ),
-        Endian::Big => write_image::<BigEndian, L, M, T>(
-            alloc, loader, maker, work, unread, notes, sink,
-        ),
-    }
-}
-
-/// The same to the last byte of the line on it.
-fn write_text<'a, L: Loader, M: Maker, T: Output>(
-    alloc: Global,
-    loader: &mut L,
-    maker: &mut M,
-    asked: Packing<'a>,
-    text: &'a [u8],
-    unread: &'a mut String,
-    notes: &mut Notes,
-    output: &mut T,
-) -> Result<u64, ProgramFault<'a>>
-    requires { notes.now.asked ≡ asked.weak }
-    ensures { WritesText (packing_view asked.entry) text.now (maker.new ≡ maker.old)
-        (reads L.told L.failures loader.old loader.new)
-        (writes (telling M.names M.held M.failures) maker.old maker.new)
-        (passage T.taken T.given T.failures output.old output.new) notes.new result }
-{
-    let answer = put_text(alloc, loader, maker, asked, text, unread, notes, output);
-    let finished = output.finish();
-    let findings = answer?;
-    match finished {
-        Ok(()) => Ok(findings),
-        Err(_) => Err(ProgramFault::Output),
-    }
+    write_image::<E, L, M, T>(alloc, loader, maker, work, unread, notes, sink)
 }
 
 /// The image of the folder that is asked for, whose listing is kept, since a fault may name a part
 /// of it. What is left out is told. Answers how many objects that are.
-fn pack_folder<'a, L: Loader, M: Maker, D: Folders, T: Output, E: Sink>(
+fn pack_folder<'a, E: Order, L: Loader, M: Maker, D: Folders, T: Output, N: Sink>(
     alloc: Global,
     loader: &mut L,
     maker: &mut M,
@@ -184,9 +152,10 @@ fn pack_folder<'a, L: Loader, M: Maker, D: Folders, T: Output, E: Sink>(
     texts: &'a mut Texts,
     notes: &mut Notes,
     output: &mut T,
-    errors: &mut E,
+    errors: &mut N,
 ) -> Result<u64, ProgramFault<'a>>
-    requires { notes.now.asked ≡ asked.weak }
+    requires order { asked.options.endian ≡ E.order }
+    requires weak { notes.now.asked ≡ asked.weak }
     ensures made { D.made folders.new ≡ D.made folders.old }
     ensures packs { PacksFolder (packing_view asked.entry)
         (D.reads folders.old asked.entry.folder.now) (maker.new ≡ maker.old)
@@ -194,7 +163,7 @@ fn pack_folder<'a, L: Loader, M: Maker, D: Folders, T: Output, E: Sink>(
           reading = reads L.told L.failures loader.old loader.new;
           writing = writes (telling M.names M.held M.failures) maker.old maker.new;
           output = passage T.taken T.given T.failures output.old output.new;
-          errors = change_of E.Sink errors.old errors.new;
+          errors = change_of N.Sink errors.old errors.new;
         }) notes.new result }
 {
     let Listed { text, left_out } = match read_given(alloc, folders, asked, errors) {
@@ -202,7 +171,7 @@ fn pack_folder<'a, L: Loader, M: Maker, D: Folders, T: Output, E: Sink>(
         Err(fault) => return Err(fault),
     };
     texts.listing = text;
-    match write_text(
+    let answer = put_text::<E, L, M, T>(
         alloc,
         loader,
         maker,
@@ -211,7 +180,8 @@ fn pack_folder<'a, L: Loader, M: Maker, D: Folders, T: Output, E: Sink>(
         &mut texts.unread,
         notes,
         output,
-    ) {
+    );
+    match finished(answer, output) {
         Ok(_) => Ok(left_out),
         Err(fault) => Err(fault),
     }
@@ -241,15 +211,16 @@ fn outcome_with(left_out: u64, noted: Outcome) -> Outcome
 }
 
 /// `pack` as a command: an image of the folder of a name.
-pub fn run_pack<L: Loader, M: Maker, D: Folders, T: Output, E: Sink>(
+pub(crate) fn run_pack<E: Order, L: Loader, M: Maker, D: Folders, T: Output, N: Sink>(
     alloc: Global,
     loader: &mut L,
     maker: &mut M,
     folders: &mut D,
     asked: Packing<'_>,
     output: &mut T,
-    errors: &mut E,
+    errors: &mut N,
 ) -> Outcome
+    requires { asked.options.endian ≡ E.order }
     ensures made { D.made folders.new ≡ D.made folders.old }
     ensures ends { EndsPack (packing_view asked.entry)
         (D.reads folders.old asked.entry.folder.now) (maker.new ≡ maker.old)
@@ -257,12 +228,12 @@ pub fn run_pack<L: Loader, M: Maker, D: Folders, T: Output, E: Sink>(
           reading = reads L.told L.failures loader.old loader.new;
           writing = writes (telling M.names M.held M.failures) maker.old maker.new;
           output = passage T.taken T.given T.failures output.old output.new;
-          errors = change_of E.Sink errors.old errors.new;
+          errors = change_of N.Sink errors.old errors.new;
         }) result }
 {
     let mut texts = Texts::new(alloc);
     let mut notes = Notes::new(alloc, asked.weak);
-    match pack_folder(
+    match pack_folder::<E, L, M, D, T, N>(
         alloc, loader, maker, folders, asked, &mut texts, &mut notes, output, errors,
     ) {
         Ok(left_out) => {

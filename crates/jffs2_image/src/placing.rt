@@ -3,8 +3,9 @@ ghost use Rattle.std.specs.Prelude.{◌≡◌, ℕ, List, Option, IfErr, OnOk, N
 ghost use Rattle.flashbase.specs.Device.{CountsErr, next_count};
 
 use crate::filling::Filling;
-use crate::host::{FileMaker, MakeFault, Maker, fill_last, reason_of_last};
+use crate::host::{FileMaker, MakeFault, Maker, fill_last};
 use crate::output::{BufferedOutput, Output};
+use crate::refusing::Refusing;
 use jreport::Reason;
 use std::alloc::{AllocError, Global};
 use std::fs::OpenOptions;
@@ -59,6 +60,8 @@ struct Aside<F: Write + Drop> {
 pub struct BesideMaker<'r, R: Files + AllocGlobal> {
     rt: &'r R,
     failures: u64,
+    /// Why the file that was taken back last failed.
+    reason: Reason,
     aside: Option<Aside<R::File>>,
 }
 
@@ -201,6 +204,8 @@ impl<'r, R: Files + AllocGlobal> Maker for BesideMaker<'r, R> {
 
     ghost held = { λ _. None };
 
+    ghost last_reason = { λ s. s.reason };
+
     fn make(&mut self, name: &str) -> Result<BufferedOutput<R::File>, MakeFault> {
         let (file, aside) = match self.make_aside(name) {
             Ok(made) => made,
@@ -224,16 +229,14 @@ impl<'r, R: Files + AllocGlobal> Maker for BesideMaker<'r, R> {
 
     fn take_back(&mut self, made: BufferedOutput<R::File>) {
         self.failures = made.failures();
+        self.reason = made.reason();
         if let Some(aside) = &mut self.aside {
             aside.output = Some(made);
         }
     }
 
     fn reason(&self) -> Reason {
-        match &self.aside {
-            Some(aside) => reason_of_last(&aside.output),
-            None => Reason::Other,
-        }
+        self.reason
     }
 
     fn fill_up(&mut self, filling: Filling) -> Result<(), Reason> {
@@ -255,6 +258,7 @@ impl<'r, R: Files + AllocGlobal> Placer for FileMaker<'r, R> {
         BesideMaker {
             rt: self.rt,
             failures: self.failures,
+            reason: Reason::Other,
             aside: None,
         }
     }
@@ -264,6 +268,7 @@ impl<'r, R: Files + AllocGlobal> Placer for FileMaker<'r, R> {
             rt,
             failures,
             aside,
+            ..
         } = beside;
         self.failures = failures;
         let placed = match aside {
@@ -281,6 +286,7 @@ impl<'r, R: Files + AllocGlobal> Placer for FileMaker<'r, R> {
             rt,
             failures,
             aside,
+            ..
         } = beside;
         self.failures = failures;
         if let Some(aside) = aside {

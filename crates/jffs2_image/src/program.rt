@@ -1,6 +1,6 @@
 //! The program on its arguments: it opens the image, lets `jreport` do the work, and says how that
 //! ended.
-ghost use Rattle.std.specs.Prelude.{◌≡◌, ◌⊎◌, true, IfErr, IsTrue, OnOk, map};
+ghost use Rattle.std.specs.Prelude.{◌≡◌, ◌⊎◌, ℕ, true, List, Option, Ok, Err, IfErr, IsTrue, OnOk, map};
 ghost use Rattle.std.specs.Io.KnownBytes.{Appends};
 ghost use Rattle.jcommand.specs.Parsed.{BuildParsed, AppendParsed, DecompressParsed, is_unplaced, options_of, placing_from, view};
 ghost use Rattle.jreport.specs.Advice.{fault_lines_of};
@@ -8,23 +8,22 @@ ghost use Rattle.jffs2_image.specs.Host.{Blames, BlamesCommand, BlamesDecompress
 ghost use Rattle.jffs2_image.specs.WeakRuns.{HasNotes};
 ghost use Rattle.jffs2_image.specs.Tasks.{RunsAsked, RunsTask, fills, passage, reads};
 ghost use Rattle.jffs2_image.specs.Placing.{SaysOn, telling, tellings, writes};
-ghost use Rattle.jffs2_image.specs.Writes.{GivesText};
-ghost use Rattle.jffs2_image.specs.Runs.{IsSaid, Meets, MeetsCommand, MeetsWhole, RunsCommand, Says, note_after, success_of};
-ghost use Rattle.flashbase.specs.Sinks.{change_of};
+ghost use Rattle.jffs2_image.specs.Writes.{GivesText, Held};
+ghost use Rattle.jffs2_image.specs.Runs.{IsSaid, Meets, MeetsCommand, MeetsWhole, RunsCommand, Says, note_after, outcome_after, said_after, success_of};
+ghost use Rattle.flashbase.specs.Sinks.{PutsTo, change_of};
 
 use crate::decompressing::{decompress_into, take_file};
 use crate::folders::Folders;
 use crate::host::{Loader, Maker};
 use crate::looking::{cat, check, list, scan};
-use crate::output::Output;
+use crate::output::{Output, finished};
 use crate::placing::Placer;
 use crate::tasks::run_placed;
 use crate::weak::Notes;
 use crate::writing::{Texts, Writing, load_file, write_image};
-use byteorder::{BigEndian, LittleEndian};
 use flashbase::{Sink, put_all};
 use jcommand::{Options, Outcome, Request, RequestFault, Target, asked};
-use jnode::{Endian, Order};
+use jnode::Order;
 use jreport::{ProgramFault, put_fault_and_note, put_note};
 use std::alloc::Global;
 
@@ -252,38 +251,8 @@ fn run_in_order<'a, E: Order, L: Loader, M: Maker, T: Sink>(
     }
 }
 
-/// Runs the request in the byte order that it names, and answers how much was found.
-fn run_request<'a, L: Loader, M: Maker, T: Sink>(
-    alloc: Global,
-    loader: &mut L,
-    maker: &mut M,
-    request: Request<'a>,
-    texts: &'a mut Texts,
-    notes: &mut Notes,
-    sink: &mut T,
-) -> Result<u64, ProgramFault<'a>>
-    ensures meets { Meets (L.told loader.old) (M.held maker.old, M.held maker.new)
-        (options_of request.entry).endian (view request.entry) (change_of T.Sink sink.old sink.new)
-        result }
-    ensures host { BlamesFor (options_of request.entry).endian (view request.entry)
-        (maker.new ≡ maker.old) (reads L.told L.failures loader.old loader.new)
-        (writes (telling M.names M.held M.failures) maker.old maker.new) result }
-    ensures weak { OnOk result (IsTrue notes.old.asked
-        → HasNotes (L.told loader.old) (options_of request.entry).endian (view request.entry)
-        notes.new) }
-{
-    match request.options().endian {
-        Endian::Little => {
-            run_in_order::<LittleEndian, _, _, _>(alloc, loader, maker, request, texts, notes, sink)
-        }
-        Endian::Big => {
-            run_in_order::<BigEndian, _, _, _>(alloc, loader, maker, request, texts, notes, sink)
-        }
-    }
-}
-
-/// Runs the request. What was put goes out, also before a fault.
-pub(crate) fn run_whole<'a, L: Loader, M: Maker, T: Output>(
+/// The same to the last byte.
+pub(crate) fn run_whole<'a, E: Order, L: Loader, M: Maker, T: Output>(
     alloc: Global,
     loader: &mut L,
     maker: &mut M,
@@ -292,6 +261,7 @@ pub(crate) fn run_whole<'a, L: Loader, M: Maker, T: Output>(
     notes: &mut Notes,
     output: &mut T,
 ) -> Result<u64, ProgramFault<'a>>
+    requires { (options_of request).endian ≡ E.order }
     ensures meets { MeetsWhole (L.told loader.old) (M.held maker.old, M.held maker.new)
         (view request.entry) (passage T.taken T.given T.failures output.old output.new) result }
     ensures host { BlamesFor (options_of request.entry).endian (view request.entry)
@@ -301,16 +271,22 @@ pub(crate) fn run_whole<'a, L: Loader, M: Maker, T: Output>(
         → HasNotes (L.told loader.old) (options_of request.entry).endian (view request.entry)
         notes.new) }
 {
-    let answer = run_request(alloc, loader, maker, request, texts, notes, output);
-    let finished = output.finish();
-    let findings = answer?;
-    match finished {
-        Ok(()) => Ok(findings),
+    let answer = run_in_order::<E, L, M, T>(alloc, loader, maker, request, texts, notes, output);
+    finished(answer, output)
+}
+
+/// Puts a text that answers the command line.
+fn put_answer<T: Sink>(text: &str, sink: &mut T) -> Result<(), ProgramFault<'static>>
+    ensures puts { PutsTo T.Sink sink.old sink.new text.now result }
+    ensures fault { IfErr result (λ fault. fault ≡ ProgramFault.Output) }
+{
+    match put_all(sink, text.as_bytes()) {
+        Ok(()) => Ok(()),
         Err(_) => Err(ProgramFault::Output),
     }
 }
 
-/// Puts a text that answers the command line.
+/// The same to the last byte.
 fn put_help<T: Output>(text: &str, output: &mut T) -> Result<(), ProgramFault<'static>>
     ensures ok { OnOk result (Appends (T.taken output.old) (T.given output.new) text.now
         × (T.failures output.new ≡ T.failures output.old)) }
@@ -319,12 +295,8 @@ fn put_help<T: Output>(text: &str, output: &mut T) -> Result<(), ProgramFault<'s
     ensures failed { IfErr result (λ fault. (fault ≡ ProgramFault.Output)
         × HasFailed (T.failures output.old) (T.failures output.new)) }
 {
-    let put = put_all(output, text.as_bytes());
-    let finished = output.finish();
-    match (put, finished) {
-        (Ok(()), Ok(())) => Ok(()),
-        _ => Err(ProgramFault::Output),
-    }
+    let answer = put_answer(text, output);
+    finished(answer, output)
 }
 
 /// What it comes to that the work of a request found so much.
@@ -341,34 +313,43 @@ fn as_success(request: &Request<'_>, findings: u64) -> Success
     }
 }
 
-/// Answers a command line.
-fn run_command<'a, L: Loader, M: Maker, T: Output>(
+/// Answers a request.
+fn answer_request<'a, E: Order, L: Loader, M: Maker, T: Output>(
     alloc: Global,
     loader: &mut L,
     maker: &mut M,
-    command: Result<Request<'a>, RequestFault>,
+    request: Request<'a>,
     texts: &'a mut Texts,
     output: &mut T,
 ) -> Result<Success, Stop<'a>>
+    requires { (options_of request).endian ≡ E.order }
     ensures meets { MeetsCommand (output.new ≡ output.old) (L.told loader.old)
-        (M.held maker.old, M.held maker.new) command.entry
+        (M.held maker.old, M.held maker.new) (Ok request.entry)
         (passage T.taken T.given T.failures output.old output.new) result }
-    ensures host { BlamesCommand command.entry (loader.new ≡ loader.old) (maker.new ≡ maker.old)
-        (reads L.told L.failures loader.old loader.new)
+    ensures host { BlamesCommand (Ok request.entry) (loader.new ≡ loader.old)
+        (maker.new ≡ maker.old) (reads L.told L.failures loader.old loader.new)
         (writes (telling M.names M.held M.failures) maker.old maker.new) result }
 {
     let mut notes = Notes::new(alloc, false);
-    match command {
-        Ok(request) => match run_whole(alloc, loader, maker, request, texts, &mut notes, output) {
-            Ok(findings) => Ok(as_success(&request, findings)),
-            Err(fault) => Err(Stop::Fault(fault)),
-        },
-        Err(RequestFault::Help { text }) => match put_help(text.as_str(), output) {
+    match run_whole::<E, L, M, T>(alloc, loader, maker, request, texts, &mut notes, output) {
+        Ok(findings) => Ok(as_success(&request, findings)),
+        Err(fault) => Err(Stop::Fault(fault)),
+    }
+}
+
+/// Answers words that make no task.
+fn answer_refusal<T: Output>(fault: RequestFault, output: &mut T) -> Result<Success, Stop<'static>>
+    ensures { (told : List ℕ → Option (List ℕ)) → (held : Held)
+        → MeetsCommand (output.new ≡ output.old) told held (Err fault)
+        (passage T.taken T.given T.failures output.old output.new) result }
+{
+    match fault {
+        RequestFault::Help { text } => match put_help(text.as_str(), output) {
             Ok(()) => Ok(Success::Shown(0)),
             Err(fault) => Err(Stop::Fault(fault)),
         },
-        Err(RequestFault::Usage { text }) => Err(Stop::Usage { text }),
-        Err(RequestFault::OutOfMemory) => Err(Stop::Fault(ProgramFault::OutOfMemory)),
+        RequestFault::Usage { text } => Err(Stop::Usage { text }),
+        RequestFault::OutOfMemory => Err(Stop::Fault(ProgramFault::OutOfMemory)),
     }
 }
 
@@ -404,33 +385,56 @@ pub fn note<E: Sink>(findings: u64, errors: &mut E) -> Outcome
     Outcome::Done
 }
 
-/// Runs a command line that asks for no folder.
-pub(crate) fn run_image<L: Loader, M: Maker, T: Output, E: Sink>(
-    alloc: Global,
-    loader: &mut L,
-    maker: &mut M,
-    command: Result<Request<'_>, RequestFault>,
-    output: &mut T,
-    errors: &mut E,
-) -> Outcome
-    // A fault is one that is due, and is told in one line, which a note may follow; `ls` and `cat`
-    // note what they passed over. What is told of the host's files is so.
-    ensures { (ran : RunsCommand (output.new ≡ output.old) (L.told loader.old)
-        (M.held maker.old, M.held maker.new) command.entry
-        (passage T.taken T.given T.failures output.old output.new)
-        (Says (errors.new ≡ errors.old) (E.taken errors.old) (E.taken errors.new)
-        (E.failures errors.old) (E.failures errors.new)) result)
-        × BlamesCommand command.entry (loader.new ≡ loader.old) (maker.new ≡ maker.old)
-        (reads L.told L.failures loader.old loader.new)
-        (writes (telling M.names M.held M.failures) maker.old maker.new) ran.answer }
+/// Tells what a command line was answered, and how that ends. A fault is told in one line, which a
+/// note may follow; `ls` and `cat` note what they passed over.
+fn tell<N: Sink>(answer: Result<Success, Stop<'_>>, errors: &mut N) -> Outcome
+    ensures ends { result ≡ outcome_after answer.entry }
+    ensures said { Says (errors.new ≡ errors.old) (N.taken errors.old) (N.taken errors.new)
+        (N.failures errors.old) (N.failures errors.new) (said_after answer.entry) }
 {
-    let mut texts = Texts::new(alloc);
-    match run_command(alloc, loader, maker, command, &mut texts, output) {
+    match answer {
         Ok(Success::Found(findings)) => Outcome::of(findings),
         Ok(Success::Shown(findings)) => note(findings, errors),
         Err(Stop::Usage { text }) => report_usage(text.as_str(), errors),
         Err(Stop::Fault(fault)) => report_fault(&fault, errors),
     }
+}
+
+/// Runs a request of an image. A fault is one that is due, and what is told of the host's files is
+/// so.
+pub(crate) fn run_image<E: Order, L: Loader, M: Maker, T: Output, N: Sink>(
+    alloc: Global,
+    loader: &mut L,
+    maker: &mut M,
+    request: Request<'_>,
+    output: &mut T,
+    errors: &mut N,
+) -> Outcome
+    requires { (options_of request).endian ≡ E.order }
+    ensures { (ran : RunsCommand (output.new ≡ output.old) (L.told loader.old)
+        (M.held maker.old, M.held maker.new) (Ok request.entry)
+        (passage T.taken T.given T.failures output.old output.new)
+        (Says (errors.new ≡ errors.old) (N.taken errors.old) (N.taken errors.new)
+        (N.failures errors.old) (N.failures errors.new)) result)
+        × BlamesCommand (Ok request.entry) (loader.new ≡ loader.old) (maker.new ≡ maker.old)
+        (reads L.told L.failures loader.old loader.new)
+        (writes (telling M.names M.held M.failures) maker.old maker.new) ran.answer }
+{
+    let mut texts = Texts::new(alloc);
+    let answer = answer_request::<E, L, M, T>(alloc, loader, maker, request, &mut texts, output);
+    tell(answer, errors)
+}
+
+/// Tells why words make no task, or the help that they ask for.
+fn run_refused<T: Output, N: Sink>(fault: RequestFault, output: &mut T, errors: &mut N) -> Outcome
+    ensures { (told : List ℕ → Option (List ℕ)) → (held : Held)
+        → RunsCommand (output.new ≡ output.old) told held (Err fault)
+        (passage T.taken T.given T.failures output.old output.new)
+        (Says (errors.new ≡ errors.old) (N.taken errors.old) (N.taken errors.new)
+        (N.failures errors.old) (N.failures errors.new)) result }
+{
+    let answer = answer_refusal(fault, output);
+    tell(answer, errors)
 }
 
 /// Runs the program on its arguments, of which the first is its own name.
@@ -484,6 +488,6 @@ pub fn run<L: Loader, M: Placer, D: Folders, T: Output, E: Sink>(
 {
     match asked(alloc, args) {
         Ok(asked) => run_placed(alloc, loader, maker, folders, asked, output, errors),
-        Err(fault) => run_image(alloc, loader, maker, Err(fault), output, errors),
+        Err(fault) => run_refused(fault, output, errors),
     }
 }

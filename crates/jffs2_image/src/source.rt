@@ -2,6 +2,7 @@
 
 ghost use Rattle.std.specs.Prelude.{◌≡◌};
 
+use crate::refusing::Refusing;
 use flashbase::{DeviceFault, Source};
 use jreport::Reason;
 use std::io::Read;
@@ -19,6 +20,7 @@ impl<R: Read + Drop> FileSource<R> {
     pub fn counting_from(reader: R, failures: u64) -> Self
         ensures rest { ⟦<FileSource<R> as Source>⟧.rest result ≡ R.remaining reader }
         ensures failures { ⟦<FileSource<R> as Source>⟧.failures result ≡ failures }
+        ensures reason { ⟦<FileSource<R> as Refusing>⟧.last_reason result ≡ Reason.Other }
     {
         FileSource {
             reader,
@@ -33,9 +35,12 @@ impl<R: Read + Drop> FileSource<R> {
     {
         self.failures
     }
+}
 
-    /// Why it failed last, as far as the host tells.
-    pub fn reason(&self) -> Reason {
+impl<R: Read + Drop> Refusing for FileSource<R> {
+    ghost last_reason = { λ s. s.reason };
+
+    fn reason(&self) -> Reason {
         self.reason
     }
 }

@@ -2,7 +2,7 @@
 ghost use Rattle.std.specs.Prelude.{◌≡◌, ℕ, List};
 ghost use Rattle.jcommand.specs.Parsed.{task_view, view};
 ghost use Rattle.jffs2_image.specs.Placing.{FillsIf, FillsUp, RunsBeside, RunsFilled, RunsPlaced, SaysOn, TakesName, flash_end, flash_end_of, is_well, intent_of, telling, tellings, writes, written_by, written_by_request};
-ghost use Rattle.jffs2_image.specs.Tasks.{Asks, RunsTask, fills, passage, reads};
+ghost use Rattle.jffs2_image.specs.Tasks.{Asks, RunsTask, fills, order_asked, passage, reads};
 
 use crate::clashes::run_apart;
 use crate::compressing::run_compress;
@@ -18,8 +18,10 @@ use crate::packing::run_pack;
 use crate::placing::Placer;
 use crate::program::{report_fault, run_image};
 use crate::weak::run_weak;
+use byteorder::{BigEndian, LittleEndian};
 use flashbase::Sink;
 use jcommand::{Asked, Options, Outcome, Placing, Request, Task};
+use jnode::{Endian, Order};
 use jreport::{ProgramFault, Unopened};
 use std::alloc::Global;
 
@@ -153,7 +155,76 @@ fn settle<M: Placer, E: Sink>(
     }
 }
 
-/// Runs a task, as if nothing were done about the file that it writes.
+/// The byte order that a task is given. `info` finds out its own, and `listing` reads no image.
+fn order_of(task: Task<'_>) -> Endian
+    ensures { result ≡ order_asked task.entry }
+{
+    match task {
+        Task::Image(request) | Task::Weak(request) => request.options().endian,
+        Task::Extract(asked) => asked.options.endian,
+        Task::Cuts(asked) => asked.options.endian,
+        Task::Compress(asked) => asked.options.endian,
+        Task::Diff(asked) => asked.options.endian,
+        Task::Apart(asked) => asked.options.endian,
+        Task::Damage(asked) => asked.options.endian,
+        Task::Pack(asked) => asked.options.endian,
+        Task::Listing(_) | Task::Info { .. } => Endian::Little,
+    }
+}
+
+/// Runs a task in the byte order that it is given.
+fn run_task_in<'a, E: Order, L: Loader, M: Maker, D: Folders, T: Output, N: Sink>(
+    alloc: Global,
+    loader: &mut L,
+    maker: &mut M,
+    folders: &mut D,
+    task: Task<'a>,
+    output: &mut T,
+    errors: &mut N,
+) -> Outcome
+    requires { order_asked task ≡ E.order }
+    ensures { (words : List (List ℕ)) → Asks words (task_view task.entry)
+        → RunsTask words (record {
+          reading = reads L.told L.failures loader.old loader.new;
+          writing = writes (telling M.names M.held M.failures) maker.old maker.new;
+          folders = fills D.made D.reads folders.old folders.new;
+          output = passage T.taken T.given T.failures output.old output.new;
+          errors = passage N.taken N.taken N.failures errors.old errors.new;
+        }) (record {
+          loader = loader.new ≡ loader.old;
+          maker = maker.new ≡ maker.old;
+          folders = folders.new ≡ folders.old;
+          output = output.new ≡ output.old;
+          errors = errors.new ≡ errors.old;
+        }) result }
+{
+    match task {
+        Task::Image(request) => {
+            run_image::<E, L, M, T, N>(alloc, loader, maker, request, output, errors)
+        }
+        Task::Weak(request) => {
+            run_weak::<E, L, M, T, N>(alloc, loader, maker, request, output, errors)
+        }
+        Task::Extract(asked) => run_extract::<E, L, D, N>(alloc, loader, folders, asked, errors),
+        Task::Listing(asked) => run_listing(alloc, folders, asked, output, errors),
+        Task::Info { image } => run_info(loader, image, output, errors),
+        Task::Cuts(asked) => run_cuts::<E, L, T, N>(alloc, loader, asked, output, errors),
+        Task::Compress(asked) => {
+            run_compress::<E, L, M, T, N>(alloc, loader, maker, asked, output, errors)
+        }
+        Task::Diff(asked) => run_diff::<E, L, T, N>(alloc, loader, asked, output, errors),
+        Task::Apart(asked) => {
+            run_apart::<E, L, M, T, N>(alloc, loader, maker, asked, output, errors)
+        }
+        Task::Damage(asked) => run_damage::<E, L, T, N>(alloc, loader, asked, output, errors),
+        Task::Pack(asked) => {
+            run_pack::<E, L, M, D, T, N>(alloc, loader, maker, folders, asked, output, errors)
+        }
+    }
+}
+
+/// Runs a task, as if nothing were done about the file that it writes. All that is done with an
+/// image from here on is done in its byte order.
 fn run_task<'a, L: Loader, M: Maker, D: Folders, T: Output, E: Sink>(
     alloc: Global,
     loader: &mut L,
@@ -178,18 +249,13 @@ fn run_task<'a, L: Loader, M: Maker, D: Folders, T: Output, E: Sink>(
           errors = errors.new ≡ errors.old;
         }) result }
 {
-    match task {
-        Task::Image(request) => run_image(alloc, loader, maker, Ok(request), output, errors),
-        Task::Weak(request) => run_weak(alloc, loader, maker, request, output, errors),
-        Task::Extract(asked) => run_extract(alloc, loader, folders, asked, errors),
-        Task::Listing(asked) => run_listing(alloc, folders, asked, output, errors),
-        Task::Info { image } => run_info(loader, image, output, errors),
-        Task::Cuts(asked) => run_cuts(alloc, loader, asked, output, errors),
-        Task::Compress(asked) => run_compress(alloc, loader, maker, asked, output, errors),
-        Task::Diff(asked) => run_diff(alloc, loader, asked, output, errors),
-        Task::Apart(asked) => run_apart(alloc, loader, maker, asked, output, errors),
-        Task::Damage(asked) => run_damage(alloc, loader, asked, output, errors),
-        Task::Pack(asked) => run_pack(alloc, loader, maker, folders, asked, output, errors),
+    match order_of(task) {
+        Endian::Little => run_task_in::<LittleEndian, L, M, D, T, E>(
+            alloc, loader, maker, folders, task, output, errors,
+        ),
+        Endian::Big => run_task_in::<BigEndian, L, M, D, T, E>(
+            alloc, loader, maker, folders, task, output, errors,
+        ),
     }
 }
 

@@ -1,6 +1,7 @@
 //! `--weak`: notes on the weak nodes of what `build` and `append` write.
 ghost use Rattle.std.specs.Prelude.{◌≡◌, ◌≢◌, IsFalse, IsTrue, IfOk, OnOk, length};
 ghost use Rattle.jlog.specs.View.{mount_of, flash_of_start};
+ghost use Rattle.jcommand.specs.Parsed.{options_of};
 ghost use Rattle.jcommand.specs.Status.{outcome_of};
 ghost use Rattle.jffs2_image.specs.Runs.{Says};
 ghost use Rattle.jffs2_image.specs.WeakRuns.{AreAllTaken, AreNotes, EndsWeak, notes_said};
@@ -117,22 +118,23 @@ pub(crate) fn put_notes<E: Sink>(notes: &Notes, errors: &mut E) -> Outcome
 }
 
 /// `build` and `append` with `--weak` as a command.
-pub fn run_weak<L: Loader, M: Maker, T: Output, E: Sink>(
+pub(crate) fn run_weak<E: Order, L: Loader, M: Maker, T: Output, N: Sink>(
     alloc: Global,
     loader: &mut L,
     maker: &mut M,
     request: Request<'_>,
     output: &mut T,
-    errors: &mut E,
+    errors: &mut N,
 ) -> Outcome
+    requires { (options_of request).endian ≡ E.order }
     ensures { EndsWeak request.entry (reads L.told L.failures loader.old loader.new)
         (writes (telling M.names M.held M.failures) maker.old maker.new) (maker.new ≡ maker.old)
         (passage T.taken T.given T.failures output.old output.new)
-        (change_of E.Sink errors.old errors.new) result }
+        (change_of N.Sink errors.old errors.new) result }
 {
     let mut texts = Texts::new(alloc);
     let mut notes = Notes::new(alloc, true);
-    match run_whole(
+    match run_whole::<E, L, M, T>(
         alloc, loader, maker, request, &mut texts, &mut notes, output,
     ) {
         Ok(findings) => {

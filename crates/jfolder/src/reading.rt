@@ -70,7 +70,8 @@ fn wrong_name(name: &[u8]) -> Option<Reason>
 fn joined(alloc: Global, directory: &str, name: &str) -> Result<String, AllocError>
     ensures { IfOk result (λ path. string_bytes path ≡ directory.now ++ 47 ∷ name.now) }
 {
-    let mut path = String::new(alloc);
+    let length = directory.len().saturating_add(name.len()).saturating_add(1);
+    let mut path = String::with_capacity(alloc, length)?;
     path.push_str(directory)?;
     path.push_str("/")?;
     path.push_str(name)?;

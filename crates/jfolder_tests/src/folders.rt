@@ -52,13 +52,18 @@ pub fn tree() -> [Object; 12] {
 }
 
 pub const TREE_TEXT: &str =
-    "time 100\nattr 755 0 0 100 100 /\nmkdir 700 /a\ntime 7\nsymlink /a/l ../b\\x20c/\\x5c\ntime 100\nfile 4755 /a/x host/a/x\nowner 5 6\nfile 644 /a.c host/a.c\nlink /a.c /b\ntime 0\nowner 0 0\ndevice c 644 4 1 /c\nowner 5 6\nfifo 644 /d\nowner 0 0\nfile 600 /e\\x20f host/e\\x20f\nsocket 755 /f\n";
+    "time 100\nattr 755 0 0 100 100 /\nmkdir 700 /a\ntime 7\nsymlink /a/l ../b\\x20c/\\x5c\n\
+     time 100\nfile 4755 /a/x host/a/x\nowner 5 6\nfile 644 /a.c host/a.c\nlink /a.c /b\ntime 0\n\
+     owner 0 0\ndevice c 644 4 1 /c\nowner 5 6\nfifo 644 /d\nowner 0 0\n\
+     file 600 /e\\x20f host/e\\x20f\nsocket 755 /f\n";
 
 pub const TREE_NOTES: &str = "left out /g: an owner above 65535\n";
 
 /// The same folder, with one owner and one time.
 pub const GIVEN_TEXT: &str =
-    "time 3\nattr 755 1 2 3 3 /\nowner 1 2\nmkdir 700 /a\nsymlink /a/l ../b\\x20c/\\x5c\nfile 4755 /a/x host/a/x\nfile 644 /a.c host/a.c\nlink /a.c /b\ndevice c 644 4 1 /c\nfifo 644 /d\nfile 600 /e\\x20f host/e\\x20f\nsocket 755 /f\nmkdir 755 /g\nmkdir 755 /g/h\n";
+    "time 3\nattr 755 1 2 3 3 /\nowner 1 2\nmkdir 700 /a\nsymlink /a/l ../b\\x20c/\\x5c\n\
+     file 4755 /a/x host/a/x\nfile 644 /a.c host/a.c\nlink /a.c /b\ndevice c 644 4 1 /c\n\
+     fifo 644 /d\nfile 600 /e\\x20f host/e\\x20f\nsocket 755 /f\nmkdir 755 /g\nmkdir 755 /g/h\n";
 
 /// Whether a folder is read as this listing, with these notes.
 pub fn is_read(

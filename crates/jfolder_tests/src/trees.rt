@@ -163,8 +163,9 @@ fn names_that_are_none_are_left_out(rt: HostRuntime) {
         make_object("b", 0o100644, (0, 0), 0, ""),
         directory,
     ];
-    let notes =
-        "left out /: names that are no text: 3\nleft out /..: a name that no file has\nleft out /a\\x00: a name that no file has\nleft out /b: a name that was told before\nleft out /d/: names that are no text: 1\n";
+    let notes = "left out /: names that are no text: 3\nleft out /..: a name that no file has\n\
+         left out /a\\x00: a name that no file has\nleft out /b: a name that was told before\n\
+         left out /d/: names that are no text: 1\n";
     let text = "attr 755 0 0 0 0 /\nfile 644 /b host/b\nmkdir 755 /d\n";
     expect(&rt, is_read(alloc, &objects, &AS_TOLD, text, notes, 5));
 }
@@ -190,7 +191,8 @@ fn unlisted() -> &'static [(&'static str, u64, &'static str, &'static str, &'sta
             "o o\n\\\u{e9}",
             268435456,
             "o",
-            "attr 755 0 0 0 0 /\nfile 644 /o\\x20o\\x0a\\x5c\\xc3\\xa9 host/o\\x20o\\x0a\\x5c\\xc3\\xa9\n",
+            "attr 755 0 0 0 0 /\n\
+             file 644 /o\\x20o\\x0a\\x5c\\xc3\\xa9 host/o\\x20o\\x0a\\x5c\\xc3\\xa9\n",
             "",
         ),
         (

@@ -1,12 +1,12 @@
 //! A folder of the system that is filled.
 
-ghost use Rattle.std.specs.Prelude.{◌≡◌, true, None, Some, IfErr, IfOk, IsErrOf, IsFalse};
+ghost use Rattle.std.specs.Prelude.{◌≡◌, true, None, Some, IfErr, IfOk, IsErrOf, IsFalse, OnOk};
 ghost use Rattle.std.specs.Fs.{new_options, permissions_mode, with_create_new, with_write};
 ghost use Rattle.std.specs.IoError.{error_kind};
 ghost use Rattle.jextract.specs.Folders.{Counts, counted_fault};
 ghost use Rattle.jhost.specs.FilledFaults.{filling_fault};
-ghost use Rattle.jhost.specs.FilledFolders.{filled_root};
-ghost use Rattle.jhost.specs.Silence.{FillsInSilence};
+ghost use Rattle.jhost.specs.FilledFolders.{filled_kind, filled_root};
+ghost use Rattle.jhost.specs.Silence.{FillsInSilence, HidesFilling};
 
 use crate::file::{HostFile, fault_of};
 use crate::paths::joined;
@@ -97,6 +97,8 @@ impl<'r, R: Files + AllocGlobal + Clock + Eprint> FilledFolder<'r, R> {
         ensures none { IfOk result (λ folder. ⟦<FilledFolder<'r, R> as Folder>⟧.failures folder
             ≡ record { refused = 0; full = 0 }) }
         ensures root { IfOk result (λ folder. filled_root folder ≡ path.now) }
+        ensures kind { IfOk result (λ folder. filled_kind folder ≡ ErrorKind.Other) }
+        ensures hidden { IfOk result HidesFilling }
         ensures silent { IsFalse tells → IfOk result (λ folder. FillsInSilence folder) }
     {
         Ok(FilledFolder {
@@ -111,8 +113,9 @@ impl<'r, R: Files + AllocGlobal + Clock + Eprint> FilledFolder<'r, R> {
 
     /// Counts a fault, where the host is to blame.
     fn count(&mut self, fault: FolderFault)
-        ensures { ⟦<FilledFolder<'r, R> as Folder>⟧.failures self.new
+        ensures counts { ⟦<FilledFolder<'r, R> as Folder>⟧.failures self.new
             ≡ counted_fault fault (⟦<FilledFolder<'r, R> as Folder>⟧.failures self.old) }
+        ensures kind { filled_kind self.new ≡ filled_kind self.old }
     {
         match fault {
             FolderFault::Refused => self.failures = self.failures.wrapping_add(1),
@@ -127,6 +130,8 @@ impl<'r, R: Files + AllocGlobal + Clock + Eprint> FilledFolder<'r, R> {
             (⟦<FilledFolder<'r, R> as Folder>⟧.failures self.new) result }
         ensures fault { IfErr done (λ error. IsErrOf result (filling_fault (error_kind error))) }
         ensures made { IfOk done (λ made. result ≡ Ok made) }
+        ensures kind { IfErr done (λ error. filled_kind self.new ≡ error_kind error) }
+        ensures same { OnOk done (filled_kind self.new ≡ filled_kind self.old) }
     {
         match done {
             Ok(made) => Ok(made),
@@ -185,12 +190,17 @@ impl<'r, R: Files + AllocGlobal + Clock + Eprint> FilledFolder<'r, R> {
     }
 
     /// The kind of the last error of the host; `Other` where there was none.
-    pub fn kind(&self) -> ErrorKind {
+    pub fn kind(&self) -> ErrorKind
+        ensures { result ≡ filled_kind self.now }
+    {
         self.kind
     }
 
     /// Takes away what was told of how far it is.
-    pub fn finish(&mut self) {
+    pub fn finish(&mut self)
+        ensures hidden { HidesFilling self.new }
+        ensures kind { filled_kind self.new ≡ filled_kind self.old }
+    {
         self.progress.finish();
     }
 }

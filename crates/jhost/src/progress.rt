@@ -1,7 +1,8 @@
 //! How far long work is, told on a terminal.
 
-ghost use Rattle.std.specs.Prelude.{IsFalse};
-ghost use Rattle.jhost.specs.Silence.{IsSilent};
+ghost use Rattle.std.specs.Prelude.{◌≡◌, IsFalse};
+ghost use Rattle.jhost.specs.Counted.{counted_objects, one_more};
+ghost use Rattle.jhost.specs.Silence.{IsCleared, IsSilent};
 
 use std::io::Eprint;
 use std::rt::Clock;
@@ -21,7 +22,9 @@ pub struct Progress<'r, R: Clock + Eprint> {
 impl<'r, R: Clock + Eprint> Progress<'r, R> {
     /// No objects. It tells nothing unless it `tells`.
     pub fn new(rt: &'r R, tells: bool) -> Self
-        ensures { IsFalse tells → IsSilent result }
+        ensures silent { IsFalse tells → IsSilent result }
+        ensures none { counted_objects result ≡ 0 }
+        ensures hidden { IsCleared result }
     {
         let due = if tells { a_second_from_now(rt) } else { None };
         Progress {
@@ -33,7 +36,11 @@ impl<'r, R: Clock + Eprint> Progress<'r, R> {
     }
 
     /// One object more.
-    pub fn step(&mut self) {
+    pub fn step(&mut self)
+        ensures count { counted_objects self.new ≡ one_more (counted_objects self.old) }
+        ensures silent { IsSilent self.old → IsSilent self.new }
+        ensures hidden { IsSilent self.old → IsCleared self.old → IsCleared self.new }
+    {
         self.count = self.count.saturating_add(1);
         let Some(due) = self.due else {
             return;
@@ -44,7 +51,9 @@ impl<'r, R: Clock + Eprint> Progress<'r, R> {
         }
     }
 
-    fn tell(&mut self) {
+    fn tell(&mut self)
+        ensures { counted_objects self.new ≡ counted_objects self.old }
+    {
         let count = self.count;
         let _ = eprint!(self.rt; "{count} objects\r");
         self.is_shown = true;
@@ -52,7 +61,11 @@ impl<'r, R: Clock + Eprint> Progress<'r, R> {
     }
 
     /// Takes away what was told.
-    pub fn finish(&mut self) {
+    pub fn finish(&mut self)
+        ensures hidden { IsCleared self.new }
+        ensures count { counted_objects self.new ≡ counted_objects self.old }
+        ensures silent { IsSilent self.old → IsSilent self.new }
+    {
         if self.is_shown {
             let _ = eprint!(self.rt; "                            \r");
             self.is_shown = false;

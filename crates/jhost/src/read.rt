@@ -1,16 +1,16 @@
 //! A folder of the system that is read.
 
-ghost use Rattle.std.specs.Prelude.{◌≡◌, ◌++◌, ◌∷◌, [], IfErr, IfNone, IfOk, IfSome, IsFalse, IsOk, None, string_bytes};
+ghost use Rattle.std.specs.Prelude.{◌≡◌, ◌++◌, ◌∷◌, [], IfErr, IfNone, IfOk, IfSome, IsFalse, IsOk, None, OnOk, string_bytes};
 ghost use Rattle.std.specs.Fs.{IsFile, file_type, metadata_len, metadata_mode};
 ghost use Rattle.std.specs.IoError.{error_kind};
 ghost use Rattle.jfolder.specs.Known.{named_of, nothing};
 ghost use Rattle.jhost.specs.Answers.{answer_of, fault_of_kind};
 ghost use Rattle.jhost.specs.NamesRead.{AddsEntry};
 ghost use Rattle.jhost.specs.JoinedPaths.{joined_path};
-ghost use Rattle.jhost.specs.ReadFolders.{read_root};
-ghost use Rattle.jhost.specs.Silence.{ReadsInSilence};
+ghost use Rattle.jhost.specs.ReadFolders.{last_kind, read_root, read_whole};
+ghost use Rattle.jhost.specs.Silence.{HidesReading, ReadsInSilence};
 
-use crate::paths::joined;
+use crate::paths::{joined, put_joined};
 use crate::progress::Progress;
 use jfolder::{FolderFault, HostFolder, Looked, Names};
 use std::alloc::AllocError;
@@ -28,6 +28,8 @@ const OUTPUT: &str = "/dev/stdout";
 pub struct ReadFolder<'r, R: Files + AllocGlobal + Clock + Eprint> {
     rt: &'r R,
     root: String,
+    /// The path of the host that it was asked for last.
+    whole: String,
     /// The device and the number of the regular file that standard output is, if it is one.
     output: Option<(u64, u64)>,
     /// The kind of the host's last error.
@@ -148,11 +150,14 @@ impl<'r, R: Files + AllocGlobal + Clock + Eprint> ReadFolder<'r, R> {
     /// output is written to is not told.
     pub fn new(rt: &'r R, path: &str, tells: bool) -> Result<Self, AllocError>
         ensures root { IfOk result (λ folder. read_root folder ≡ path.now) }
+        ensures kind { IfOk result (λ folder. last_kind folder ≡ ErrorKind.Other) }
+        ensures hidden { IfOk result HidesReading }
         ensures silent { IsFalse tells → IfOk result (λ folder. ReadsInSilence folder) }
     {
         Ok(ReadFolder {
             rt,
             root: String::from_str(rt.alloc(), path)?,
+            whole: String::new(rt.alloc()),
             output: output_file(rt),
             kind: ErrorKind::Other,
             progress: Progress::new(rt, tells),
@@ -164,6 +169,16 @@ impl<'r, R: Files + AllocGlobal + Clock + Eprint> ReadFolder<'r, R> {
             (λ whole. string_bytes whole ≡ joined_path (read_root self.now) path.now) }
     {
         joined(self.rt, self.root.as_str(), path)
+    }
+
+    /// Puts the path of the host for one below the folder.
+    fn put_whole(&mut self, path: &str) -> Result<(), AllocError>
+        ensures whole { OnOk result
+            (read_whole self.new ≡ joined_path (read_root self.old) path.now) }
+        ensures root { read_root self.new ≡ read_root self.old }
+        ensures kind { last_kind self.new ≡ last_kind self.old }
+    {
+        put_joined(&mut self.whole, self.root.as_str(), path)
     }
 
     /// What the system tells of an object, unless it is the file that standard output is.
@@ -182,6 +197,9 @@ impl<'r, R: Files + AllocGlobal + Clock + Eprint> ReadFolder<'r, R> {
     /// What a call of the host comes to; the kind of an error is noted.
     fn answered<T: Drop>(&mut self, done: io::Result<T>) -> Result<T, FolderFault>
         ensures answer { result ≡ answer_of done }
+        ensures kind { IfErr done (λ error. last_kind self.new ≡ error_kind error) }
+        ensures same { OnOk done (last_kind self.new ≡ last_kind self.old) }
+        ensures root { read_root self.new ≡ read_root self.old }
     {
         if let Err(error) = &done {
             self.kind = error.kind();
@@ -190,12 +208,18 @@ impl<'r, R: Files + AllocGlobal + Clock + Eprint> ReadFolder<'r, R> {
     }
 
     /// The kind of the last error of the host; `Other` where there was none.
-    pub fn kind(&self) -> ErrorKind {
+    pub fn kind(&self) -> ErrorKind
+        ensures { result ≡ last_kind self.now }
+    {
         self.kind
     }
 
     /// Takes away what was told of how far it is.
-    pub fn finish(&mut self) {
+    pub fn finish(&mut self)
+        ensures hidden { HidesReading self.new }
+        ensures root { read_root self.new ≡ read_root self.old }
+        ensures kind { last_kind self.new ≡ last_kind self.old }
+    {
         self.progress.finish();
     }
 }
@@ -206,19 +230,22 @@ impl<'r, R: Files + AllocGlobal + Clock + Eprint> HostFolder for ReadFolder<'r, 
 
     fn look(&mut self, path: &str) -> Result<Looked, FolderFault> {
         self.progress.step();
-        let path = self.joined(path)?;
-        let metadata = self.answered(fs::symlink_metadata(self.rt, path.as_str()))?;
+        self.put_whole(path)?;
+        let done = fs::symlink_metadata(self.rt, self.whole.as_str());
+        let metadata = self.answered(done)?;
         self.told(&metadata)
     }
 
     fn names(&mut self, path: &str) -> Result<Names, FolderFault> {
-        let path = self.joined(path)?;
-        self.answered(names_in(self.rt, path.as_str()))
+        self.put_whole(path)?;
+        let done = names_in(self.rt, self.whole.as_str());
+        self.answered(done)
     }
 
     fn target(&mut self, path: &str) -> Result<String, FolderFault> {
-        let path = self.joined(path)?;
-        let target = self.answered(fs::read_link(self.rt, path.as_str()))?;
+        self.put_whole(path)?;
+        let done = fs::read_link(self.rt, self.whole.as_str());
+        let target = self.answered(done)?;
         Ok(target.into_string())
     }
 
@@ -227,8 +254,9 @@ impl<'r, R: Files + AllocGlobal + Clock + Eprint> HostFolder for ReadFolder<'r, 
     }
 
     fn open(&mut self, path: &str) -> Result<(), FolderFault> {
-        let path = self.joined(path)?;
-        let _file = self.answered(fs::open(self.rt, path.as_str()))?;
+        self.put_whole(path)?;
+        let done = fs::open(self.rt, self.whole.as_str());
+        let _file = self.answered(done)?;
         Ok(())
     }
 }

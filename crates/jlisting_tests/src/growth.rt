@@ -6,7 +6,8 @@ use jlisting::{BadLine, ListingFault, Rule, WordRule, listing};
 use std::alloc::Global;
 
 const TEXT: &[u8] =
-    b"create 644 /\\x61\nwrite /a 0 0fF0\nsymlink /\\x62 \\x63\nwrite /a 2 -\npart /\\x61 2 f\nremove /b\nfile 644 /\\x62 f\\xff\n";
+    b"create 644 /\\x61\nwrite /a 0 0fF0\nsymlink /\\x62 \\x63\nwrite /a 2 -\npart /\\x61 2 f\n\
+      remove /b\nfile 644 /\\x62 f\\xff\n";
 
 const LAST_LINE: ListingFault = ListingFault::Line(BadLine {
     line: 7,

@@ -15,7 +15,8 @@ fn listings() -> &'static [(&'static [u8], &'static str)] {
     &[
         (
             b"create 0644 /a\nwrite /a 0 0102030405060708090a\ntruncate /a 4\nwrite /a 8 ff\n",
-            "1: 0 create 644 0 0 /a\n2: 0 write 0 /a \\x01\\x02\\x03\\x04\\x05\\x06\\x07\\x08\\x09\\x0a\n\
+            "1: 0 create 644 0 0 /a\n\
+             2: 0 write 0 /a \\x01\\x02\\x03\\x04\\x05\\x06\\x07\\x08\\x09\\x0a\n\
             3: 0 truncate 4 /a\n4: 0 write 8 /a \\xff\n",
         ),
         (
@@ -28,7 +29,8 @@ fn listings() -> &'static [(&'static [u8], &'static str)] {
             11: 7 rename /c /d\n13: 0 remove /d\n",
         ),
         (
-            b"time 5\nmkdir 1 /a\nowner 7 8\nmkdir 2 /b\ntime 6\nmkdir 3 /c\nowner 9 10\nmkdir 4 /d",
+            b"time 5\nmkdir 1 /a\nowner 7 8\nmkdir 2 /b\ntime 6\nmkdir 3 /c\nowner 9 10\n\
+              mkdir 4 /d",
             "2: 5 mkdir 1 0 0 /a\n4: 5 mkdir 2 7 8 /b\n6: 6 mkdir 3 7 8 /c\n8: 6 mkdir 4 9 10 /d\n",
         ),
         (b"time 1\ntime 2\nremove a", "3: 2 remove a\n"),

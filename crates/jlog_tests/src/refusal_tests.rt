@@ -6,7 +6,7 @@ use byteorder::LittleEndian;
 use jlog::{Session, SessionFault, resume_at};
 use jmount::mount;
 use jscan::Geometry;
-use jsteps::OpFault;
+use jsteps::{Op, OpFault};
 use std::alloc::Global;
 use std::test::Fail;
 use test_operations::{op_of, ops_of};
@@ -14,54 +14,87 @@ use test_support::{FORBIDS, Taker};
 
 const GEOMETRY: Geometry = Geometry { block: 8192 };
 
+/// Where writing goes on from an image, on a flash of so many blocks of a size.
+fn goes_on(
+    alloc: Global,
+    image: &[u8],
+    block: u32,
+    blocks: u32,
+) -> Result<Result<u32, SessionFault>, Fail> {
+    let geometry = Geometry { block };
+    let mounted = mount::<LittleEndian>(alloc, image, geometry)?;
+    Ok(resume_at::<LittleEndian>(&mounted, geometry, blocks))
+}
+
+/// A flash's block and number of blocks, and where writing begins on it.
+fn empty_flashes() -> &'static [(u32, u32, Result<u32, SessionFault>)] {
+    &[
+        (8192, 1, Ok(0)),
+        (8192, 0, Err(SessionFault::Geometry)),
+        (4096, 1, Err(SessionFault::Geometry)),
+        (8192, 32768, Ok(0)),
+        (8192, 32769, Err(SessionFault::Geometry)),
+        (8192, u32::MAX, Err(SessionFault::Geometry)),
+    ]
+}
+
 #[test]
-fn where_writing_may_go_on(rt: HostRuntime) -> Result<(), Fail> {
-    let alloc = rt.alloc();
-    let long = vec![in alloc; 0xFFu8; 8193]?;
-    let rows: [(&[u8], u32, u32, Result<u32, SessionFault>); 8] = [
-        (&[], 8192, 1, Ok(0)),
-        (&long, 8192, 2, Ok(0)),
-        (&long, 8192, 1, Err(SessionFault::Geometry)),
-        (&[], 8192, 0, Err(SessionFault::Geometry)),
-        (&[], 4096, 1, Err(SessionFault::Geometry)),
-        (&[], 8192, 32768, Ok(0)),
-        (&[], 8192, 32769, Err(SessionFault::Geometry)),
-        (&[], 8192, u32::MAX, Err(SessionFault::Geometry)),
-    ];
-    for (image, block, blocks, want) in rows {
-        let geometry = Geometry { block };
-        let mounted = mount::<LittleEndian>(alloc, image, geometry)?;
-        let found = resume_at::<LittleEndian>(&mounted, geometry, blocks);
+fn where_writing_may_begin(rt: HostRuntime) -> Result<(), Fail> {
+    for &(block, blocks, want) in empty_flashes() {
+        let found = goes_on(rt.alloc(), &[], block, blocks)?;
         equal_at(&rt, found, want, (block, blocks));
     }
+    Ok(())
+}
+
+#[test]
+fn where_writing_may_go_on(rt: HostRuntime) -> Result<(), Fail> {
+    let long = vec![in rt.alloc(); 0xFFu8; 8193]?;
+    equal(&rt, goes_on(rt.alloc(), &long, 8192, 2)?, Ok(0));
+    let too_long = goes_on(rt.alloc(), &long, 8192, 1)?;
+    equal(&rt, too_long, Err(SessionFault::Geometry));
     for blocks in [1, 0] {
-        let mounted = mount::<LittleEndian>(alloc, &FORBIDS, GEOMETRY)?;
-        let found = resume_at::<LittleEndian>(&mounted, GEOMETRY, blocks);
+        let found = goes_on(rt.alloc(), &FORBIDS, 8192, blocks)?;
         equal(&rt, found, Err(SessionFault::ReadOnly));
     }
     Ok(())
 }
 
-/// What is told of the blocks of an operation, once others were run on an image without nodes, onto
-/// a sink that takes so many bytes.
+/// What a session tells of the blocks of an operation, once it ran others.
+fn told_by(
+    alloc: Global,
+    mut session: Session<'_, LittleEndian, Taker>,
+    before: &[Op<'_>],
+    next: &Op<'_>,
+) -> Result<Option<u32>, SessionFault> {
+    let _ = session.run(alloc, before);
+    session.blocks_for(alloc, next)
+}
+
+/// The same of lines, on an image without nodes and onto a sink that takes so many bytes.
 fn told_after(
     alloc: Global,
     before: &'static [&'static str],
     line: &'static str,
     limit: usize,
 ) -> Result<Result<Option<u32>, SessionFault>, Fail> {
-    let ops = ops_of(alloc, before, BY)?;
+    let before = ops_of(alloc, before, BY)?;
     let next = op_of(line, BY).ok_or("no operation")?;
     let mounted = mount::<LittleEndian>(alloc, &[], GEOMETRY)?;
     let sink = Taker::limited(alloc, 7, limit);
-    let mut session = Session::<LittleEndian, _>::resume(alloc, &mounted, GEOMETRY, 1, sink)?;
-    let _ = session.run(alloc, &ops);
-    Ok(session.blocks_for(alloc, &next))
+    let session = Session::<LittleEndian, _>::resume(alloc, &mounted, GEOMETRY, 1, sink)?;
+    Ok(told_by(alloc, session, &before, &next))
 }
 
-#[test]
-fn the_blocks_that_hold_an_operation(rt: HostRuntime) -> Result<(), Fail> {
-    let rows: [(&[&str], &str, Result<Option<u32>, SessionFault>); 7] = [
+/// Operations before, the next one, and what is told of its blocks.
+type Row = (
+    &'static [&'static str],
+    &'static str,
+    Result<Option<u32>, SessionFault>,
+);
+
+fn blocks_told() -> &'static [Row] {
+    &[
         (&[], "create /a 644", Ok(Some(1))),
         (&["create /a 644"], "write /a 0 0", Ok(Some(0))),
         (&["create /a 644"], "write /a 0 4000", Ok(Some(1))),
@@ -77,8 +110,12 @@ fn the_blocks_that_hold_an_operation(rt: HostRuntime) -> Result<(), Fail> {
             "write /a 0 0",
             Err(SessionFault::Broken),
         ),
-    ];
-    for (before, line, want) in rows {
+    ]
+}
+
+#[test]
+fn the_blocks_that_hold_an_operation(rt: HostRuntime) -> Result<(), Fail> {
+    for &(before, line, want) in blocks_told() {
         let found = told_after(rt.alloc(), before, line, 124)?;
         equal_at(&rt, found, want, (before.len(), line));
     }

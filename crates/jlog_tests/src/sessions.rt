@@ -1,13 +1,13 @@
 //! Operations run onto an image.
 
-use flashbase::FromWriter;
-use jlog::{Flash, RunReport, Session};
+use jlog::{Flash, Place, RunReport, Session};
 use jmount::mount;
 use jnode::Order;
 use jsteps::Op;
 use std::alloc::Global;
 use std::test::Fail;
 use test_operations::By;
+use test_support::Taker;
 
 /// What a run put, and what it reported.
 #[derive(Drop)]
@@ -36,7 +36,7 @@ pub const CUT_LINES: [&str; 4] = [
 fn run_in<E: Order>(
     alloc: Global,
     image: &[u8],
-    mut session: Session<'_, E, FromWriter<Vec<u8>>>,
+    mut session: Session<'_, E, Taker>,
     ops: &[Op<'_>],
 ) -> Result<Outcome, Fail> {
     let report = session.run(alloc, ops);
@@ -44,7 +44,7 @@ fn run_in<E: Order>(
         return Err(Fail::from("another base"));
     }
     Ok(Outcome {
-        output: session.finish().into_writer(),
+        output: session.finish().bytes,
         report,
     })
 }
@@ -57,7 +57,7 @@ pub fn run_paged<E: Order>(
     ops: &[Op<'_>],
 ) -> Result<Outcome, Fail> {
     let mounted = mount::<E>(alloc, image, flash.geometry)?;
-    let sink = FromWriter::new(Vec::new(alloc));
+    let sink = Taker::new(alloc);
     let session = Session::<E, _>::resume_paged(
         alloc,
         &mounted,
@@ -69,23 +69,26 @@ pub fn run_paged<E: Order>(
     run_in::<E>(alloc, image, session, ops)
 }
 
+/// Adds what a later call did.
+fn add(report: &mut RunReport, accepted: usize, places: &[Place]) -> Result<(), Fail> {
+    report.places.extend_from_slice(places)?;
+    report.accepted = report.accepted.saturating_add(accepted);
+    Ok(())
+}
+
 /// Runs operations in three calls of one session.
 fn run_parts<E: Order>(
     alloc: Global,
-    session: &mut Session<'_, E, FromWriter<Vec<u8>>>,
+    session: &mut Session<'_, E, Taker>,
     first: &[Op<'_>],
     next: &Op<'_>,
     rest: &[Op<'_>],
 ) -> Result<RunReport, Fail> {
     let mut report = session.run(alloc, first);
     let applied = session.apply(alloc, next)?;
+    add(&mut report, 1, &applied.places)?;
     let last = session.run(alloc, rest);
-    report.places.extend_from_slice(&applied.places)?;
-    report.places.extend_from_slice(&last.places)?;
-    report.accepted = report
-        .accepted
-        .saturating_add(1)
-        .saturating_add(last.accepted);
+    add(&mut report, last.accepted, &last.places)?;
     Ok(report)
 }
 
@@ -101,7 +104,7 @@ pub fn run_in_turn<E: Order>(
         return Err(Fail::from("too few"));
     };
     let mounted = mount::<E>(alloc, image, flash.geometry)?;
-    let sink = FromWriter::new(Vec::new(alloc));
+    let sink = Taker::new(alloc);
     let mut session = Session::<E, _>::resume_paged(
         alloc,
         &mounted,
@@ -112,7 +115,7 @@ pub fn run_in_turn<E: Order>(
     )?;
     let report = run_parts(alloc, &mut session, first, next, rest)?;
     Ok(Outcome {
-        output: session.finish().into_writer(),
+        output: session.finish().bytes,
         report,
     })
 }

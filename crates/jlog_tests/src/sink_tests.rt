@@ -6,6 +6,7 @@ use byteorder::LittleEndian;
 use jlog::{RunReport, Session, SessionFault};
 use jmount::mount;
 use jscan::Geometry;
+use jsteps::Op;
 use std::alloc::Global;
 use std::test::Fail;
 use test_operations::{op_of, ops_of};
@@ -16,20 +17,31 @@ const GEOMETRY: Geometry = Geometry { block: 8192 };
 /// Where the bytes of each operation of `CUT_LINES` end.
 const ENDS: [usize; 4] = [124, 204, 272, 412];
 
-/// What a run onto an empty flash reports, and its sink. A session that the run broke puts nothing
-/// more.
+type Log<'a> = Session<'a, LittleEndian, Taker>;
+
+/// Whether a session that is broken puts nothing more.
+fn is_broken(alloc: Global, session: &mut Log<'_>) -> bool {
+    match op_of("create /b 644", BY) {
+        Some(op) => matches!(session.apply(alloc, &op), Err(SessionFault::Broken)),
+        None => false,
+    }
+}
+
+/// What a run reports, and the sink of its session. A session that the run broke puts nothing more.
+fn run_in(alloc: Global, mut session: Log<'_>, ops: &[Op<'_>]) -> Option<(RunReport, Taker)> {
+    let report = session.run(alloc, ops);
+    if report.stopped.is_some() && !is_broken(alloc, &mut session) {
+        return None;
+    }
+    Some((report, session.finish()))
+}
+
+/// The same onto an empty flash.
 fn run_onto(alloc: Global, sink: Taker) -> Result<(RunReport, Taker), Fail> {
     let ops = ops_of(alloc, &CUT_LINES, BY)?;
     let mounted = mount::<LittleEndian>(alloc, &[], GEOMETRY)?;
-    let mut session = Session::<LittleEndian, _>::resume(alloc, &mounted, GEOMETRY, 1, sink)?;
-    let report = session.run(alloc, &ops);
-    if report.stopped.is_some() {
-        let again = session.apply(alloc, &op_of("create /b 644", BY).ok_or("no operation")?);
-        if !matches!(again, Err(SessionFault::Broken)) {
-            return Err(Fail::from("not broken"));
-        }
-    }
-    Ok((report, session.finish()))
+    let session = Log::resume(alloc, &mounted, GEOMETRY, 1, sink)?;
+    run_in(alloc, session, &ops).ok_or(Fail::from("not broken"))
 }
 
 /// Whether so many operations are accepted, and the nodes that have a place are the first ones.
@@ -38,9 +50,9 @@ fn is_reported(report: &RunReport, accepted: usize, nodes: usize) -> bool {
     report.accepted == accepted && places.eq(CUT_PLACES.iter().copied().take(nodes))
 }
 
-#[test]
-fn a_session_breaks_with_its_sink(rt: HostRuntime) -> Result<(), Fail> {
-    for (limit, accepted, nodes) in [
+/// After how many bytes the sink fails, and how many operations are accepted and nodes placed then.
+fn limits() -> &'static [(usize, usize, usize)] {
+    &[
         (0, 0, 0),
         (79, 0, 0),
         (80, 0, 1),
@@ -52,7 +64,12 @@ fn a_session_breaks_with_its_sink(rt: HostRuntime) -> Result<(), Fail> {
         (201, 1, 2),
         (202, 1, 3),
         (203, 1, 3),
-    ] {
+    ]
+}
+
+#[test]
+fn a_session_breaks_with_its_sink(rt: HostRuntime) -> Result<(), Fail> {
+    for &(limit, accepted, nodes) in limits() {
         let (report, sink) = run_onto(rt.alloc(), Taker::limited(rt.alloc(), 7, limit))?;
         equal(&rt, report.stopped, Some(SessionFault::Sink));
         expect_at(&rt, is_reported(&report, accepted, nodes), limit);
@@ -101,27 +118,37 @@ fn is_halted(report: &RunReport, stopped: Option<SessionFault>) -> bool {
     report.accepted == 0 && report.places.is_empty() && report.stopped == stopped
 }
 
-/// Whether a session whose sink failed runs nothing more, though the sink would take it: neither
-/// operations nor none. Its sink holds so many bytes.
+/// Whether a session whose sink fails at these operations runs nothing more, though the sink would
+/// take it: neither operations nor none. Its sink holds so many bytes.
+fn runs_nothing(alloc: Global, mut session: Log<'_>, ops: &[Op<'_>], taken: usize) -> bool {
+    let first = session.run(alloc, ops);
+    let none = session.run(alloc, &[]);
+    let again = session.run(alloc, ops);
+    let one = session.run(alloc, ops.get(..1).unwrap_or(ops));
+    let sink = session.finish();
+    first.stopped == Some(SessionFault::Sink)
+        && is_halted(&none, None)
+        && is_halted(&again, Some(SessionFault::Broken))
+        && is_halted(&one, Some(SessionFault::Broken))
+        && sink.bytes.len() == taken
+        && sink.failures == 1
+}
+
 fn stays_broken(alloc: Global, sink: Taker, taken: usize) -> Result<bool, Fail> {
     let ops = ops_of(alloc, &CUT_LINES, BY)?;
     let mounted = mount::<LittleEndian>(alloc, &[], GEOMETRY)?;
-    let mut session = Session::<LittleEndian, _>::resume(alloc, &mounted, GEOMETRY, 1, sink)?;
-    let first = session.run(alloc, &ops);
-    let is_stopped = first.stopped == Some(SessionFault::Sink)
-        && is_halted(&session.run(alloc, &[]), None)
-        && is_halted(&session.run(alloc, &ops), Some(SessionFault::Broken))
-        && is_halted(
-            &session.run(alloc, ops.get(..1).unwrap_or(&ops)),
-            Some(SessionFault::Broken),
-        );
-    let sink = session.finish();
-    Ok(is_stopped && sink.bytes.len() == taken && sink.failures == 1)
+    let session = Log::resume(alloc, &mounted, GEOMETRY, 1, sink)?;
+    Ok(runs_nothing(alloc, session, &ops, taken))
+}
+
+/// The call at which the sink fails, and how many bytes it took before.
+fn calls_and_bytes() -> &'static [(usize, usize)] {
+    &[(0, 0), (1, 7), (2, 12), (5, 33), (12, 80), (13, 87)]
 }
 
 #[test]
 fn a_broken_session_runs_nothing(rt: HostRuntime) -> Result<(), Fail> {
-    for (calls, taken) in [(0, 0), (1, 7), (2, 12), (5, 33), (12, 80), (13, 87)] {
+    for &(calls, taken) in calls_and_bytes() {
         let sink = Taker::failing(rt.alloc(), 7, calls, calls % 2 == 0);
         expect_at(&rt, stays_broken(rt.alloc(), sink, taken)?, calls);
     }

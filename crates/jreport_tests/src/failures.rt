@@ -3,12 +3,13 @@
 
 use crate::checks::{equal, expect};
 use crate::images::{GEOMETRY, TREE, TWO_BLOCKS, image_of, raw_image};
-use crate::reads::{CALLS, Call, answer_and_text, ask};
+use crate::reads::{Call, answer_and_text, ask, calls};
 use crate::streams::FIRST_BLOCK;
 use byteorder::LittleEndian;
 use flashbase::LoadFault;
 use jreport::{ProgramFault, stream_lines};
 use std::alloc::Global;
+use std::process::Abort;
 use std::test::Fail;
 use test_support::{Giver, MADE, Taker};
 
@@ -48,17 +49,23 @@ fn count_of_puts(
 #[test]
 fn sinks_that_fail_once(rt: HostRuntime) -> Result<(), Fail> {
     let image = image_of(rt.alloc(), TREE)?;
-    for call in CALLS {
+    for &call in calls() {
         let (_, text) = answer_and_text(rt.alloc(), call, &image, GEOMETRY);
         let count = count_of_puts(rt.alloc(), &image, call, &text, false);
         expect(&rt, count.is_some_and(|count| count > 0));
-        equal(
-            &rt,
-            count_of_puts(rt.alloc(), &image, call, &text, true),
-            count,
-        );
+        let silent = count_of_puts(rt.alloc(), &image, call, &text, true);
+        equal(&rt, silent, count);
     }
     Ok(())
+}
+
+/// Stops the test unless a source that fails at this call is told of, and nothing is put.
+fn is_told_of_source(rt: &impl Abort, alloc: Global, image: &[u8], call: Call, calls: usize) {
+    let mut source = Giver::failing(image, 100, calls);
+    let mut sink = Taker::new(alloc);
+    let answer = ask(alloc, call, &mut source, GEOMETRY, &mut sink);
+    equal(rt, answer, Err(ProgramFault::Load(LoadFault::Device)));
+    expect(rt, source.failures == 1 && sink.took(0, b""));
 }
 
 /// The image is 456 bytes long, which are given in five calls, and a sixth tells that there are no
@@ -66,13 +73,9 @@ fn sinks_that_fail_once(rt: HostRuntime) -> Result<(), Fail> {
 #[test]
 fn sources_that_fail_once(rt: HostRuntime) -> Result<(), Fail> {
     let image = image_of(rt.alloc(), TREE)?;
-    for call in CALLS {
+    for &call in calls() {
         for calls in 0..6usize {
-            let mut source = Giver::failing(&image, 100, calls);
-            let mut sink = Taker::new(rt.alloc());
-            let answer = ask(rt.alloc(), call, &mut source, GEOMETRY, &mut sink);
-            equal(&rt, answer, Err(ProgramFault::Load(LoadFault::Device)));
-            expect(&rt, source.failures == 1 && sink.took(0, b""));
+            is_told_of_source(&rt, rt.alloc(), &image, call, calls);
         }
     }
     Ok(())
@@ -81,15 +84,12 @@ fn sources_that_fail_once(rt: HostRuntime) -> Result<(), Fail> {
 #[test]
 fn devices_of_one_byte_a_call(rt: HostRuntime) -> Result<(), Fail> {
     let image = image_of(rt.alloc(), TREE)?;
-    for call in CALLS {
+    for &call in calls() {
         let (want, text) = answer_and_text(rt.alloc(), call, &image, GEOMETRY);
         let mut source = Giver::failing(&image, 1, usize::MAX);
         let mut sink = Taker::limited(rt.alloc(), 1, usize::MAX);
-        equal(
-            &rt,
-            ask(rt.alloc(), call, &mut source, GEOMETRY, &mut sink),
-            want,
-        );
+        let answer = ask(rt.alloc(), call, &mut source, GEOMETRY, &mut sink);
+        equal(&rt, answer, want);
         expect(&rt, sink.took(0, &text) && source.failures == 0);
     }
     Ok(())

@@ -12,25 +12,27 @@ use std::alloc::Global;
 use test_support::{Giver, MADE, Matcher, Node};
 
 /// What each call answers of `TREE`, and what it puts.
-const WHOLE: [(Call, u64, &[u8]); 4] = [
-    (Call::Check, 1, TREE_CHECKED),
-    (Call::Content(b"/d/f"), 0, b"hi"),
-    (Call::Listing, 0, TREE_LISTED),
-    (Call::Part(b"/d"), 0, PART_LISTED),
-];
+fn whole() -> &'static [(&'static Call, u64, &'static [u8])] {
+    &[
+        (&Call::Check, 1, TREE_CHECKED),
+        (&Call::Content(b"/d/f"), 0, b"hi"),
+        (&Call::Listing, 0, TREE_LISTED),
+        (&Call::Part(b"/d"), 0, PART_LISTED),
+    ]
+}
 
 /// Why a call is not answered; none where its answer and its text are right.
 fn fault(
     alloc: Global,
     image: &[u8],
-    (call, found, text): (Call, u64, &[u8]),
+    (call, found, text): (&Call, u64, &[u8]),
 ) -> Option<ProgramFault<'static>> {
     let mut source = Giver::failing(image, 100, usize::MAX);
     let mut sink = Matcher {
         rest: text,
         failures: 0,
     };
-    match ask(alloc, call, &mut source, GEOMETRY, &mut sink) {
+    match ask(alloc, *call, &mut source, GEOMETRY, &mut sink) {
         Ok(answer) if answer == found && sink.rest.is_empty() => None,
         Ok(_) => Some(ProgramFault::Output),
         Err(fault) => Some(fault),
@@ -44,7 +46,7 @@ fn refused_growth_of_whole_calls(rt: HostRuntime) {
     let Ok(image) = image_of(rt.alloc(), TREE) else {
         return;
     };
-    for row in WHOLE {
+    for &row in whole() {
         match fault(rt.alloc(), &image, row) {
             None => (),
             Some(
@@ -77,10 +79,12 @@ fn circle_fault(alloc: Global) -> Option<ProgramFault<'static>> {
 }
 
 /// Trees with the verdict on them and on their shape.
-const VERDICTS: [(&[Node<'static>], &[u8]); 2] = [
-    (TREE, b"mount ok\ndangling pino 1 ino 9 name x\nshape ok\n"),
-    (CIRCLE, b"mount ok\nshape broken\n"),
-];
+fn verdicts() -> &'static [(&'static [Node<'static>], &'static [u8])] {
+    &[
+        (TREE, b"mount ok\ndangling pino 1 ino 9 name x\nshape ok\n"),
+        (CIRCLE, b"mount ok\nshape broken\n"),
+    ]
+}
 
 /// Why the verdict on an image is not put; none where it is. Where memory ran out, nothing of it
 /// was.
@@ -100,7 +104,7 @@ fn verdict_fault(alloc: Global, image: &[u8], text: &[u8]) -> Option<ProgramFaul
 /// is asked of it, and the same call answers as if there had been none before.
 #[test]
 fn refused_growth_of_verdicts(rt: HostRuntime) {
-    for (nodes, text) in VERDICTS {
+    for &(nodes, text) in verdicts() {
         let Ok(image) = image_of(rt.alloc(), nodes) else {
             return;
         };

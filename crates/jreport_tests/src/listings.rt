@@ -23,18 +23,20 @@ fn object_line(alloc: Global, path: &[&[u8]], again: bool) -> Option<Vec<u8>> {
     }
 }
 
-const PATHS: [(&[&[u8]], bool, &str); 2] = [
-    (&[], false, "d 0755 0 0 0 0 2 /\n"),
-    (
-        &[b"a", b"\x7f"],
-        true,
-        "d 0755 0 0 0 0 2 /a/\\x7f (again)\n",
-    ),
-];
+fn paths() -> &'static [(&'static [&'static [u8]], bool, &'static str)] {
+    &[
+        (&[], false, "d 0755 0 0 0 0 2 /\n"),
+        (
+            &[b"a", b"\x7f"],
+            true,
+            "d 0755 0 0 0 0 2 /a/\\x7f (again)\n",
+        ),
+    ]
+}
 
 #[test]
 fn a_line_of_an_object(rt: HostRuntime) -> Result<(), Fail> {
-    for (path, again, line) in PATHS {
+    for &(path, again, line) in paths() {
         let put = object_line(rt.alloc(), path, again).ok_or("no line")?;
         equal(&rt, put.as_slice(), line.as_bytes());
     }
@@ -53,16 +55,18 @@ fn tail(alloc: Global, mode: u32, bytes: &[u8], again: bool) -> Option<Vec<u8>> 
     }
 }
 
-const TAILS: [(u32, &[u8], bool, &str); 4] = [
-    (DIRECTORY, b"", false, ""),
-    (DIRECTORY, b"", true, " (again)"),
-    (SYMLINK, b"a\x7f", false, " -> a\\x7f"),
-    (SYMLINK, b"a\x7f", true, " -> a\\x7f"),
-];
+fn tails() -> &'static [(u32, &'static [u8], bool, &'static str)] {
+    &[
+        (DIRECTORY, b"", false, ""),
+        (DIRECTORY, b"", true, " (again)"),
+        (SYMLINK, b"a\x7f", false, " -> a\\x7f"),
+        (SYMLINK, b"a\x7f", true, " -> a\\x7f"),
+    ]
+}
 
 #[test]
 fn what_follows_a_path(rt: HostRuntime) -> Result<(), Fail> {
-    for (mode, bytes, again, text) in TAILS {
+    for &(mode, bytes, again, text) in tails() {
         let put = tail(rt.alloc(), mode, bytes, again).ok_or("nothing put")?;
         equal(&rt, put.as_slice(), text.as_bytes());
     }

@@ -16,6 +16,7 @@ use jreport::{
 };
 use jscan::{GREATEST_IMAGE, Geometry};
 use std::alloc::Global;
+use std::process::Abort;
 use std::test::Fail;
 use test_support::{ATTRIBUTE, FILE, NO_LENGTH, Node, SYMLINK};
 
@@ -41,6 +42,15 @@ fn is_read(
     }
 }
 
+/// Paths that name no regular file, and where the search ends.
+fn not_read() -> &'static [(&'static [u8], FindFault)] {
+    &[
+        (b"/b", FindFault::NotFound),
+        (b"a", FindFault::BadPath),
+        (b"/a/b", FindFault::NotDirectory),
+    ]
+}
+
 #[test]
 fn contents(rt: HostRuntime) -> Result<(), Fail> {
     let long = vec![in rt.alloc(); b'x'; 9000]?;
@@ -51,22 +61,14 @@ fn contents(rt: HostRuntime) -> Result<(), Fail> {
         Node::Entry(1, 3, b"s"),
     ];
     let image = image_of(rt.alloc(), &nodes)?;
-    for (path, want) in [
-        (b"/a".as_slice(), Ok(long.as_slice())),
-        (
-            b"/b".as_slice(),
-            Err(ProgramFault::Path(FindFault::NotFound)),
-        ),
-        (b"a".as_slice(), Err(ProgramFault::Path(FindFault::BadPath))),
-        (
-            b"/a/b".as_slice(),
-            Err(ProgramFault::Path(FindFault::NotDirectory)),
-        ),
-        (b"/".as_slice(), Err(ProgramFault::NotRegular)),
-        (b"/s".as_slice(), Err(ProgramFault::NotRegular)),
-    ] {
-        expect(&rt, is_read(rt.alloc(), &image, path, want));
+    expect(&rt, is_read(rt.alloc(), &image, b"/a", Ok(&long)));
+    for &(path, fault) in not_read() {
+        let fault = ProgramFault::Path(fault);
+        expect(&rt, is_read(rt.alloc(), &image, path, Err(fault)));
     }
+    let fault = ProgramFault::NotRegular;
+    expect(&rt, is_read(rt.alloc(), &image, b"/", Err(fault)));
+    expect(&rt, is_read(rt.alloc(), &image, b"/s", Err(fault)));
     Ok(())
 }
 
@@ -92,7 +94,9 @@ pub(crate) enum Call {
 }
 
 /// A call of each kind, the second of the file in `TREE`.
-pub(crate) const CALLS: [Call; 3] = [Call::Check, Call::Content(b"/d/f"), Call::Listing];
+pub(crate) fn calls() -> &'static [Call] {
+    &[Call::Check, Call::Content(b"/d/f"), Call::Listing]
+}
 
 /// The answer of a call: how much it found.
 pub(crate) fn ask<S: Source, T: Sink>(
@@ -171,77 +175,114 @@ l 0777 0 0 4 0 4 /s -> \\x2fd\\x2ff\n";
 
 pub(crate) const PART_LISTED: &[u8] = b"d 1700 0 0 0 0 2 /d\n- 0644 0 0 2 0 3 /d/f\n";
 
-/// An image, a call, its answer, and how what it puts ends.
+/// What a call answers: how much it found, or why not all is put.
+#[derive(Clone, Copy)]
+enum Answer {
+    Found(u64),
+    NoPath(FindFault),
+    NotRegular,
+    Clash,
+    NoRoot,
+}
+
+fn answer_of(answer: Answer) -> Result<u64, ProgramFault<'static>> {
+    Err(match answer {
+        Answer::Found(found) => return Ok(found),
+        Answer::NoPath(fault) => ProgramFault::Path(fault),
+        Answer::NotRegular => ProgramFault::NotRegular,
+        Answer::Clash => ProgramFault::Clash {
+            addr: 0x44,
+            other: 0,
+        },
+        Answer::NoRoot => ProgramFault::Mount(MountFault::RootKind),
+    })
+}
+
+/// An image, a call, its answer, and all that it puts.
 type Row = (
     &'static [Node<'static>],
-    Call,
-    Result<u64, ProgramFault<'static>>,
+    &'static Call,
+    Answer,
     &'static [u8],
 );
 
-const CLASHES: Result<u64, ProgramFault<'static>> = Err(ProgramFault::Clash {
-    addr: 0x44,
-    other: 0,
-});
-
-const NO_ROOT: Result<u64, ProgramFault<'static>> = Err(ProgramFault::Mount(MountFault::RootKind));
-
 /// What is put whole.
-const WHOLE: [Row; 17] = [
-    (TREE, Call::Check, Ok(1), TREE_CHECKED),
-    (TREE, Call::Content(b"/d/f"), Ok(0), b"hi"),
-    (
-        TREE,
-        Call::Content(b"/x"),
-        Err(ProgramFault::Path(FindFault::NotFound)),
-        b"",
-    ),
-    (
-        TREE,
-        Call::Content(b"/s"),
-        Err(ProgramFault::NotRegular),
-        b"",
-    ),
-    (TREE, Call::Listing, Ok(0), TREE_LISTED),
-    (TREE, Call::Part(b"/"), Ok(0), TREE_LISTED),
-    (TREE, Call::Part(b"/d"), Ok(0), PART_LISTED),
-    (TREE, Call::Part(b"/d/f"), Ok(0), b"- 0644 0 0 2 0 3 /d/f\n"),
-    (
-        TREE,
-        Call::Part(b"/d/f/g"),
-        Err(ProgramFault::Path(FindFault::NotDirectory)),
-        b"",
-    ),
-    (CIRCLE, Call::Part(b"/d/x/d"), Ok(0), CIRCLE_BELOW),
-    (
-        TREE,
-        Call::Part(b"/x"),
-        Err(ProgramFault::Path(FindFault::NotFound)),
-        b"",
-    ),
-    (
-        TREE,
-        Call::Part(b"d"),
-        Err(ProgramFault::Path(FindFault::BadPath)),
-        b"",
-    ),
-    (CLASH, Call::Content(b"/d/f"), CLASHES, b""),
-    (CLASH, Call::Listing, CLASHES, b""),
-    (CLASH, Call::Part(b"/d"), CLASHES, b""),
-    (FILE_AS_ROOT, Call::Content(b"/d/f"), NO_ROOT, b""),
-    (FILE_AS_ROOT, Call::Listing, NO_ROOT, b""),
-];
+fn worked() -> &'static [Row] {
+    &[
+        (TREE, &Call::Check, Answer::Found(1), TREE_CHECKED),
+        (TREE, &Call::Content(b"/d/f"), Answer::Found(0), b"hi"),
+        (
+            TREE,
+            &Call::Content(b"/x"),
+            Answer::NoPath(FindFault::NotFound),
+            b"",
+        ),
+        (TREE, &Call::Content(b"/s"), Answer::NotRegular, b""),
+        (TREE, &Call::Listing, Answer::Found(0), TREE_LISTED),
+        (TREE, &Call::Part(b"/"), Answer::Found(0), TREE_LISTED),
+        (TREE, &Call::Part(b"/d"), Answer::Found(0), PART_LISTED),
+        (
+            TREE,
+            &Call::Part(b"/d/f"),
+            Answer::Found(0),
+            b"- 0644 0 0 2 0 3 /d/f\n",
+        ),
+        (
+            TREE,
+            &Call::Part(b"/d/f/g"),
+            Answer::NoPath(FindFault::NotDirectory),
+            b"",
+        ),
+        (
+            CIRCLE,
+            &Call::Part(b"/d/x/d"),
+            Answer::Found(0),
+            CIRCLE_BELOW,
+        ),
+        (
+            TREE,
+            &Call::Part(b"/x"),
+            Answer::NoPath(FindFault::NotFound),
+            b"",
+        ),
+        (
+            TREE,
+            &Call::Part(b"d"),
+            Answer::NoPath(FindFault::BadPath),
+            b"",
+        ),
+        (CLASH, &Call::Content(b"/d/f"), Answer::Clash, b""),
+        (CLASH, &Call::Listing, Answer::Clash, b""),
+        (CLASH, &Call::Part(b"/d"), Answer::Clash, b""),
+        (FILE_AS_ROOT, &Call::Content(b"/d/f"), Answer::NoRoot, b""),
+        (FILE_AS_ROOT, &Call::Listing, Answer::NoRoot, b""),
+    ]
+}
+
+/// Stops the test unless a call has this answer, and puts this, whether the image is read or is in
+/// memory.
+fn is_answered(
+    rt: &impl Abort,
+    alloc: Global,
+    call: Call,
+    image: &[u8],
+    want: Result<u64, ProgramFault<'static>>,
+    text: &[u8],
+) {
+    let (answer, put) = answer_and_text(alloc, call, image, GEOMETRY);
+    equal(rt, answer, want);
+    equal(rt, put.as_slice(), text);
+    let (answer, put) = image_answer_and_text(alloc, call, image);
+    equal(rt, answer, want);
+    equal(rt, put.as_slice(), text);
+}
 
 #[test]
 fn worked_calls(rt: HostRuntime) -> Result<(), Fail> {
-    for (nodes, call, want, text) in WHOLE {
+    for &(nodes, call, answer, text) in worked() {
         let image = image_of(rt.alloc(), nodes)?;
-        let (answer, put) = answer_and_text(rt.alloc(), call, &image, GEOMETRY);
-        equal(&rt, answer, want);
-        equal(&rt, put.as_slice(), text);
-        let (answer, put) = image_answer_and_text(rt.alloc(), call, &image);
-        equal(&rt, answer, want);
-        equal(&rt, put.as_slice(), text);
+        let want = answer_of(answer);
+        is_answered(&rt, rt.alloc(), *call, &image, want, text);
     }
     Ok(())
 }
@@ -254,25 +295,26 @@ fn findings_of(image: &[u8]) -> Option<Found> {
     Some(found_in::<LittleEndian>(image, GEOMETRY))
 }
 
-/// Blocks that do not mount, one after the other: how many findings are noted, and how many are
+/// The nodes of two blocks that do not mount, how many findings are noted, and how many are
 /// attributes.
-const FOUND_UNMOUNTED: [(&[&[u8]], &[&[u8]], (u64, u64)); 3] = [
-    (&[COMPRESSED], &[], (0, 0)),
-    (
-        &[COMPRESSED, &NO_LENGTH, COMPRESSED],
-        &[OTHER_ORDER],
-        (2, 0),
-    ),
-    (
-        &[DAMAGED_INODE_2, &ATTRIBUTE, COMPRESSED],
-        &[&ATTRIBUTE, OTHER_ORDER, DAMAGED_INODE_2],
-        (3, 2),
-    ),
-];
+type Findings = (&'static [&'static [u8]], &'static [&'static [u8]], u64, u64);
+
+fn found_unmounted() -> &'static [Findings] {
+    &[
+        (&[COMPRESSED], &[], 0, 0),
+        (&[COMPRESSED, &NO_LENGTH, COMPRESSED], &[OTHER_ORDER], 2, 0),
+        (
+            &[DAMAGED_INODE_2, &ATTRIBUTE, COMPRESSED],
+            &[&ATTRIBUTE, OTHER_ORDER, DAMAGED_INODE_2],
+            3,
+            2,
+        ),
+    ]
+}
 
 #[test]
 fn findings_of_compressed_images(rt: HostRuntime) -> Result<(), Fail> {
-    for (nodes, tail, wanted) in FOUND_UNMOUNTED {
+    for &(nodes, tail, noted, attributes) in found_unmounted() {
         let image = raw_image(
             rt.alloc(),
             Raw {
@@ -282,18 +324,29 @@ fn findings_of_compressed_images(rt: HostRuntime) -> Result<(), Fail> {
             },
         )?;
         let found = findings_of(&image).map(|found| (found.noted, found.attributes));
-        equal(&rt, found, Some(wanted));
+        equal(&rt, found, Some((noted, attributes)));
     }
     Ok(())
 }
 
+fn counted() -> &'static [(u64, &'static [u8])] {
+    &[
+        (
+            1,
+            b"jffs2_image: note: 1 finding, see check --scan; a wrong --block or --endian shows \
+              as findings too, see info\n",
+        ),
+        (
+            17,
+            b"jffs2_image: note: 17 findings, see check --scan; a wrong --block or --endian shows \
+              as findings too, see info\n",
+        ),
+    ]
+}
+
 #[test]
 fn notes(rt: HostRuntime) {
-    let one =
-        b"jffs2_image: note: 1 finding, see check --scan; a wrong --block or --endian shows as findings too, see info\n";
-    let many =
-        b"jffs2_image: note: 17 findings, see check --scan; a wrong --block or --endian shows as findings too, see info\n";
-    for (findings, wanted) in [(1, one.as_slice()), (17, many.as_slice())] {
+    for &(findings, wanted) in counted() {
         let mut sink = FromWriter::new(Vec::new(rt.alloc()));
         equal(&rt, put_note(findings, &mut sink), Ok(()));
         equal(&rt, sink.into_writer().as_slice(), wanted);

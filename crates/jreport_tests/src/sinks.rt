@@ -13,6 +13,7 @@ use jreport::{
     verdict_lines,
 };
 use std::alloc::Global;
+use std::process::Abort;
 use std::test::Fail;
 use test_support::{LITTLE_MARKER, Taker};
 
@@ -38,25 +39,27 @@ enum Text {
     Word,
 }
 
-const TEXTS: [Text; 17] = [
-    Text::Report,
-    Text::Stream,
-    Text::Verdict,
-    Text::Tree,
-    Text::Part,
-    Text::Object,
-    Text::Content,
-    Text::Note,
-    Text::Fault,
-    Text::FaultLine,
-    Text::FaultLines,
-    Text::Decompressed,
-    Text::Compressed,
-    Text::Plain,
-    Text::Escaped,
-    Text::InLine,
-    Text::Word,
-];
+fn texts() -> &'static [Text] {
+    &[
+        Text::Report,
+        Text::Stream,
+        Text::Verdict,
+        Text::Tree,
+        Text::Part,
+        Text::Object,
+        Text::Content,
+        Text::Note,
+        Text::Fault,
+        Text::FaultLine,
+        Text::FaultLines,
+        Text::Decompressed,
+        Text::Compressed,
+        Text::Plain,
+        Text::Escaped,
+        Text::InLine,
+        Text::Word,
+    ]
+}
 
 const FAULT: ProgramFault<'static> = ProgramFault::Path(FindFault::NotFound);
 
@@ -152,26 +155,27 @@ fn is_told(
     is_beginning && put(alloc, text, image, &mut sink).is_ok() && sink.took(1, whole)
 }
 
+/// Stops the test unless a text is there, and a sink that fails at each of its bytes is told of.
+fn is_told_at_each_byte(rt: &impl Abort, alloc: Global, text: Text, image: &[u8]) {
+    let mut sink = Taker::new(alloc);
+    equal(rt, put(alloc, text, image, &mut sink), Ok(()));
+    let whole = sink.bytes;
+    expect(rt, !whole.is_empty());
+    for calls in 0..whole.len() {
+        let loud = is_told(alloc, text, image, &whole, calls, false);
+        let silent = is_told(alloc, text, image, &whole, calls, true);
+        expect_at(rt, loud && silent, (text, calls));
+    }
+}
+
 /// The image has two blocks.
 #[test]
 fn texts_onto_sinks_that_fail_once(rt: HostRuntime) -> Result<(), Fail> {
     let mut image = image_of(rt.alloc(), TREE)?;
     image.resize(BLOCK, 0xFF)?;
     image.extend_from_slice(&LITTLE_MARKER)?;
-    for text in TEXTS {
-        let mut sink = Taker::new(rt.alloc());
-        equal(&rt, put(rt.alloc(), text, &image, &mut sink), Ok(()));
-        let whole = sink.bytes;
-        expect(&rt, !whole.is_empty());
-        for calls in 0..whole.len() {
-            for is_silent in [false, true] {
-                expect_at(
-                    &rt,
-                    is_told(rt.alloc(), text, &image, &whole, calls, is_silent),
-                    (text, calls),
-                );
-            }
-        }
+    for &text in texts() {
+        is_told_at_each_byte(&rt, rt.alloc(), text, &image);
     }
     Ok(())
 }

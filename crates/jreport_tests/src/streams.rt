@@ -8,6 +8,7 @@ use jnode::Order;
 use jreport::{ProgramFault, stream_lines};
 use jscan::Geometry;
 use std::alloc::Global;
+use std::process::Abort;
 use std::test::Fail;
 use test_support::Giver;
 
@@ -36,22 +37,32 @@ pub(crate) const FIRST_BLOCK: &str = "block 0\n\
 0000000c entry 44 pino 1 version 1 ino 2 type 8 name a\n\
 00000038 erased 4040\n";
 
+/// After how many bytes the source fails, and what is put before.
+fn limits() -> &'static [(usize, &'static str)] {
+    &[
+        (0, ""),
+        (1, ""),
+        (4095, ""),
+        (4096, FIRST_BLOCK),
+        (4100, FIRST_BLOCK),
+        (8191, FIRST_BLOCK),
+    ]
+}
+
+/// Stops the test unless a source that fails is told of, whatever it gives a call.
+fn is_told(rt: &impl Abort, alloc: Global, bytes: &[u8], piece: usize) {
+    for &(limit, text) in limits() {
+        let (answer, put) = streamed::<LittleEndian>(alloc, bytes, piece, limit);
+        equal(rt, answer, Err(ProgramFault::Load(LoadFault::Device)));
+        equal(rt, put.as_slice(), text.as_bytes());
+    }
+}
+
 #[test]
 fn a_source_that_fails(rt: HostRuntime) -> Result<(), Fail> {
     let bytes = raw_image(rt.alloc(), TWO_BLOCKS)?;
     for piece in [1, 3, 4095, 4096] {
-        for (limit, text) in [
-            (0, ""),
-            (1, ""),
-            (4095, ""),
-            (4096, FIRST_BLOCK),
-            (4100, FIRST_BLOCK),
-            (8191, FIRST_BLOCK),
-        ] {
-            let (answer, put) = streamed::<LittleEndian>(rt.alloc(), &bytes, piece, limit);
-            equal(&rt, answer, Err(ProgramFault::Load(LoadFault::Device)));
-            equal(&rt, put.as_slice(), text.as_bytes());
-        }
+        is_told(&rt, rt.alloc(), &bytes, piece);
     }
     Ok(())
 }

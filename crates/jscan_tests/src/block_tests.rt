@@ -15,71 +15,84 @@ use test_support::{
 };
 
 /// An extent as address, length and what it looks like.
-type Row = (u32, u32, &'static str);
+#[derive(Clone, Copy, Debug, PartialEq, Eq)]
+struct Row(u32, u32, &'static str);
 
 /// Blocks of an order, at an address, of a length, with these bytes, and their extents.
-const BLOCKS: [(Endian, u32, usize, Pieces, &[Row]); 11] = [
-    (
-        Endian::Little,
-        8192,
-        96,
-        &[(0, &LITTLE_MARKER), (12, &ENTRY_A)],
-        &[
-            (8192, 12, "marker"),
-            (8204, 44, "entry"),
-            (8248, 40, "erased"),
-        ],
-    ),
-    // Headers that do not fit.
-    (
-        Endian::Little,
-        0,
-        64,
-        &[(0, &NO_LENGTH)],
-        &[(0, 12, "dirt"), (12, 52, "erased")],
-    ),
-    (
-        Endian::Little,
-        0,
-        64,
-        &[(52, &LENGTH_13)],
-        &[(0, 52, "erased"), (52, 12, "dirt")],
-    ),
-    (
-        Endian::Little,
-        0,
-        64,
-        &[(52, &LITTLE_MARKER)],
-        &[(0, 52, "erased"), (52, 12, "marker")],
-    ),
-    // An entry in damaged data is no node.
-    (
-        Endian::Little,
-        0,
-        128,
-        &[(0, &HIDING), (68, &ENTRY_A)],
-        &[(0, 112, "data-crc"), (112, 16, "erased")],
-    ),
-    (
-        Endian::Big,
-        0,
-        84,
-        &[(0, &ENTRY_A)],
-        &[(0, 4, "other-order"), (4, 40, "dirt"), (44, 40, "erased")],
-    ),
-    // The last bytes of a block.
-    (Endian::Little, 0, 8, &[], &[(0, 8, "erased")]),
-    (Endian::Little, 0, 8, &[(4, &[0])], &[(0, 8, "dirt")]),
-    (
-        Endian::Little,
-        0,
-        20,
-        &[(16, &[0])],
-        &[(0, 12, "erased"), (12, 8, "dirt")],
-    ),
-    (Endian::Little, 0, 0, &[], &[]),
-    (Endian::Big, 4096, 4096, &[], &[(4096, 4096, "erased")]),
-];
+fn blocks() -> &'static [(Endian, u32, usize, Pieces, &'static [Row])] {
+    &[
+        (
+            Endian::Little,
+            8192,
+            96,
+            &[Piece(0, &LITTLE_MARKER), Piece(12, &ENTRY_A)],
+            &[
+                Row(8192, 12, "marker"),
+                Row(8204, 44, "entry"),
+                Row(8248, 40, "erased"),
+            ],
+        ),
+        // Headers that do not fit.
+        (
+            Endian::Little,
+            0,
+            64,
+            &[Piece(0, &NO_LENGTH)],
+            &[Row(0, 12, "dirt"), Row(12, 52, "erased")],
+        ),
+        (
+            Endian::Little,
+            0,
+            64,
+            &[Piece(52, &LENGTH_13)],
+            &[Row(0, 52, "erased"), Row(52, 12, "dirt")],
+        ),
+        (
+            Endian::Little,
+            0,
+            64,
+            &[Piece(52, &LITTLE_MARKER)],
+            &[Row(0, 52, "erased"), Row(52, 12, "marker")],
+        ),
+        // An entry in damaged data is no node.
+        (
+            Endian::Little,
+            0,
+            128,
+            &[Piece(0, &HIDING), Piece(68, &ENTRY_A)],
+            &[Row(0, 112, "data-crc"), Row(112, 16, "erased")],
+        ),
+        (
+            Endian::Big,
+            0,
+            84,
+            &[Piece(0, &ENTRY_A)],
+            &[
+                Row(0, 4, "other-order"),
+                Row(4, 40, "dirt"),
+                Row(44, 40, "erased"),
+            ],
+        ),
+        // The last bytes of a block.
+        (Endian::Little, 0, 8, &[], &[Row(0, 8, "erased")]),
+        (
+            Endian::Little,
+            0,
+            8,
+            &[Piece(4, &[0])],
+            &[Row(0, 8, "dirt")],
+        ),
+        (
+            Endian::Little,
+            0,
+            20,
+            &[Piece(16, &[0])],
+            &[Row(0, 12, "erased"), Row(12, 8, "dirt")],
+        ),
+        (Endian::Little, 0, 0, &[], &[]),
+        (Endian::Big, 4096, 4096, &[], &[Row(4096, 4096, "erased")]),
+    ]
+}
 
 pub(crate) fn shown(kind: &ExtentKind<'_>) -> &'static str {
     match kind {
@@ -97,8 +110,8 @@ pub(crate) fn shown(kind: &ExtentKind<'_>) -> &'static str {
     }
 }
 
-fn row(extent: Extent<'_>) -> Row {
-    (extent.addr, extent.len, shown(&extent.kind))
+fn row_of(extent: Extent<'_>) -> Row {
+    Row(extent.addr, extent.len, shown(&extent.kind))
 }
 
 /// The extents of a flash's bytes, as far as they are whole words.
@@ -106,7 +119,7 @@ fn extent_rows<E: Order>(alloc: Global, start: u32, block: &[u8]) -> Result<Vec<
     let words = block.len().min(0xffff) / 4 * 4;
     Ok(
         Extents::<E>::new(start % 0x10000, &block[..words])
-            .map(row)
+            .map(row_of)
             .collect(alloc)?,
     )
 }
@@ -114,7 +127,7 @@ fn extent_rows<E: Order>(alloc: Global, start: u32, block: &[u8]) -> Result<Vec<
 #[test]
 fn extents_of_blocks(rt: HostRuntime) -> Result<(), Fail> {
     let alloc = rt.alloc();
-    for (order, start, len, pieces, want) in BLOCKS {
+    for &(order, start, len, pieces, want) in blocks() {
         let block = flash(alloc, len, pieces)?;
         let rows = match order {
             Endian::Little => extent_rows::<LittleEndian>(alloc, start, &block)?,
@@ -155,14 +168,14 @@ fn tiles_in_order(rt: HostRuntime) -> Result<(), Fail> {
 }
 
 const MIXED: Pieces = &[
-    (4, &ATTRIBUTE),
-    (16, &READ_ONLY),
-    (28, &INCOMPATIBLE),
-    (40, &COMPRESSED),
-    (112, &HIDING),
-    (180, &ENTRY_A),
-    (240, &[0x19, 0x85]),
-    (244, &[0]),
+    Piece(4, &ATTRIBUTE),
+    Piece(16, &READ_ONLY),
+    Piece(28, &INCOMPATIBLE),
+    Piece(40, &COMPRESSED),
+    Piece(112, &HIDING),
+    Piece(180, &ENTRY_A),
+    Piece(240, &[0x19, 0x85]),
+    Piece(244, &[0]),
 ];
 
 fn findings_of(alloc: Global, block: &[u8]) -> Result<(Vec<Finding>, Vec<ScanFault>), Fail> {
@@ -203,16 +216,20 @@ fn findings_and_refusals(rt: HostRuntime) -> Result<(), Fail> {
     Ok(())
 }
 
-#[test]
-fn block_sizes(rt: HostRuntime) {
-    for (block, readable) in [
+fn sizes() -> &'static [(u32, bool)] {
+    &[
         (4096, true),
         (4092, false),
         (4098, false),
         (4_194_304, true),
         (4_194_308, false),
         (0, false),
-    ] {
+    ]
+}
+
+#[test]
+fn block_sizes(rt: HostRuntime) {
+    for &(block, readable) in sizes() {
         equal_at(&rt, Geometry { block }.is_readable(), readable, block);
     }
 }

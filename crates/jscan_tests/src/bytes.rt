@@ -2,9 +2,14 @@
 
 use std::alloc::Global;
 use std::test::Fail;
+use test_support::{ENTRY_A, LITTLE_MARKER};
 
-/// Bytes at places of a flash that is else erased.
-pub(crate) type Pieces = &'static [(usize, &'static [u8])];
+/// Bytes at a place of a flash.
+#[derive(Clone, Copy)]
+pub(crate) struct Piece(pub(crate) usize, pub(crate) &'static [u8]);
+
+/// A flash that is else erased.
+pub(crate) type Pieces = &'static [Piece];
 
 /// An inode node of 109 bytes, which hold the entry's, up to its data; its data_crc is wrong.
 pub(crate) const HIDING: [u8; 68] = [
@@ -33,10 +38,17 @@ pub(crate) const INODE_WITH_TAIL: [u8; 76] = [
     0x0b, 0x89, 0x39, 0x47, 0x61, 0x62, 0xff, 0xff, 0xff, 0xff, 0xff, 0xff,
 ];
 
+/// A block with the clean marker and the entry node, and the entry node again after it.
+pub(crate) const TWO_ENTRIES: Pieces = &[
+    Piece(0, &LITTLE_MARKER),
+    Piece(12, &ENTRY_A),
+    Piece(4096, &ENTRY_A),
+];
+
 /// A flash of `len` bytes, with as much of these bytes at these places as there is room for.
 pub(crate) fn flash(alloc: Global, len: usize, pieces: Pieces) -> Result<Vec<u8>, Fail> {
     let mut bytes = vec![in alloc; 0xffu8; len]?;
-    for (place, piece) in pieces {
+    for Piece(place, piece) in pieces {
         for (byte, of_piece) in bytes.iter_mut().skip(*place).zip(piece.iter()) {
             *byte = *of_piece;
         }

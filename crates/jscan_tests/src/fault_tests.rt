@@ -35,15 +35,12 @@ fn long_image(alloc: Global) -> Result<Vec<u8>, Fail> {
 #[test]
 fn images_that_are_not_scanned(rt: HostRuntime) -> Result<(), Fail> {
     let long = long_image(rt.alloc())?;
-    for (image, block, fault) in [
-        ([].as_slice(), 0, ScanFault::BlockSize),
-        (&[], 4092, ScanFault::BlockSize),
-        (&[], 4098, ScanFault::BlockSize),
-        (&[], 4_194_308, ScanFault::BlockSize),
-        (&long, 4095, ScanFault::BlockSize),
-        (&long, 4096, ScanFault::TooLarge),
-    ] {
-        equal(&rt, faults(rt.alloc(), image, block), [Some(fault); 3]);
+    for block in [0, 4092, 4098, 4_194_308] {
+        let found = faults(rt.alloc(), &[], block);
+        equal(&rt, found, [Some(ScanFault::BlockSize); 3]);
+    }
+    for (block, fault) in [(4095, ScanFault::BlockSize), (4096, ScanFault::TooLarge)] {
+        equal(&rt, faults(rt.alloc(), &long, block), [Some(fault); 3]);
     }
     equal(
         &rt,
@@ -53,36 +50,40 @@ fn images_that_are_not_scanned(rt: HostRuntime) -> Result<(), Fail> {
     Ok(())
 }
 
-const SCAN_FAULTS: [(ScanFault, &str); 5] = [
-    (ScanFault::BlockSize, "C1 BlockSize"),
-    (ScanFault::TooLarge, "C2 TooLarge"),
-    (
-        ScanFault::Incompatible {
-            addr: 12,
-            nodetype: 0xe0f7,
-        },
-        "C3 Incompatible at 0000000c type e0f7",
-    ),
-    (
-        ScanFault::Compressed { addr: 80, compr: 6 },
-        "C4 Compressed at 00000050 compr 6",
-    ),
-    (ScanFault::OutOfMemory, "C5 OutOfMemory"),
-];
+fn scan_faults() -> &'static [(ScanFault, &'static str)] {
+    &[
+        (ScanFault::BlockSize, "C1 BlockSize"),
+        (ScanFault::TooLarge, "C2 TooLarge"),
+        (
+            ScanFault::Incompatible {
+                addr: 12,
+                nodetype: 0xe0f7,
+            },
+            "C3 Incompatible at 0000000c type e0f7",
+        ),
+        (
+            ScanFault::Compressed { addr: 80, compr: 6 },
+            "C4 Compressed at 00000050 compr 6",
+        ),
+        (ScanFault::OutOfMemory, "C5 OutOfMemory"),
+    ]
+}
 
-const STREAM_FAULTS: [(StreamFault, &str); 4] = [
-    (StreamFault::BlockSize, "C1 BlockSize"),
-    (StreamFault::Device, "L1 Device"),
-    (StreamFault::TooLarge, "L2 TooLarge"),
-    (StreamFault::OutOfMemory, "L3 OutOfMemory"),
-];
+fn stream_faults() -> &'static [(StreamFault, &'static str)] {
+    &[
+        (StreamFault::BlockSize, "C1 BlockSize"),
+        (StreamFault::Device, "L1 Device"),
+        (StreamFault::TooLarge, "L2 TooLarge"),
+        (StreamFault::OutOfMemory, "L3 OutOfMemory"),
+    ]
+}
 
 #[test]
 fn texts_of_faults(rt: HostRuntime) -> Result<(), Fail> {
-    for (fault, text) in SCAN_FAULTS {
+    for &(fault, text) in scan_faults() {
         equal(&rt, format!(in rt.alloc(); "{fault}")?.as_str(), text);
     }
-    for (fault, text) in STREAM_FAULTS {
+    for &(fault, text) in stream_faults() {
         equal(&rt, format!(in rt.alloc(); "{fault}")?.as_str(), text);
     }
     Ok(())

@@ -10,8 +10,8 @@ fn kinds_have_modes(rt: HostRuntime) {
     equal(&rt, DeviceKind::Block.mode(), 0o060000);
 }
 
-/// Numbers, each with its bytes in little and in big order, as Linux writes them (fs/jffs2/nodelist.h,
-/// jffs2_encode_dev).
+/// Numbers, each with its bytes in little and in big order, as Linux writes them
+/// (fs/jffs2/nodelist.h, jffs2_encode_dev).
 fn numbers() -> &'static [(u16, u32, &'static [u8], &'static [u8])] {
     &[
         (0, 0, &[0, 0], &[0, 0]),

@@ -28,7 +28,8 @@ fn what_an_index_shows(rt: HostRuntime) -> Result<(), Fail> {
     Ok(())
 }
 
-/// Lines, each with the number of its steps, an object, what that is then, and its greatest version.
+/// Lines, each with the number of its steps, an object, what that is then, and its greatest
+/// version.
 fn changes() -> &'static [(&'static str, usize, u32, Option<(u32, u16, u16, u32)>, u32)] {
     &[
         ("write /a 4000 200", 3, 2, Some((0o100644, 3, 4, 4200)), 4),

@@ -27,9 +27,9 @@ fn words(line: &str) -> (&str, &str, &str, &str) {
 }
 
 /// The operation of a line. A write has an offset and a count of bytes, which are 0x5A, and 0xFF
-/// under the verb `erase`, or under `text` the bytes themselves; a file has a mode and such a count.
-/// A device has the verb of its kind, a mode, and its numbers with a colon between, in little order.
-/// Attributes have owners 5 and 6 and the times 1 and 2.
+/// under the verb `erase`, or under `text` the bytes themselves; a file has a mode and such a
+/// count. A device has the verb of its kind, a mode, and its numbers with a colon between, in
+/// little order. Attributes have owners 5 and 6 and the times 1 and 2.
 pub fn op_of<'a>(line: &'a str, by: By) -> Option<Op<'a>> {
     let (verb, path, second, third) = words(line);
     match verb {

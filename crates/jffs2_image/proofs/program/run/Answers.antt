@@ -1,4 +1,4 @@
-use Rattle.std.proofs.Common.{ℕ, List, Ok, Err, ap, inl, inr, refl}
+use Rattle.std.proofs.Common.{ℕ, List, Ok, Err, inl, inr, refl}
 use Rattle.std.specs.Prelude.{◌⊎◌}
 use Rattle.jcommand.specs.Parsed.{IsHelpRequested, IsRefusedByClap, IsUnreadable, task_view}
 use Rattle.jcommand.specs.Refused.{IsHelp, IsUsage}
@@ -37,24 +37,22 @@ pub returns-in-Err-clause-plain : goal.returns-in-Err-clause-plain
 returns-in-Err-clause-plain g c = λ plain. inl (record {
   command = Err c.in-Err.fault;
   asked = refusal _ c.in-Err.fault c.in-Err.ensures.help c.in-Err.ensures.usage;
-  ran = c.run_image.ensures.0;
+  ran = c.run_refused.ensures _ _;
   folders = refl;
-  host = c.run_image.ensures.1;
+  host = (refl, refl);
 })
 
 pub returns-in-Err-clause-placed : goal.returns-in-Err-clause-placed
 returns-in-Err-clause-placed g c = inr (
-  c.run_image.ensures.1.1,
+  refl,
   inl (record {
     command = Err c.in-Err.fault;
     asked = refusal _ c.in-Err.fault c.in-Err.ensures.help c.in-Err.ensures.usage;
-    ran = c.run_image.ensures.0;
+    ran = c.run_refused.ensures _ _;
     folders = refl;
-    host = c.run_image.ensures.1;
+    host = (refl, refl);
   }),
 )
 
 pub returns-in-Err-clause-atomic : goal.returns-in-Err-clause-atomic
-returns-in-Err-clause-atomic g c = λ yes fault.
-    let same = c.run_image.ensures.1.1 in
-    (ap g.M.Maker.names same, ap g.M.Maker.held same)
+returns-in-Err-clause-atomic g c = λ yes fault. (refl, refl)

@@ -6,13 +6,13 @@ pub returns-in-Ok : goal.returns-in-Ok
 returns-in-Ok g c = record {
   answer = Ok c.in-Ok.findings;
   notes = c.run_whole.new.notes;
-  between = g.E.Sink.taken c.note.new.errors;
-  count = g.E.Sink.failures c.note.new.errors;
+  between = g.N.Sink.taken c.note.new.errors;
+  count = g.N.Sink.failures c.note.new.errors;
   meets = c.in-Ok.ensures.meets;
   host = c.in-Ok.ensures.host;
   noted = c.in-Ok.ensures.weak c.new-notes.ensures;
-  said = note_said _ (λ e. g.E.Sink.taken e) (λ e. g.E.Sink.failures e) _ _ _ c.note.ensures.noted;
-  told = note_said _ (λ e. g.E.Sink.taken e) (λ e. g.E.Sink.failures e) _ _ _ c.put_notes.ensures.said;
+  said = note_said _ (λ e. g.N.Sink.taken e) (λ e. g.N.Sink.failures e) _ _ _ c.note.ensures.noted;
+  told = note_said _ (λ e. g.N.Sink.taken e) (λ e. g.N.Sink.failures e) _ _ _ c.put_notes.ensures.said;
   ends = c.put_notes.ensures.found;
 }
 
@@ -20,8 +20,8 @@ pub returns : goal.returns
 returns g c = record {
   answer = Err c.in-Err.fault;
   notes = c.run_whole.new.notes;
-  between = g.E.Sink.taken c.report_fault.new.errors;
-  count = g.E.Sink.failures c.report_fault.new.errors;
+  between = g.N.Sink.taken c.report_fault.new.errors;
+  count = g.N.Sink.failures c.report_fault.new.errors;
   meets = c.in-Err.ensures.meets;
   host = c.in-Err.ensures.host;
   noted = tt;

@@ -1,0 +1,9 @@
+use Rattle.jffs2_image.proofs.program.run_refused.Goals as goal
+
+pub returns : goal.returns
+returns g c = λ told held. record {
+  answer = c.answer_refusal-answer.result;
+  meets = c.answer_refusal-answer.ensures told held;
+  ends = c.tell.ensures.ends;
+  said = c.tell.ensures.said;
+}

@@ -1,0 +1,13 @@
+-- Why a file of the host failed last.
+use Rattle.std.specs.Prelude.{Option}
+use Rattle.std.specs.Option.{option_map_or}
+use Rattle.jreport.specs.declared.reason.Reason.{Reason}
+use Rattle.jreport.specs.declared.reason.Reason.TheVariants as reason
+use Rattle.jffs2_image.specs.declared.output.BufferedOutput.{BufferedOutput}
+
+abbrev pub output_reason : {W : Type 0} → BufferedOutput W → Reason
+output_reason output = output.reason
+
+-- of the file that is there, if one is
+abbrev pub reason_of_last : {W : Type 0} → Option (BufferedOutput W) → Reason
+reason_of_last last = option_map_or output_reason last reason.Other
