@@ -1,14 +1,8 @@
-use Rattle.std.proofs.Common.{IsTrue, refl, subst, sym}
-use Rattle.std.specs.Prelude.{OnOk}
-use Rattle.std.proofs.Common.{ℕ, Result}
+use Rattle.std.proofs.Common.{◌≡◌, refl}
 use Rattle.jcommand.specs.Parsed.{options_of, view}
 use Rattle.jcommand.specs.declared.parsed.Request.{Request}
 use Rattle.jcommand.specs.declared.parsed.Request.TheVariants as request
-use Rattle.jreport.specs.declared.faults.ProgramFault.{ProgramFault}
-use Rattle.jffs2_image.specs.Host.{BlamesFor}
-use Rattle.jffs2_image.specs.Placing.{telling, writes}
 use Rattle.jffs2_image.specs.Runs.{options_parsed}
-use Rattle.jffs2_image.specs.Tasks.{reads}
 use Rattle.jffs2_image.proofs.CommandLemmas.{for_finished}
 use Rattle.jffs2_image.proofs.FinishLemmas.{ok_finished}
 use Rattle.jffs2_image.proofs.program.run_whole.Goals as goal
