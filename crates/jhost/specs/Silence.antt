@@ -15,11 +15,11 @@ abbrev pub ReadsInSilence : {R F D : Type 0} → ReadFolder R F D → Type 0
 ReadsInSilence folder = IsSilent folder.progress
 
 -- nothing that was told is there still
-abbrev pub IsHidden : {R : Type 0} → Progress R → Type 0
-IsHidden progress = progress.is_shown ≡ false
+abbrev pub IsCleared : {R : Type 0} → Progress R → Type 0
+IsCleared progress = progress.is_shown ≡ false
 
 abbrev pub HidesFilling : {R F D : Type 0} → FilledFolder R F D → Type 0
-HidesFilling folder = IsHidden folder.progress
+HidesFilling folder = IsCleared folder.progress
 
 abbrev pub HidesReading : {R F D : Type 0} → ReadFolder R F D → Type 0
-HidesReading folder = IsHidden folder.progress
+HidesReading folder = IsCleared folder.progress

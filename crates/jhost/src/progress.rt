@@ -2,7 +2,7 @@
 
 ghost use Rattle.std.specs.Prelude.{◌≡◌, IsFalse};
 ghost use Rattle.jhost.specs.Counted.{counted_objects, one_more};
-ghost use Rattle.jhost.specs.Silence.{IsHidden, IsSilent};
+ghost use Rattle.jhost.specs.Silence.{IsCleared, IsSilent};
 
 use std::io::Eprint;
 use std::rt::Clock;
@@ -24,7 +24,7 @@ impl<'r, R: Clock + Eprint> Progress<'r, R> {
     pub fn new(rt: &'r R, tells: bool) -> Self
         ensures silent { IsFalse tells → IsSilent result }
         ensures none { counted_objects result ≡ 0 }
-        ensures hidden { IsHidden result }
+        ensures hidden { IsCleared result }
     {
         let due = if tells { a_second_from_now(rt) } else { None };
         Progress {
@@ -39,7 +39,7 @@ impl<'r, R: Clock + Eprint> Progress<'r, R> {
     pub fn step(&mut self)
         ensures count { counted_objects self.new ≡ one_more (counted_objects self.old) }
         ensures silent { IsSilent self.old → IsSilent self.new }
-        ensures hidden { IsSilent self.old → IsHidden self.old → IsHidden self.new }
+        ensures hidden { IsSilent self.old → IsCleared self.old → IsCleared self.new }
     {
         self.count = self.count.saturating_add(1);
         let Some(due) = self.due else {
@@ -62,7 +62,7 @@ impl<'r, R: Clock + Eprint> Progress<'r, R> {
 
     /// Takes away what was told.
     pub fn finish(&mut self)
-        ensures hidden { IsHidden self.new }
+        ensures hidden { IsCleared self.new }
         ensures count { counted_objects self.new ≡ counted_objects self.old }
         ensures silent { IsSilent self.old → IsSilent self.new }
     {
