@@ -1,5 +1,6 @@
 //! Files of the host: those that are read whole, and the one that is made.
 ghost use Rattle.std.specs.Prelude.{◌≡◌, ◌<◌, ◌≤◌, ◌++◌, ℕ, List, [], ◌∷◌, Option, IfOk, IfErr, IfSome, OnOk, None, Some, Err, length, vec_len};
+ghost use Rattle.jreport.specs.declared.reason.Reason.{Reason};
 ghost use Rattle.flashbase.specs.Device.{CountsErr, CountsLoad, next_count};
 ghost use Rattle.jffs2_image.specs.Filling.{HoldsFilled, HoldsFilledInPart};
 ghost use Rattle.jffs2_image.specs.Reasons.{reason_of_last};

@@ -7,9 +7,9 @@ ghost use Rattle.jhost.specs.ReadFolders.{last_kind};
 ghost use Rattle.jreport.specs.Reasons.{reason_of_kind};
 
 use crate::first::FirstBytes;
-use crate::refusing::Refusing;
 use crate::host::{FileLoader, Loader};
 use crate::kept::KeptFiles;
+use crate::refusing::Refusing;
 use jfolder::{FolderFault, HostFolder, Looked, Names};
 use jhost::ReadFolder;
 use jreport::Reason;
@@ -29,7 +29,7 @@ impl<'r, R: Files + AllocGlobal> Keeper<'r, R> {
     /// A keeper of no files yet.
     pub fn new(alloc: Global, loader: FileLoader<'r, R>) -> Self
         ensures none { (name : List ℕ) → kept_of result.files name ≡ None }
-        ensures loader { result.loader ≡ loader }
+        ensures loader { result.loader ≡ loader.entry }
     {
         Keeper {
             alloc,
@@ -72,8 +72,8 @@ pub struct KeepingFolder<'r, R: Files + AllocGlobal + Clock + Eprint> {
 impl<'r, R: Files + AllocGlobal + Clock + Eprint> KeepingFolder<'r, R> {
     /// A folder that is read, with a keeper where its files are to be kept.
     pub fn new(alloc: Global, folder: ReadFolder<'r, R>, keeper: Option<Keeper<'r, R>>) -> Self
-        ensures folder { result.folder ≡ folder }
-        ensures files { kept_files result ≡ option_map files_of_keeper keeper }
+        ensures folder { result.folder ≡ folder.entry }
+        ensures files { kept_files result ≡ option_map files_of_keeper keeper.entry }
     {
         KeepingFolder {
             folder,
@@ -108,7 +108,7 @@ impl<'r, R: Files + AllocGlobal + Clock + Eprint> KeepingFolder<'r, R> {
 
     /// Takes away what was told of how far it is. Answers the files that were kept.
     pub fn finish(self) -> Option<KeptFiles>
-        ensures { result ≡ kept_files self }
+        ensures { result ≡ kept_files self.entry }
     {
         let KeepingFolder {
             mut folder,

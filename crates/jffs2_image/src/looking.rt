@@ -14,8 +14,8 @@ use flashbase::{LoadFault, Sink};
 use jcommand::Options;
 use jnode::Order;
 use jreport::{
-    ProgramFault, Reason, Unopened, put_check, file_bytes, image_file, image_tree, put_list,
-    path_word, stream_lines,
+    ProgramFault, Reason, Unopened, file_bytes, image_file, image_tree, path_word, put_check,
+    put_list, stream_lines,
 };
 use std::alloc::Global;
 

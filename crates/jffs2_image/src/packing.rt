@@ -10,10 +10,10 @@ ghost use Rattle.jffs2_image.specs.Tasks.{passage, reads};
 ghost use Rattle.jffs2_image.specs.Placing.{telling, writes};
 
 use crate::folders::{Folders, put_read, read_fault, settings_of};
-use crate::refusing::Refusing;
 use crate::host::{Loader, Maker};
 use crate::output::Output;
 use crate::program::report_fault;
+use crate::refusing::Refusing;
 use crate::weak::{Notes, put_notes};
 use crate::writing::{Texts, Writing, write_image};
 use byteorder::{BigEndian, LittleEndian};

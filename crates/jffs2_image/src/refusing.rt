@@ -1,6 +1,7 @@
 //! What says why it failed.
 
 ghost use Rattle.std.specs.Prelude.{◌≡◌};
+ghost use Rattle.jreport.specs.declared.reason.Reason.{Reason};
 
 use jreport::Reason;
 

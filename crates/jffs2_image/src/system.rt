@@ -7,10 +7,10 @@ ghost use Rattle.jhost.specs.Silence.{FillsInSilence};
 ghost use Rattle.jreport.specs.Reasons.{reason_of_kind};
 
 use crate::folders::Folders;
-use crate::refusing::Refusing;
 use crate::host::FileLoader;
 use crate::keeping::{Keeper, KeepingFolder};
 use crate::kept::KeptFiles;
+use crate::refusing::Refusing;
 use jextract::Folder;
 use jfolder::HostFolder;
 use jhost::{FilledFolder, ReadFolder};
