@@ -1,5 +1,5 @@
 -- How long what goes out is.
-use Rattle.std.proofs.Common.{◌≡◌, ℕ, suc, ◌+◌, ◌-◌, ◌*◌, ◌/◌, ◌%◌, ◌<◌, ◌≤◌, max, leb, List, [], ◌∷◌, ◌++◌, length, map, refl, sym, ap, subst, ◌∙◌, arith, inl, inr, length-append}
+use Rattle.std.proofs.Common.{◌≡◌, ℕ, suc, ◌+◌, ◌-◌, ◌*◌, ◌/◌, ◌%◌, ◌<◌, ◌≤◌, max, leb, Bool, true, false, List, [], ◌∷◌, ◌++◌, length, map, refl, sym, ap, subst, ◌∙◌, arith, inl, inr, length-append}
 use Rattle.std.proofs.lemmas.Bool.{cond-true, cond-false, le-leb, lt-leb, cases_lt, and_parts, eqb-true}
 use Rattle.std.proofs.lemmas.List.{length-replicate}
 use Rattle.std.specs.Prelude.{◌&&◌, ◌==◌, IsTrue, nat_le, nat_lt, slice_get, Ok}
@@ -13,7 +13,7 @@ use Rattle.jnode.specs.declared.order.Endian.{Endian}
 use Rattle.jnode.proofs.WritingLemmas.{length-filled}
 use Rattle.jsteps.specs.declared.op.Op.{Op}
 use Rattle.jscan.specs.declared.page.Page.{Page}
-use Rattle.jlog.specs.Headline.{is_flash_of}
+use Rattle.jlog.specs.Headline.{is_flash_of, resume_address}
 use Rattle.jlog.specs.Output.{gap, output}
 use Rattle.jlog.specs.Places.{place_after, end_after, end_of_all, is_writable_flash, places}
 use Rattle.jmount.specs.Mount.{Mount}

@@ -1,6 +1,6 @@
 -- Operations that are told one after another.
-use Rattle.std.proofs.Common.{◌≡◌, ℕ, suc, ◌+◌, ◌<◌, ◌≤◌, ◌*◌, Bool, List, [], ◌∷◌, ◌++◌, length, get_or, refl, sym, ap, ap₂, subst, ◌∙◌, arith, inl, inr, length-append, Option, Some, None, Result, Ok, Err}
-use Rattle.std.specs.Prelude.{IsTrue, is_some}
+use Rattle.std.proofs.Common.{◌≡◌, ◌≢◌, ℕ, suc, ◌+◌, ◌<◌, ◌≤◌, ◌*◌, Bool, List, [], ◌∷◌, ◌++◌, length, get_or, refl, sym, ap, ap₂, subst, ◌∙◌, arith, inl, inr, length-append, Option, Some, None, Result, Ok, Err}
+use Rattle.std.specs.Prelude.{IsTrue, IsOk, is_some}
 use Rattle.std.specs.Io.KnownBytes.{Appends}
 use Rattle.std.proofs.KnownBytes.{Appends-nil, Appends-trans}
 use Rattle.std.proofs.lemmas.Bool.{cases_Bool}
@@ -17,6 +17,7 @@ use Rattle.jsteps.specs.declared.step.Step.{Step}
 use Rattle.jlog.specs.Places.{end_of_all, is_writable_flash}
 use Rattle.jlog.specs.Running.{written}
 use Rattle.jlog.specs.Session.{IsFresh}
+use Rattle.jlog.specs.declared.fault.SessionFault.{SessionFault}
 use Rattle.jlog.specs.declared.start.Flash.{Flash}
 use Rattle.jlog.proofs.CodeLemmas.{flash_limits}
 use Rattle.jcuts.specs.Lines.{step_nodes, text_of_node, text_of_nodes, weak_count, end_text}

@@ -1,5 +1,5 @@
 -- What is told of operations that follow one another.
-use Rattle.std.specs.Prelude.{◌≡◌, ◌⊎◌, ℕ, ◌≤◌, IsTrue, IsFalse, List, [], ◌++◌, length, take, slice_get, Some, None, Result, Ok, Err}
+use Rattle.std.specs.Prelude.{◌≡◌, ◌⊎◌, ℕ, ◌≤◌, IsTrue, IsFalse, List, [], ◌++◌, length, take, slice_get, Option, Some, None, Result, Ok, Err}
 use Rattle.std.specs.Io.KnownBytes.{Appends}
 use Rattle.byteorder.specs.declared.ByteOrder.{Ghosts as OfByteOrder}
 use Rattle.flashbase.specs.Device.{PutsPart, next_count}

@@ -1,5 +1,5 @@
 use Rattle.std.proofs.Common.{◌≡◌, ◌∙◌, ℕ, List, [], ap, subst, sym}
-use Rattle.std.specs.Prelude.{Option}
+use Rattle.std.specs.Prelude.{Option, Ok}
 use Rattle.std.specs.Io.KnownBytes.{Appends}
 use Rattle.jscan.specs.Pages.{page_size}
 use Rattle.jlog.proofs.Parts.{RunsBy, flash_by, state_by}
