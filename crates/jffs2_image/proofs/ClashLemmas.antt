@@ -1,12 +1,10 @@
 -- What `decompress --clashes higher` does of an image, of a file, and as a command.
-use Rattle.std.proofs.Common.{◌≡◌, ℕ, Bool, true, false, List, [], ◌++◌, length, map, count_by, Option, Some, None, Result, Ok, Err, inl, inr, refl, sym, ap, ◌∙◌, subst, ◌==◌, cond}
-use Rattle.std.specs.Prelude.{◌⊎◌, OnOk}
-use Rattle.std.specs.Result.{IsErrAnd}
+use Rattle.std.proofs.Common.{◌≡◌, ℕ, List, [], ◌++◌, length, map, count_by, Option, Some, None, Result, Ok, Err, inl, inr, refl, sym, ap, ◌∙◌, subst, ◌==◌}
 use Rattle.std.specs.Io.KnownBytes.{Appends, Keeps}
 use Rattle.std.proofs.KnownBytes.{Appends-nil, Appends-trans}
 use Rattle.std.proofs.lemmas.Bool.{cases_Bool, cond-true, cond-false}
 use Rattle.std.proofs.Common.{⊎_elim}
-use Rattle.flashbase.specs.Device.{CountsErr, PutsPart, Puts, next_count}
+use Rattle.flashbase.specs.Device.{PutsPart, next_count}
 use Rattle.flashbase.proofs.DeviceLemmas.{part_before, part_behind}
 use Rattle.flashbase.specs.Sinks.{SinkChange}
 use Rattle.jnode.specs.declared.node.NodeRef.{NodeRef}
@@ -25,13 +23,10 @@ use Rattle.jexpand.specs.declared.fault.ConvertFault.TheVariants as convert
 use Rattle.jreport.specs.Notes.{note_line_of}
 use Rattle.jreport.specs.declared.faults.ProgramFault.{ProgramFault}
 use Rattle.jreport.specs.declared.faults.ProgramFault.TheVariants as program
-use Rattle.jffs2_image.specs.ClashRuns.{DecompressesApartFile, DecompressesApartNamed, HoldsApart, note_if_any}
-use Rattle.jffs2_image.specs.Compressing.{CompressionAsked}
+use Rattle.jffs2_image.specs.ClashRuns.{DecompressesApartFile, HoldsApart, note_if_any}
 use Rattle.jffs2_image.specs.Decompressing.{HoldsMade, IsNotWritten, fault_of_conversion}
-use Rattle.jffs2_image.specs.Host.{BlamesDecompress, MakesFile}
 use Rattle.jffs2_image.specs.Runs.{IsSaid, Says, note_after}
-use Rattle.jffs2_image.specs.Writes.{GivesText, Held, IsBehind, FileReads, FileWrites}
-use Rattle.jffs2_image.specs.declared.clashes.ApartDone.{ApartDone}
+use Rattle.jffs2_image.specs.Writes.{GivesText, Held, IsBehind}
 use Rattle.jffs2_image.proofs.HostLemmas.{part_all, same_behind}
 
 -- ---- what the file that is made was given

@@ -1,9 +1,6 @@
 -- What `compress` does of an image, of a file, and as a command.
-use Rattle.std.proofs.Common.{◌≡◌, ◌≢◌, ℕ, Bool, true, false, List, length, Option, Some, None, Result, Ok, Err, inl, inr, refl, sym, ap, ◌∙◌, subst, ◌==◌}
-use Rattle.std.specs.Prelude.{◌⊎◌, OnOk}
-use Rattle.std.specs.Result.{IsErrAnd}
+use Rattle.std.proofs.Common.{◌≡◌, ◌≢◌, ℕ, List, length, Option, Some, None, Result, Ok, Err, inl, inr, refl, ap}
 use Rattle.std.specs.Io.KnownBytes.{Keeps}
-use Rattle.flashbase.specs.Device.{CountsErr}
 use Rattle.flashbase.specs.Sinks.{SinkChange}
 use Rattle.flashbase.specs.declared.source.LoadFault.TheVariants as load
 use Rattle.jnode.specs.declared.order.Endian.{Endian}
@@ -17,11 +14,11 @@ use Rattle.jexpand.specs.declared.fault.ConvertFault.{ConvertFault}
 use Rattle.jexpand.specs.declared.fault.ConvertFault.TheVariants as convert
 use Rattle.jreport.specs.declared.faults.ProgramFault.{ProgramFault}
 use Rattle.jreport.specs.declared.faults.ProgramFault.TheVariants as program
-use Rattle.jffs2_image.specs.Compressing.{CompressesFile, CompressesNamed, CompressionAsked, GivesPacked, HoldsPacked}
+use Rattle.jffs2_image.specs.Compressing.{CompressesFile, GivesPacked, HoldsPacked}
 use Rattle.jffs2_image.specs.Decompressing.{HoldsMade, IsNotWritten, fault_of_conversion}
-use Rattle.jffs2_image.specs.Host.{BlamesDecompress, MakesFile}
+use Rattle.jffs2_image.specs.Host.{BlamesDecompress}
 use Rattle.jffs2_image.specs.Runs.{Says}
-use Rattle.jffs2_image.specs.Writes.{Held, IsBehind, FileReads, FileWrites}
+use Rattle.jffs2_image.specs.Writes.{Held, IsBehind}
 use Rattle.jffs2_image.proofs.HostLemmas.{part_all, same_behind}
 
 -- ---- what the file that is made was given

@@ -1,10 +1,8 @@
 -- A listing's operations that are told.
-use Rattle.std.proofs.Common.{◌≡◌, ℕ, List, Option, Some, None, Result, Ok, Err, Bool, true, false, ap, inl, inr, refl, sym, subst, ◌∙◌}
-use Rattle.std.specs.Prelude.{IsOk, OnOk, map}
-use Rattle.std.specs.Io.KnownBytes.{Keeps}
+use Rattle.std.proofs.Common.{◌≡◌, ℕ, List, Option, Result, Ok, Err, ap, inl, inr, refl, sym, subst}
+use Rattle.std.specs.Prelude.{IsOk, map}
 use Rattle.std.proofs.Math.Path.{fun_ext}
 use Rattle.std.specs.Result.{IsErrAnd}
-use Rattle.flashbase.specs.Device.{CountsErr, next_count}
 use Rattle.flashbase.specs.Sinks.{SinkChange}
 use Rattle.flashbase.specs.declared.source.LoadFault.TheVariants as load
 use Rattle.jnode.specs.declared.order.Endian.{Endian}
@@ -25,9 +23,9 @@ use Rattle.jreport.specs.Refusal.{IsRefusalTold}
 use Rattle.jreport.specs.declared.faults.ProgramFault.{ProgramFault}
 use Rattle.jreport.proofs.RefusalLemmas.{refusal_cases}
 use Rattle.jreport.specs.declared.faults.ProgramFault.TheVariants as program
-use Rattle.jffs2_image.specs.CutRuns.{BlamesReading, CutsAsked, IsBaseOf, IsLinesFault, TellsFiles, TellsLines, TellsOn, TellsText, answer_of_cuts, flash_asked}
+use Rattle.jffs2_image.specs.CutRuns.{BlamesReading, IsBaseOf, IsLinesFault, TellsFiles, TellsOn, TellsText, answer_of_cuts}
 use Rattle.jffs2_image.specs.Host.{AreAllRead, AreLoaded, AreRead, HaveBytes, IsReadFault}
-use Rattle.jffs2_image.specs.Writes.{IsBehind, IsPartUnread, IsUnreadFile}
+use Rattle.jffs2_image.specs.Writes.{IsPartUnread, IsUnreadFile}
 
 -- the parts that were read have the bytes of the host's files
 pub have_bytes : (told : List ℕ → Option (List ℕ)) (lines : List Line) (parts : HostFiles) → AreRead told lines parts → HaveBytes told lines (part_contents parts)

@@ -1,15 +1,11 @@
 -- An image whose damage is told.
-use Rattle.std.proofs.Common.{◌≡◌, ℕ, true, false, List, Option, Result, Ok, Err, ap, inr}
-use Rattle.std.specs.Prelude.{OnOk}
+use Rattle.std.proofs.Common.{◌≡◌, ℕ, List, Result, Ok, Err, ap, inr}
 use Rattle.std.specs.Result.{IsErrAnd}
-use Rattle.std.specs.Io.KnownBytes.{Keeps}
-use Rattle.flashbase.specs.Device.{CountsErr}
 use Rattle.flashbase.specs.Sinks.{SinkChange}
 use Rattle.jcommand.specs.declared.parsed.Options.{Options}
 use Rattle.jreport.specs.Refusal.{IsRefusalTold}
 use Rattle.jreport.specs.declared.faults.ProgramFault.{ProgramFault}
 use Rattle.jffs2_image.specs.DamageRuns.{TellsDamage}
-use Rattle.jffs2_image.specs.Writes.{IsBehind}
 
 -- an image that does not mount is why
 pub not_mounted : (options : Options) (image : List ℕ) (output : SinkChange) (fault : ProgramFault) (r : Result ℕ ProgramFault) → IsErrAnd r (λ x. x ≡ fault)

@@ -1,13 +1,9 @@
 -- Two images that are compared.
-use Rattle.std.proofs.Common.{◌≡◌, ℕ, true, false, List, Option, Result, Ok, Err, ap, inl, inr}
-use Rattle.std.specs.Prelude.{OnOk}
+use Rattle.std.proofs.Common.{◌≡◌, ℕ, List, Result, Ok, Err, ap, inr}
 use Rattle.std.specs.Result.{IsErrAnd}
-use Rattle.std.specs.Io.KnownBytes.{Keeps}
-use Rattle.flashbase.specs.Device.{CountsErr}
 use Rattle.flashbase.specs.Sinks.{SinkChange}
 use Rattle.jreport.specs.declared.faults.ProgramFault.{ProgramFault}
 use Rattle.jffs2_image.specs.DiffRuns.{Comparing, DiffersOf, IsUnmounted}
-use Rattle.jffs2_image.specs.Writes.{IsBehind}
 
 -- an image that does not mount is why
 pub unmounted : (by : Comparing) (first second : List ℕ) (output : SinkChange) (fault : ProgramFault) (r : Result ℕ ProgramFault) → IsErrAnd r (λ x. x ≡ fault)

@@ -1,5 +1,5 @@
 -- What an extraction comes to whose image is decompressed, and of which a part is asked for.
-use Rattle.std.proofs.Common.{◌≡◌, ℕ, Bool, true, List, [], Option, Some, None, Result, Ok, Err, inl, inr, refl, sym, ap, subst, ◌∙◌}
+use Rattle.std.proofs.Common.{◌≡◌, ℕ, Bool, true, List, [], Option, Some, Result, Ok, Err, inl, refl, sym, ap, subst, ◌∙◌}
 use Rattle.std.proofs.KnownBytes.{Appends-nil}
 use Rattle.flashbase.specs.Sinks.{SinkChange}
 use Rattle.jmount.specs.Tree.{State}

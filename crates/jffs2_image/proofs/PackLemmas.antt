@@ -1,9 +1,5 @@
 -- What `pack` does, as far as it came.
-use Rattle.std.proofs.Common.{◌≡◌, ℕ, true, false, List, Option, Result, Ok, Err, ap, inl, inr, refl, subst, ◌∙◌}
-use Rattle.std.specs.Prelude.{OnOk}
-use Rattle.std.specs.Result.{IsErrAnd}
-use Rattle.std.specs.Io.KnownBytes.{Keeps}
-use Rattle.flashbase.specs.Device.{CountsErr}
+use Rattle.std.proofs.Common.{◌≡◌, ℕ, List, Ok, Err, ap, inl, inr, refl, subst, ◌∙◌}
 use Rattle.flashbase.specs.Sinks.{SinkChange}
 use Rattle.jcommand.specs.Parsed.{PackingParsed}
 use Rattle.jfolder.specs.Known.{Known}
@@ -11,8 +7,7 @@ use Rattle.jfolder.specs.Text.{listing_text}
 use Rattle.jfolder.specs.declared.found.Options.{Options}
 use Rattle.jreport.specs.declared.faults.ProgramFault.{ProgramFault}
 use Rattle.jffs2_image.specs.Folders.{settings}
-use Rattle.jffs2_image.specs.PackRuns.{PackAround, PacksFolder, PutsText, ReadsGiven, ReadsListing, WritesText}
-use Rattle.jffs2_image.specs.Writes.{IsBehind, FileReads, FileWrites}
+use Rattle.jffs2_image.specs.PackRuns.{PackAround, PacksFolder, ReadsGiven, ReadsListing, WritesText}
 use Rattle.jffs2_image.proofs.PackedTreeLemmas.{gives_folder}
 use Rattle.jffs2_image.specs.declared.packing.Listed.{Listed}
 use Rattle.jffs2_image.specs.declared.weak.Notes.{Notes}

@@ -1,10 +1,8 @@
 -- The image that is made of a folder holds its tree.
-use Rattle.std.proofs.Common.{◌≡◌, ℕ, Bool, true, false, List, [], ◌∷◌, ◌++◌, Option, Some, None, Result, Ok, Err, refl, ap, sym, subst, ◌∙◌}
-use Rattle.std.specs.Prelude.{IfSome, IsOk}
+use Rattle.std.proofs.Common.{◌≡◌, ℕ, Bool, List, [], ◌∷◌, ◌++◌, Option, Some, None, Result, Ok, Err, refl, ap, subst}
+use Rattle.std.specs.Prelude.{IfSome}
 use Rattle.std.specs.Io.KnownBytes.{Appends, Keeps}
 use Rattle.flashbase.specs.Sinks.{SinkChange}
-use Rattle.jnode.specs.declared.order.Endian.{Endian}
-use Rattle.jscan.specs.declared.page.Page.{Page}
 use Rattle.jlisting.specs.declared.line.Line.{Line}
 use Rattle.jlog.specs.declared.report.Place.{Place}
 use Rattle.jbuild.specs.Emitting.{IsEmitted, paged_flash}
@@ -13,7 +11,6 @@ use Rattle.jfolder.specs.Known.{Known}
 use Rattle.jfolder.specs.Text.{listing_text}
 use Rattle.jfolder.specs.declared.found.Options.{Options}
 use Rattle.jfolder.specs.declared.reading.FolderTree.{FolderTree}
-use Rattle.jtree.specs.Making.{Files}
 use Rattle.jtree.proofs.WrittenLemmas.{put_out_holds_tree}
 use Rattle.jreport.specs.declared.faults.ProgramFault.{ProgramFault}
 use Rattle.jcommand.specs.Parsed.{PackingParsed}
@@ -22,7 +19,7 @@ use Rattle.jffs2_image.specs.Host.{HaveBytes}
 use Rattle.jffs2_image.specs.PackRuns.{PutsText, WritesText, blocks_of}
 use Rattle.jffs2_image.specs.PackedTrees.{GivesFolder, HoldsFolder}
 use Rattle.jffs2_image.specs.Runs.{answer_finished}
-use Rattle.jffs2_image.specs.Writes.{FileReads, FileWrites, Held, IsHanded, IsRunOn, image_form}
+use Rattle.jffs2_image.specs.Writes.{FileReads, FileWrites, Held, IsRunOn, image_form}
 use Rattle.jffs2_image.specs.declared.weak.Notes.{Notes}
 
 -- what an empty file took and gave on is known

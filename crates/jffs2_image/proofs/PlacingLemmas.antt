@@ -5,7 +5,7 @@ use Rattle.jcommand.specs.Parsed.{TaskParsed, is_unplaced}
 use Rattle.jcommand.specs.declared.outcome.Outcome.{Outcome}
 use Rattle.jcommand.specs.declared.outcome.Outcome.TheVariants as outcome
 use Rattle.jcommand.specs.declared.parsed.Placing.{Placing}
-use Rattle.jffs2_image.specs.Placing.{IsUnplaced, Intent, RunsBeside, RunsFilled, RunsPlaced, TakesName, Telling, Tellings, is_well, intent_of, writes, written_by, if_padded}
+use Rattle.jffs2_image.specs.Placing.{IsUnplaced, Intent, RunsBeside, RunsFilled, RunsPlaced, TakesName, Tellings, is_well, intent_of, writes, written_by, if_padded}
 use Rattle.jffs2_image.specs.Writes.{FileWrites}
 
 both_off : (a b : Bool) → (not a && not b) ≡ true → (a ≡ false) × (b ≡ false)

@@ -1,5 +1,5 @@
 -- A command whose output is finished is as it was said before.
-use Rattle.std.proofs.Common.{◌≡◌, ◌∙◌, ℕ, Bool, true, false, List, Option, Result, Ok, Err, refl, ap, sym, subst}
+use Rattle.std.proofs.Common.{◌≡◌, ◌∙◌, ℕ, Bool, true, false, List, Option, Result, Ok, Err, refl, sym}
 use Rattle.flashbase.specs.Sinks.{SinkChange}
 use Rattle.jfolder.specs.Known.{Known}
 use Rattle.jfolder.specs.declared.found.Options as reading

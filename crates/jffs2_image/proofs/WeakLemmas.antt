@@ -1,6 +1,6 @@
 -- The notes on weak nodes.
-use Rattle.std.proofs.Common.{◌≡◌, ℕ, zero, suc, ◌≤◌, ⊎_elim, Bool, List, [], ◌∷◌, ◌++◌, length, map, take, refl, sym, ap, subst, ◌∙◌, arith, append_assoc, inl, inr, Option, Some, None, Result, Ok, Err}
-use Rattle.std.specs.Prelude.{◌⊎◌, IsTrue, IsFalse, IsOk, OnOk, flat_map, slice_get}
+use Rattle.std.proofs.Common.{◌≡◌, ℕ, zero, suc, ◌≤◌, Bool, List, [], ◌∷◌, ◌++◌, length, map, take, refl, sym, ap, subst, ◌∙◌, arith, append_assoc, Option, Some, None, Result, Ok, Err}
+use Rattle.std.specs.Prelude.{IsTrue, OnOk, flat_map, slice_get}
 use Rattle.std.proofs.Math.Path.{fun_ext}
 use Rattle.std.proofs.lemmas.Bool.{and_parts, false≢true}
 use Rattle.std.proofs.lemmas.List.{append-nil}
@@ -32,7 +32,6 @@ use Rattle.jcuts.specs.Telling.{first_told}
 use Rattle.jcuts.specs.declared.cuts.CutsFault.TheVariants as told
 use Rattle.jcuts.specs.declared.lines.StepNode.{StepNode}
 use Rattle.jcuts.specs.declared.lines.Telling.TheVariants.{WeakNotes}
-use Rattle.jcuts.specs.declared.standing.Standing.{Standing}
 use Rattle.jcuts.proofs.ToldLemmas.{lines_are_nodes}
 use Rattle.jcommand.specs.Parsed.{BuildParsed, AppendParsed}
 use Rattle.jcommand.specs.declared.parsed.Options.{Options}

@@ -27,7 +27,6 @@ use Rattle.jreport.specs.declared.faults.ProgramFault.{ProgramFault}
 use Rattle.jreport.specs.declared.faults.ProgramFault.TheVariants as program
 use Rattle.std.proofs.Common.{[], ◌∷◌, ◌++◌}
 use Rattle.std.proofs.Math.Path.{fun_ext}
-use Rattle.flashbase.specs.declared.source.LoadFault.TheVariants as load
 use Rattle.std.specs.Prelude.{IfOk, IfSome, IsFalse}
 use Rattle.jscan.specs.Image.{is_block_size}
 use Rattle.jscan.specs.declared.geometry.ScanFault.TheVariants as scan

@@ -1,5 +1,5 @@
 -- What a run of the program does that decompresses an image without nodes that clash.
-use Rattle.std.specs.Prelude.{◌≡◌, ◌⊎◌, ◌==◌, ℕ, Bool, true, false, List, [], ◌++◌, length, Option, Some, None, Result, Ok, Err, codes, flat_map, if◌then◌else◌}
+use Rattle.std.specs.Prelude.{◌≡◌, ◌⊎◌, ◌==◌, ℕ, List, [], ◌++◌, length, Option, Some, None, Result, Ok, Err, codes, flat_map, if◌then◌else◌}
 use Rattle.std.specs.Io.KnownBytes.{Appends}
 use Rattle.flashbase.specs.Device.{PutsPart, next_count}
 use Rattle.flashbase.specs.Sinks.{SinkChange}
@@ -14,7 +14,6 @@ use Rattle.jcommand.specs.Parsed.{ApartParsed, IsFaultless, parsed_from}
 use Rattle.jcommand.specs.Status.{outcome_of}
 use Rattle.jcommand.specs.declared.outcome.Outcome.{Outcome}
 use Rattle.jcommand.specs.declared.outcome.Outcome.TheVariants as outcome
-use Rattle.jcommand.specs.declared.parsed.Options.{Options}
 use Rattle.jline.specs.Words.{hex}
 use Rattle.jreport.specs.Advice.{fault_lines_of}
 use Rattle.jreport.specs.FoundIn.{found_in}

@@ -1,5 +1,5 @@
 -- What a run of the program does that tells what stands after a stop.
-use Rattle.std.specs.Prelude.{◌≡◌, ◌⊎◌, ℕ, Bool, List, [], map, Option, Some, None, Result, Ok, Err, IsOk}
+use Rattle.std.specs.Prelude.{◌≡◌, ◌⊎◌, ℕ, List, [], map, Option, Some, None, Result, Ok, Err, IsOk}
 use Rattle.flashbase.specs.Device.{next_count}
 use Rattle.flashbase.specs.Sinks.{SinkChange}
 use Rattle.jnode.specs.declared.order.Endian.{Endian}
@@ -18,7 +18,6 @@ use Rattle.jcuts.specs.declared.cuts.CutsFault.{CutsFault}
 use Rattle.jcuts.specs.declared.cuts.CutsFault.TheVariants as cuts
 use Rattle.jcuts.specs.declared.lines.Telling.TheVariants.{Nodes}
 use Rattle.jreport.specs.Advice.{fault_lines_of}
-use Rattle.jreport.specs.declared.cause.Cause.TheVariants as causes
 use Rattle.jreport.specs.Refusal.{IsRefusalTold}
 use Rattle.jreport.specs.Causes.{cause_of}
 use Rattle.jreport.specs.declared.cause.Cause.{Cause}

@@ -1,6 +1,6 @@
 -- What a command does of an image that it decompresses: `decompress`, and a command with
 -- `--decompress`.
-use Rattle.std.specs.Prelude.{◌≡◌, ◌⊎◌, ℕ, Bool, true, false, List, Option, Some, None, Result, Ok, Err}
+use Rattle.std.specs.Prelude.{◌≡◌, ◌⊎◌, ℕ, Bool, true, false, List, Option, None, Result, Ok, Err}
 use Rattle.std.specs.Io.KnownBytes.{Appends}
 use Rattle.flashbase.specs.Device.{PutsPart, next_count}
 use Rattle.flashbase.specs.Sinks.{SinkChange}
@@ -8,7 +8,7 @@ use Rattle.jnode.specs.declared.order.Endian.{Endian}
 use Rattle.jmount.specs.declared.fault.MountFault.TheVariants as mount
 use Rattle.jlog.specs.declared.fault.SessionFault.{SessionFault}
 use Rattle.jlog.specs.declared.fault.SessionFault.TheVariants as session
-use Rattle.jconvert.specs.Converting.{Converts, converted_image, converted_of}
+use Rattle.jconvert.specs.Converting.{Converts, converted_of}
 use Rattle.jconvert.specs.declared.converted.Converted.{Converted}
 use Rattle.jexpand.specs.declared.fault.ConvertFault.{ConvertFault}
 use Rattle.jexpand.specs.declared.fault.ConvertFault.TheVariants as convert

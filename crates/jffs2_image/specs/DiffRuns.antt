@@ -1,14 +1,12 @@
 -- What a run of the program does that tells what the trees of two images differ in.
 use Rattle.std.specs.Prelude.{◌≡◌, ◌⊎◌, ℕ, Bool, List, Option, Some, None, Result, Ok, Err}
 use Rattle.flashbase.specs.Sinks.{SinkChange}
-use Rattle.jnode.specs.declared.order.Endian.{Endian}
 use Rattle.jmount.specs.Mount.{Mount}
 use Rattle.jmount.specs.Mounts.{Answers}
 use Rattle.jdiff.specs.Differing.{PutsDifferences}
 use Rattle.jreport.specs.Advice.{fault_lines_of}
 use Rattle.jreport.specs.Refusal.{IsRefusalTold}
 use Rattle.jreport.specs.declared.faults.ProgramFault.{ProgramFault}
-use Rattle.jreport.specs.declared.faults.ProgramFault.TheVariants as program
 use Rattle.jcommand.specs.Parsed.{DiffParsed, IsFaultless, parsed_from}
 use Rattle.jcommand.specs.Status.{outcome_of}
 use Rattle.jcommand.specs.declared.parsed.Options.{Options}

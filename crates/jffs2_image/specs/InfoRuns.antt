@@ -1,6 +1,6 @@
 -- What a run of the program does that tells of an image of which nobody says the byte order or the
 -- block size.
-use Rattle.std.specs.Prelude.{◌≡◌, ◌⊎◌, ℕ, is_some, if◌then◌else◌, List, Option, Some, None, option_map, Result, Ok, Err}
+use Rattle.std.specs.Prelude.{◌≡◌, ◌⊎◌, ℕ, is_some, if◌then◌else◌, List, Option, Some, option_map, Result, Ok, Err}
 use Rattle.std.specs.Io.KnownBytes.{Appends}
 use Rattle.flashbase.specs.Sinks.{SinkChange}
 use Rattle.jinfo.specs.Containers.{container_line, container_of}

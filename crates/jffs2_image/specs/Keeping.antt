@@ -1,5 +1,5 @@
 -- A folder of the system whose files are kept when they are found.
-use Rattle.std.specs.Prelude.{◌≡◌, ℕ, List, Option, option_map, bytes_eq, string_bytes, if◌then◌else◌}
+use Rattle.std.specs.Prelude.{ℕ, List, Option, option_map, bytes_eq, string_bytes, if◌then◌else◌}
 use Rattle.jbuild.specs.HostFiles.{read_of}
 use Rattle.jhost.specs.ReadFolders.{read_root}
 use Rattle.jffs2_image.specs.declared.keeping.Keeper.{Keeper}

@@ -4,7 +4,7 @@ use Rattle.std.specs.Prelude.{◌≡◌, ◌≢◌, ◌⊎◌, ◌*◌, ℕ, Boo
 use Rattle.flashbase.specs.Device.{next_count}
 use Rattle.jreport.specs.Advice.{fault_lines_of}
 use Rattle.jreport.specs.declared.faults.ProgramFault.{ProgramFault}
-use Rattle.jcommand.specs.Parsed.{BuildParsed, AppendParsed, DecompressParsed, ImageParsed, WeakParsed, CompressParsed, ApartParsed, PackParsed, PackingParsed, Parsed, TaskParsed}
+use Rattle.jcommand.specs.Parsed.{BuildParsed, AppendParsed, DecompressParsed, ImageParsed, WeakParsed, CompressParsed, ApartParsed, PackParsed, Parsed, TaskParsed}
 use Rattle.jcommand.specs.declared.outcome.Outcome.{Outcome}
 use Rattle.jcommand.specs.declared.outcome.Outcome.TheVariants as outcome
 use Rattle.jcommand.specs.declared.parsed.Options.{Options}

@@ -1,4 +1,4 @@
-use Rattle.std.proofs.Common.{rules, ◌≡◌, ℕ, List, length, ap}
+use Rattle.std.proofs.Common.{rules, ◌≡◌, List, length, ap}
 use Rattle.jnode.specs.declared.node.NodeRef.{NodeRef}
 use Rattle.jreport.specs.declared.findings.Found.{Found}
 use Rattle.jconvert.specs.declared.converted.Converted.{Converted}

@@ -1,4 +1,4 @@
-use Rattle.std.proofs.Common.{◌≡◌, ℕ, ◌+◌, ◌<◌, List, take, length, get_or, refl, ◌∙◌, sym, subst, arith, ap, take_all}
+use Rattle.std.proofs.Common.{◌≡◌, ℕ, List, take, get_or, refl, ◌∙◌, subst, arith, take_all}
 use Rattle.std.specs.Io.KnownBytes.{Appends}
 use Rattle.std.proofs.KnownBytes.{Appends-trans}
 use Rattle.flashbase.specs.Device.{PutsPart}

@@ -1,4 +1,4 @@
-use Rattle.std.proofs.Common.{rules, ◌≡◌, ◌∙◌, ℕ, List, Ok, ap, inl, length, refl, sym}
+use Rattle.std.proofs.Common.{rules, ◌≡◌, ◌∙◌, List, Ok, ap, inl, length, refl, sym}
 use Rattle.std.specs.Prelude.{map}
 use Rattle.std.proofs.lemmas.List.{length-map}
 use Rattle.jmount.specs.Mounts.{Answers}

@@ -1,4 +1,4 @@
-use Rattle.std.proofs.Common.{rules, ◌≡◌, Ok, Err, refl}
+use Rattle.std.proofs.Common.{rules, ◌≡◌, Ok, refl}
 use Rattle.jlisting.specs.Listing.{lines_of}
 use Rattle.jffs2_image.proofs.CutRunLemmas.{answer_blames, blames_from, part_blames, part_due, told_fault}
 use Rattle.jffs2_image.proofs.cuts.tell_text.Goals as goal

@@ -1,5 +1,4 @@
-use Rattle.std.proofs.Common.{ℕ, List, Option, Ok, refl, sym, subst, inl}
-use Rattle.flashbase.specs.Device.{PutsPart}
+use Rattle.std.proofs.Common.{Ok, refl, sym, subst, inl}
 use Rattle.flashbase.specs.Sinks.{SinkChange}
 use Rattle.jnode.specs.declared.order.Endian.{Endian}
 use Rattle.jdamage.specs.Damage.{PutsDamage}

@@ -1,4 +1,4 @@
-use Rattle.std.proofs.Common.{ℕ, List, Option, Ok, refl, sym, subst, inl, inr}
+use Rattle.std.proofs.Common.{Ok, refl, sym, subst, inl, inr}
 use Rattle.flashbase.specs.Sinks.{SinkChange}
 use Rattle.jnode.specs.declared.order.Endian.{Endian}
 use Rattle.jmount.specs.Mounts.{Answers}

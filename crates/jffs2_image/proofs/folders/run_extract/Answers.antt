@@ -1,4 +1,4 @@
-use Rattle.std.proofs.Common.{rules, Ok, Err}
+use Rattle.std.proofs.Common.{Ok, Err}
 use Rattle.jffs2_image.proofs.CompressingLemmas.{note_said}
 use Rattle.jffs2_image.proofs.folders.run_extract.Goals as goal
 

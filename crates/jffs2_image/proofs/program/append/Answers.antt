@@ -1,6 +1,4 @@
-use Rattle.std.proofs.Common.{◌≡◌, Bool, false, refl, rules, subst, sym}
-use Rattle.jcommand.specs.Parsed.{AppendParsed}
-use Rattle.jffs2_image.specs.Runs.{Meets}
+use Rattle.std.proofs.Common.{◌≡◌, false, refl, rules}
 use Rattle.jffs2_image.proofs.WritingLemmas.{appends, listed}
 use Rattle.jffs2_image.proofs.WeakLemmas.{append_notes, on_ok}
 use Rattle.jffs2_image.proofs.program.append.Goals as goal

@@ -1,4 +1,4 @@
-use Rattle.std.proofs.Common.{ℕ, List, Ok, Err, inl, inr, refl}
+use Rattle.std.proofs.Common.{ℕ, List, Err, inl, inr, refl}
 use Rattle.std.specs.Prelude.{◌⊎◌}
 use Rattle.jcommand.specs.Parsed.{IsHelpRequested, IsRefusedByClap, IsUnreadable, task_view}
 use Rattle.jcommand.specs.Refused.{IsHelp, IsUsage}

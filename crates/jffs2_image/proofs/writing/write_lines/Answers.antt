@@ -23,7 +23,7 @@ use Rattle.jbuild.specs.Operations.{op_in}
 use Rattle.jlog.specs.declared.start.Flash.{Flash}
 use Rattle.jffs2_image.specs.WeakRuns.{AreNotes}
 use Rattle.jffs2_image.proofs.WeakLemmas.{all_taken, noted_at}
-use Rattle.jffs2_image.specs.Writes.{Held, HoldsCut, IsCause, IsMade, IsSessionFault, image_form}
+use Rattle.jffs2_image.specs.Writes.{Held, HoldsCut, IsMade, IsSessionFault, image_form}
 use Rattle.jffs2_image.proofs.WritingLemmas.{not_mounted, not_resumed, not_made, run_on, stopped_at, told, told_in_part, writes_fault, goes_on_from, run_cause}
 use Rattle.jffs2_image.specs.Host.{IsMadeUntil}
 use Rattle.jffs2_image.proofs.HostLemmas.{files_in_part, files_not_made, files_not_mounted, files_not_resumed, files_of_all, files_until, make_fault, maker_fault, mount_fault, resume_fault, run_fault}
