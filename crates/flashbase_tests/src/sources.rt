@@ -29,7 +29,7 @@ fn a_load_meets_each_failure(rt: HostRuntime) -> Result<(), Fail> {
             matches!(load(rt.alloc(), &mut source, 9), Err(LoadFault::Device)),
         );
         equal(&rt, source.failures, 0);
-        let rest = load(rt.alloc(), &mut source, 9).map_err(|_| "not loaded")?;
+        let rest = load(rt.alloc(), &mut source, 9)?;
         equal(&rt, rest.len(), 4 - calls);
         equal(&rt, source.failures, 0);
     }
@@ -42,7 +42,7 @@ fn a_load_without_a_failure(rt: HostRuntime) -> Result<(), Fail> {
         failures: 3,
         ..Giver::failing(b"abcd", 1, 5)
     };
-    let bytes = load(rt.alloc(), &mut source, 4).map_err(|_| "not loaded")?;
+    let bytes = load(rt.alloc(), &mut source, 4)?;
     expect(&rt, bytes.as_slice() == b"abcd".as_slice());
     equal(&rt, source.failures, 3);
     Ok(())
@@ -53,7 +53,7 @@ fn a_load_of_a_reader(rt: HostRuntime) -> Result<(), Fail> {
     let large = vec![in rt.alloc(); 7u8; 200_000]?;
     for text in [b"abcd".as_slice(), large.as_slice()] {
         let mut source = FromReader::new(text);
-        let bytes = load(rt.alloc(), &mut source, text.len()).map_err(|_| "not loaded")?;
+        let bytes = load(rt.alloc(), &mut source, text.len())?;
         expect(&rt, bytes.as_slice() == text);
     }
     Ok(())

@@ -58,7 +58,10 @@ fn pages() -> &'static [(Page, u32, u32, Option<SessionFault>)] {
 fn blocks_that_hold_a_page(rt: HostRuntime) -> Result<(), Fail> {
     for &(page, least, block, wanted) in pages() {
         expect(&rt, page_fits(Geometry { block: least }, page));
-        expect(&rt, !page_fits(Geometry { block: least - 4 }, page));
+        let less = Geometry {
+            block: least.saturating_sub(4),
+        };
+        expect(&rt, !page_fits(less, page));
         equal(&rt, refused(rt.alloc(), page, block)?, wanted);
     }
     Ok(())

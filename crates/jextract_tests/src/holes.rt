@@ -13,18 +13,12 @@ use std::test::Fail;
 use test_support::{FILE, Node};
 
 /// What is made of an image.
-fn made(
-    alloc: Global,
-    nodes: &[Node<'_>],
-    geometry: Geometry,
-) -> Result<(String, Totals), &'static str> {
+fn made(alloc: Global, nodes: &[Node<'_>], geometry: Geometry) -> Result<(String, Totals), Fail> {
     let image = image_of(alloc, nodes)?;
-    let mounted = mount::<LittleEndian>(alloc, &image, geometry).map_err(|_| "no mount")?;
+    let mounted = mount::<LittleEndian>(alloc, &image, geometry)?;
     let mut folder = Recorder::new(alloc, u64::MAX, u64::MAX);
     let mut notes = FromWriter::new(Vec::new(alloc));
-    let totals = extract(alloc, &mounted, false, &mut folder, &mut notes).map_err(
-        |_| "not extracted",
-    )?;
+    let totals = extract(alloc, &mounted, false, &mut folder, &mut notes)?;
     Ok((folder.lines, totals))
 }
 

@@ -46,15 +46,13 @@ fn extracted(
     alloc: Global,
     path: &[u8],
     owners: bool,
-) -> Result<(String, (u64, u64), Vec<u8>), &'static str> {
+) -> Result<(String, (u64, u64), Vec<u8>), Fail> {
     let image = image_of(alloc, TREE)?;
-    let mounted = mount::<LittleEndian>(alloc, &image, LARGE).map_err(|_| "no mount")?;
-    let part = part_at(alloc, &mounted, path).map_err(|_| "no part")?;
+    let mounted = mount::<LittleEndian>(alloc, &image, LARGE)?;
+    let part = part_at(alloc, &mounted, path)?;
     let mut folder = Recorder::new(alloc, u64::MAX, u64::MAX);
     let mut notes = FromWriter::new(Vec::new(alloc));
-    let totals = extract_part(alloc, &mounted, &part, owners, &mut folder, &mut notes).map_err(
-        |_| "not extracted",
-    )?;
+    let totals = extract_part(alloc, &mounted, &part, owners, &mut folder, &mut notes)?;
     let counted = (totals.left_out, totals.lost_bits);
     Ok((folder.lines, counted, notes.into_writer()))
 }
@@ -206,9 +204,7 @@ fn faults() -> &'static [(&'static [u8], u8)] {
 #[test]
 fn paths_without_a_part(rt: HostRuntime) -> Result<(), Fail> {
     let image = image_of(rt.alloc(), TREE)?;
-    let Ok(mounted) = mount::<LittleEndian>(rt.alloc(), &image, LARGE) else {
-        return Err(Fail::from("no mount"));
-    };
+    let mounted = mount::<LittleEndian>(rt.alloc(), &image, LARGE)?;
     for &(path, wanted) in faults() {
         equal(&rt, fault_of(part_at(rt.alloc(), &mounted, path)), wanted);
     }

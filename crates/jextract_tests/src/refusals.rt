@@ -161,7 +161,7 @@ fn is_told(rt: &impl Abort, alloc: Global, mounted: &Mounted<'_>, row: &Row) -> 
 #[test]
 fn a_refusal_at_each_call(rt: HostRuntime) -> Result<(), Fail> {
     let image = image_of(rt.alloc(), PLAIN)?;
-    let mounted = mount::<LittleEndian>(rt.alloc(), &image, LARGE).map_err(|_| "no mount")?;
+    let mounted = mount::<LittleEndian>(rt.alloc(), &image, LARGE)?;
     for row in rows() {
         is_told(&rt, rt.alloc(), &mounted, row)?;
     }
@@ -176,7 +176,8 @@ fn ends(rt: &impl Abort, alloc: Global, mounted: &Mounted<'_>, calls: u64) {
     let answer = extract(alloc, mounted, false, &mut folder, &mut notes);
     equal(rt, answer, Err(ExtractFault::NoSpace));
     equal(rt, (folder.failures, folder.full), (0, 1));
-    equal(rt, folder.lines.split('\n').count(), calls as usize + 1);
+    let lines = folder.lines.split('\n').count();
+    equal(rt, lines as u64, calls.saturating_add(1));
     // The last call comes after the name that leads nowhere.
     let told = if calls < 8 {
         ""
@@ -190,7 +191,7 @@ fn ends(rt: &impl Abort, alloc: Global, mounted: &Mounted<'_>, calls: u64) {
 #[test]
 fn no_space_at_each_call(rt: HostRuntime) -> Result<(), Fail> {
     let image = image_of(rt.alloc(), PLAIN)?;
-    let mounted = mount::<LittleEndian>(rt.alloc(), &image, LARGE).map_err(|_| "no mount")?;
+    let mounted = mount::<LittleEndian>(rt.alloc(), &image, LARGE)?;
     for calls in 0..9 {
         ends(&rt, rt.alloc(), &mounted, calls);
     }
@@ -201,7 +202,7 @@ fn no_space_at_each_call(rt: HostRuntime) -> Result<(), Fail> {
 #[test]
 fn a_folder_that_is_refused(rt: HostRuntime) -> Result<(), Fail> {
     let image = image_of(rt.alloc(), PLAIN)?;
-    let mounted = mount::<LittleEndian>(rt.alloc(), &image, LARGE).map_err(|_| "no mount")?;
+    let mounted = mount::<LittleEndian>(rt.alloc(), &image, LARGE)?;
     let mut folder = Recorder::new(rt.alloc(), 0, u64::MAX);
     let mut notes = FromWriter::new(Vec::new(rt.alloc()));
     let answer = extract(rt.alloc(), &mounted, false, &mut folder, &mut notes);
@@ -268,7 +269,7 @@ fn a_file_that_fails(rt: HostRuntime) -> Result<(), Fail> {
         Node::Entry(1, 3, b"b"),
     ];
     let image = image_of(rt.alloc(), &nodes)?;
-    let mounted = mount::<LittleEndian>(rt.alloc(), &image, LARGE).map_err(|_| "no mount")?;
+    let mounted = mount::<LittleEndian>(rt.alloc(), &image, LARGE)?;
     for failure in failures() {
         fails(&rt, rt.alloc(), &mounted, failure);
     }
@@ -290,7 +291,7 @@ fn stops(rt: &impl Abort, alloc: Global, mounted: &Mounted<'_>, taken: &[u8], is
 fn notes_that_fail(rt: HostRuntime) -> Result<(), Fail> {
     let nodes = [Node::Inode(2, 0o010600, b""), Node::Entry(1, 2, b"p")];
     let image = image_of(rt.alloc(), &nodes)?;
-    let mounted = mount::<LittleEndian>(rt.alloc(), &image, LARGE).map_err(|_| "no mount")?;
+    let mounted = mount::<LittleEndian>(rt.alloc(), &image, LARGE)?;
     let told = b"left out /p: FIFO\n";
     for limit in 0..told.len() {
         stops(&rt, rt.alloc(), &mounted, &told[..limit], false);

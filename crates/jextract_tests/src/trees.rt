@@ -18,14 +18,12 @@ fn extracted(
     alloc: Global,
     nodes: &[Node<'_>],
     owners: bool,
-) -> Result<(String, (u64, u64), Vec<u8>), &'static str> {
+) -> Result<(String, (u64, u64), Vec<u8>), Fail> {
     let image = image_of(alloc, nodes)?;
-    let mounted = mount::<LittleEndian>(alloc, &image, LARGE).map_err(|_| "no mount")?;
+    let mounted = mount::<LittleEndian>(alloc, &image, LARGE)?;
     let mut folder = Recorder::new(alloc, u64::MAX, u64::MAX);
     let mut notes = FromWriter::new(Vec::new(alloc));
-    let totals = extract(alloc, &mounted, owners, &mut folder, &mut notes).map_err(
-        |_| "not extracted",
-    )?;
+    let totals = extract(alloc, &mounted, owners, &mut folder, &mut notes)?;
     let counted = (totals.left_out, totals.lost_bits);
     Ok((folder.lines, counted, notes.into_writer()))
 }

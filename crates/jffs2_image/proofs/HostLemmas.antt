@@ -1,6 +1,6 @@
 -- Who is to blame for a fault, and which files were read.
 use Rattle.std.proofs.Common.{◌≡◌, ℕ, Bool, true, false, ◌<◌, List, Option, Some, None, Result, Ok, Err, [], inl, inr, ◌≤◌, take, refl, sym, ap, subst, ◌∙◌, length, arith, take_all}
-use Rattle.std.specs.Prelude.{◌≢◌, ◌&&◌, if◌then◌else◌, IsTrue, option_map, slice_get, is_some, slice_index_or}
+use Rattle.std.specs.Prelude.{◌≢◌, ◌&&◌, if◌then◌else◌, IsOk, IsTrue, option_map, slice_get, is_some, slice_index_or}
 use Rattle.std.specs.Option.{option_map_or}
 use Rattle.std.specs.Result.{IsErrAnd}
 use Rattle.flashbase.specs.declared.source.LoadFault.TheVariants as load
@@ -23,7 +23,7 @@ use Rattle.jlog.specs.declared.fault.SessionFault.{SessionFault}
 use Rattle.jlog.specs.declared.fault.SessionFault.TheVariants as session
 use Rattle.jlog.specs.declared.report.Place.{Place}
 use Rattle.jbuild.specs.Length.{TellsLength}
-use Rattle.jbuild.proofs.LengthLemmas.{goes_on_flash, line_tells_length}
+use Rattle.jbuild.proofs.LengthLemmas.{line_tells_length}
 use Rattle.jbuild.specs.Accepted.{accepted_line}
 use Rattle.jbuild.specs.Emitting.{IsEmitted, IsNotEmitted, front_before, paged_flash}
 use Rattle.jbuild.specs.Operations.{op_in, ops_in}
@@ -228,11 +228,20 @@ all_read told lines n parts was all = λ name named.
     let is = was.each named.0 named.1 name (let below = named.2 in omega arith) named.3 named.4 in
     (is, got_of (told name) (read_of parts name) is (was.own name) (was.within name))
 
+-- an image that is gone on from fits its flash
+is_on_flash : (page : Page) (e : Endian) (size blocks : ℕ) (m : Mount) → IsOk (resumes_by page e size blocks m) → IsTrue (is_flash_of size blocks m.image)
+is_on_flash page e size blocks m ok = by m.read_only (is_flash_of size blocks m.image) (page_fits size page) ok
+  where
+    by : (b c d : Bool) → IsOk (if b then Err session.ReadOnly else (if c && d then Ok (resume_address e size blocks m.image) else Err session.Geometry)) → IsTrue c
+    by true c d is = cc
+    by false true d is = refl
+    by false false d is = cc
+
 -- the line tells the length of what went out for them
 tells_on_base : (held : Held) (page : Page) (e : Endian) (size blocks : ℕ) (base : List ℕ) (ops : List Op) (m : Mount) (accepted : ℕ) (places : List Place) → m.image ≡ base
     → IsMade held (image_form page e size blocks) m ops accepted places None → TellsLength (paged_flash page e size blocks) base ops accepted places
 tells_on_base held page e size blocks base ops m accepted places same made = subst (λ (image : List ℕ). TellsLength (paged_flash page e size blocks) image ops accepted places) same
-    (line_tells_length (paged_flash page e size blocks) m.image ops accepted places _ (goes_on_flash page e size blocks m made.put.resumes) made.put.emitted)
+    (line_tells_length (paged_flash page e size blocks) m.image ops accepted places _ (is_on_flash page e size blocks m made.put.resumes) made.put.emitted)
 
 -- so they are those of the operations that were run
 have_bytes : (told : List ℕ → Option (List ℕ)) (lines : List Line) (parts : HostFiles) → AreRead told lines parts → HaveBytes told lines (part_contents parts)

@@ -24,7 +24,7 @@ none_is_kept (Err OutOfMemory) rest limit name old new reads failed = reads
 
 pub one_is_kept : {T : Type 0} (r : Result T LoadFault) (rest : Option (List ℕ)) (limit : ℕ) (name : List ℕ) (old new : HostFiles) → ReadsPart rest limit name old new r
     → is_ok r ≡ true → IsSome (read_of new name)
-one_is_kept (Ok x) rest limit name old new reads done = rw (reads.3 name ∙ cond-true (bytes_eq name name) (Some reads.0) (read_of old name) ((bytes_eq-Decides name name).1 refl)) tt
+one_is_kept (Ok x) rest limit name old new reads done = rw (reads.3 name ∙ cond-true (bytes_eq name name) (Some reads.0) (read_of old name) ((bytes_eq-Decides name name).1 refl)) refl
 one_is_kept (Err Device) rest limit name old new reads done = cc
 one_is_kept (Err TooLarge) rest limit name old new reads done = cc
 one_is_kept (Err OutOfMemory) rest limit name old new reads done = cc

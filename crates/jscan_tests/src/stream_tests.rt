@@ -159,7 +159,7 @@ fn a_device_fails_once(rt: HostRuntime) -> Result<(), Fail> {
     for &(calls, blocks) in failing_calls() {
         fails_once(&rt, rt.alloc(), &image, calls, blocks)?;
         let answer = streamed(rt.alloc(), Giver::failing(&image, 2048, calls), SMALL);
-        let left = image.len().saturating_sub(2048 * calls);
+        let left = image.len().saturating_sub(calls.saturating_mul(2048));
         equal(&rt, answer, failed(blocks, left));
     }
     let whole = streamed(rt.alloc(), Giver::failing(&image, 2048, 4), SMALL);

@@ -251,8 +251,8 @@ returns-in_err-made-clause-files g c = λ known text read are.
     files_not_made known held a.target.page e a.target.options.geometry.block a.target.blocks a.target.output.now a.base.now text a.lines.items a.parts.now m _ _ c.in_err-made.field-0.0 _
     c.from_residual-in_err-made.ensures.1 image are read c.in_err-made.ensures.fault cut
 
-pub make_image-made-requires : goal.make_image-made-requires
-make_image-made-requires g c = c.in_ok-start.ensures.flash
+pub make_image-requires : goal.make_image-requires
+make_image-requires g c = c.in_ok-start.ensures.flash
 
 pub take-requires : goal.take-requires
 take-requires g c =
