@@ -18,4 +18,3 @@ pub mod PackLemmas
 mod FirstLemmas
 mod KeepingLemmas
 mod FinishLemmas
-mod SameLemmas

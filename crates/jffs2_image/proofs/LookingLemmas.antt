@@ -1,6 +1,6 @@
 -- What the commands come to that read the file of an image as a source. A fault of the source has no name, and that of the command has the file's.
 use Rattle.std.proofs.Common.{◌≡◌, ◌∙◌, ℕ, Bool, false, List, Option, Some, None, Result, Ok, Err, inl, inr, refl, sym, ap, subst}
-use Rattle.std.specs.Prelude.{◌⊎◌, ◌↔◌, ◌<◌, length, IfSome, IsErrAnd, IsErrOf, IsFalse}
+use Rattle.std.specs.Prelude.{◌⊎◌, ◌↔◌, ◌<◌, length, option_map, IfSome, IsErrAnd, IsErrOf, IsFalse}
 use Rattle.flashbase.specs.Device.{next_count}
 use Rattle.flashbase.specs.Sinks.{SinkChange}
 use Rattle.flashbase.specs.declared.source.LoadFault.TheVariants as load
@@ -9,12 +9,15 @@ use Rattle.jscan.specs.Image.{greatest_image, is_block_size}
 use Rattle.jscan.specs.declared.geometry.ScanFault.TheVariants as scan
 use Rattle.jcommand.specs.Parsed.{ScanParsed, CheckParsed, ListParsed, CatParsed}
 use Rattle.jcommand.specs.declared.parsed.Options.{Options}
-use Rattle.jreport.specs.Paths.{path_of}
+use Rattle.jreport.specs.Paths.{IsWordFault, path_of}
 use Rattle.jreport.specs.Stream.{HandsBack, PutsStream}
 use Rattle.jreport.specs.WholeImage.{OfSomeImage, PutsCheck, PutsFile, PutsListing, ReadsWhole, list_request}
 use Rattle.jreport.specs.declared.faults.ProgramFault.{ProgramFault}
 use Rattle.jreport.specs.declared.faults.ProgramFault.TheVariants as program
 use Rattle.jffs2_image.specs.Host.{AreOf, GivesFile, ReadsFile}
+use Rattle.jmount.specs.declared.fault.FindFault.TheVariants as find
+use Rattle.jreport.specs.declared.reason.Unopened.{Unopened}
+use Rattle.jffs2_image.specs.Looking.{IsPartRefused, part_named}
 use Rattle.jffs2_image.specs.Runs.{IsNotRead, IsUnopened, Meets, NamesUnread, PutsJudged, found_answer}
 use Rattle.jffs2_image.specs.Writes.{Held, IsTooLong}
 use Rattle.jffs2_image.proofs.DecompressingLemmas.{one_fault}
@@ -212,3 +215,55 @@ cat_meets told held e options name word path rest d sink answer result plain is 
       put = inl (puts.0, given (told name) rest puts.0 gives puts.1, (path, is, (answer, named, puts.2)));
     } in
     subst (λ (b : Bool). Meets told held e (CatParsed options b name word) sink result) (sym plain) meets
+
+-- ---- the part of a tree that a word names
+
+-- a word names a part by its path
+pub word_path : (word : List ℕ) (part : Option (List ℕ)) → part_named (Some word) ≡ Some part → (path : List ℕ) × (path_of word ≡ Some path) × (Some path ≡ part)
+word_path word part is = by (path_of word) refl
+  where
+    by : (found : Option (List ℕ)) → path_of word ≡ found → (path : List ℕ) × (path_of word ≡ Some path) × (Some path ≡ part)
+    by None at = let no : None ≡ Some part = subst (λ (f : Option (List ℕ)). option_map (λ path. Some path) f ≡ Some part) at is in cc
+    by (Some path) at = let yes : Some (Some path) ≡ Some part = subst (λ (f : Option (List ℕ)). option_map (λ path. Some path) f ≡ Some part) at is in (path, at, cc)
+
+-- without a word it is the tree
+pub no_word : (part : Option (List ℕ)) → part_named None ≡ Some part → None ≡ part
+no_word part is = cc
+
+-- the word can't be read
+pub word_refused : (told : List ℕ → Option (List ℕ)) (held : Held) (e : Endian) (options : Options) (d : Bool) (name : List ℕ) (word : Option (List ℕ)) (sink : SinkChange) (f : ProgramFault) (r : Result ℕ ProgramFault)
+    → IsPartRefused word f → IsErrAnd r (λ x. x ≡ f) → sink.new ≡ sink.old → sink.now ≡ sink.before → Meets told held e (ListParsed options d name word) sink r
+word_refused told held e options d name None sink f r is same new now = absurd is
+word_refused told held e options d name (Some word) sink f (Ok n) is same new now = absurd same
+word_refused told held e options d name (Some word) sink f (Err x) is same new now =
+    subst (λ (y : ProgramFault). Meets told held e (ListParsed options d name (Some word)) sink (Err y)) (sym same) (by f is)
+  where
+    by : (y : ProgramFault) → IsWordFault (path_of word) y → Meets told held e (ListParsed options d name (Some word)) sink (Err y)
+    by (program.Path find.BadPath) is = record { block_size = λ wrong. cc; told_of = λ wrong. tt; put = inr (program.Path find.BadPath, refl, is, new, now) }
+    by program.OutOfMemory is = record { block_size = λ wrong. cc; told_of = λ wrong. tt; put = inr (program.OutOfMemory, refl, tt, new, now) }
+    by y is = absurd is
+
+-- its file can't be opened
+pub tree_unopened : (told : List ℕ → Option (List ℕ)) (held : Held) (e : Endian) (options : Options) (name : List ℕ) (word part : Option (List ℕ)) (sink : SinkChange) (file : Unopened)
+    → part_named word ≡ Some part → file.name.now ≡ name → sink.new ≡ sink.old → sink.now ≡ sink.before → Meets told held e (ListParsed options false name word) sink (Err (program.File file))
+tree_unopened told held e options name None part sink file is named new now =
+    record { block_size = λ wrong. cc; told_of = λ wrong. tt; put = inr (program.File file, refl, named, new, now) }
+tree_unopened told held e options name (Some word) part sink file is named new now =
+    let at = word_path word part is in
+    record {
+      block_size = λ wrong. cc;
+      told_of = λ wrong. tt;
+      put = inr (program.File file, refl, (named, rw at.1 refl), new, now);
+    }
+
+pub tree_meets : (told : List ℕ → Option (List ℕ)) (held : Held) (e : Endian) (options : Options) (name : List ℕ) (word part rest : Option (List ℕ)) (sink : SinkChange) (answer result : Result ℕ ProgramFault)
+    → part_named word ≡ Some part → GivesFile (told name) rest → NamesUnread name answer result
+    → OfSomeImage rest (λ image. PutsListing (list_request e options.geometry.block part) image sink answer)
+    → Meets told held e (ListParsed options false name word) sink result
+tree_meets told held e options name None part rest sink answer result is gives named puts =
+    list_meets told held e options name rest false sink answer result refl gives named
+    (subst (λ (p : Option (List ℕ)). OfSomeImage rest (λ image. PutsListing (list_request e options.geometry.block p) image sink answer)) (sym (no_word part is)) puts)
+tree_meets told held e options name (Some word) part rest sink answer result is gives named puts =
+    let at = word_path word part is in
+    part_meets told held e options name word at.0 rest false sink answer result refl at.1 gives named
+    (subst (λ (p : Option (List ℕ)). OfSomeImage rest (λ image. PutsListing (list_request e options.geometry.block p) image sink answer)) (sym at.2) puts)

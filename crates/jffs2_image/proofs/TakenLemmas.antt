@@ -15,11 +15,13 @@ use Rattle.jreport.specs.declared.faults.ProgramFault.{ProgramFault}
 use Rattle.jreport.specs.declared.findings.Found.{Found}
 use Rattle.jffs2_image.specs.Decompressing.{IsNotConverted, IsTaken}
 use Rattle.jffs2_image.specs.Host.{AreLoaded, Blames, IsRefusedBefore, ReadsFile}
+use Rattle.jffs2_image.specs.Looking.{part_named}
 use Rattle.jffs2_image.specs.Runs.{Meets, RunsListed}
 use Rattle.jffs2_image.specs.Writes.{GivesText, Held, IsBehind, IsNotedIn, IsUnreadFile, image_form}
 use Rattle.jffs2_image.specs.declared.decompressing.Taken.{Taken}
 use Rattle.jffs2_image.proofs.DecompressingLemmas.{append_done, append_refused, append_unlisted, append_unread, cat_done, cat_refused, cat_unread, part_done, part_refused, part_unread, list_done, list_refused, list_unread, reads_fault}
 use Rattle.jffs2_image.proofs.HostLemmas.{file_blame, part_all, same_behind}
+use Rattle.jffs2_image.proofs.LookingLemmas.{no_word, word_path}
 use Rattle.jreport.proofs.SinkLemmas.{sink_change}
 
 -- ---- what the file that is made was given
@@ -88,6 +90,37 @@ pub part_failed : (told : List ℕ → Option (List ℕ)) (held : Held) (e : End
     → Meets told held e (ListParsed options true name (Some word)) (sink_change old new before now) (Err f)
 part_failed told held e options name word path present taken old new before now f path_is is same puts =
     part_done told held e options name word path is.0 present old new before now (Err f) path_is is.1 (made_of e options.geometry.block is.0 present taken is.2 same) puts
+
+-- ---- of a tree, or of the part that a word names
+
+pub tree_stopped : (X : Type 0) (told : List ℕ → Option (List ℕ)) (held : Held) (e : Endian) (options : Options) (name : List ℕ) (word part : Option (List ℕ)) (old : Option (List ℕ)) (n : ℕ) (f : ProgramFault)
+    → part_named word ≡ Some part → IsNotTaken e options.geometry.block name (told name) X f → Meets told held e (ListParsed options true name word) (sink_change old old n n) (Err f)
+tree_stopped X told held e options name None part old n f is not = list_stopped X told held e options name old n f not
+tree_stopped X told held e options name (Some word) part old n f is not = let at = word_path word part is in part_stopped X told held e options name word at.0 old n f at.1 not
+
+pub tree_taken : (told : List ℕ → Option (List ℕ)) (held : Held) (e : Endian) (options : Options) (name : List ℕ) (word part : Option (List ℕ)) (present : List ℕ) (taken : Taken) (old new : Option (List ℕ)) (before now n : ℕ)
+    → part_named word ≡ Some part → IsTakenOf e options.geometry.block (told name) taken → present ≡ taken.image.items
+    → PutsListing (list_request e options.geometry.block part) present (sink_change old new before now) (Ok n)
+    → Meets told held e (ListParsed options true name word) (sink_change old new before now) (Ok taken.found.noted)
+tree_taken told held e options name None part present taken old new before now n at is same puts =
+    list_taken told held e options name present taken old new before now n is same
+    (subst (λ (p : Option (List ℕ)). PutsListing (list_request e options.geometry.block p) present (sink_change old new before now) (Ok n)) (sym (no_word part at)) puts)
+tree_taken told held e options name (Some word) part present taken old new before now n at is same puts =
+    let path = word_path word part at in
+    part_taken told held e options name word path.0 present taken old new before now n path.1 is same
+    (subst (λ (p : Option (List ℕ)). PutsListing (list_request e options.geometry.block p) present (sink_change old new before now) (Ok n)) (sym path.2) puts)
+
+pub tree_failed : (told : List ℕ → Option (List ℕ)) (held : Held) (e : Endian) (options : Options) (name : List ℕ) (word part : Option (List ℕ)) (present : List ℕ) (taken : Taken) (old new : Option (List ℕ)) (before now : ℕ) (f : ProgramFault)
+    → part_named word ≡ Some part → IsTakenOf e options.geometry.block (told name) taken → present ≡ taken.image.items
+    → PutsListing (list_request e options.geometry.block part) present (sink_change old new before now) (Err f)
+    → Meets told held e (ListParsed options true name word) (sink_change old new before now) (Err f)
+tree_failed told held e options name None part present taken old new before now f at is same puts =
+    list_failed told held e options name present taken old new before now f is same
+    (subst (λ (p : Option (List ℕ)). PutsListing (list_request e options.geometry.block p) present (sink_change old new before now) (Err f)) (sym (no_word part at)) puts)
+tree_failed told held e options name (Some word) part present taken old new before now f at is same puts =
+    let path = word_path word part at in
+    part_failed told held e options name word path.0 present taken old new before now f path.1 is same
+    (subst (λ (p : Option (List ℕ)). PutsListing (list_request e options.geometry.block p) present (sink_change old new before now) (Err f)) (sym path.2) puts)
 
 pub cat_stopped : (X : Type 0) (told : List ℕ → Option (List ℕ)) (held : Held) (e : Endian) (options : Options) (name word path : List ℕ) (old : Option (List ℕ)) (n : ℕ) (f : ProgramFault)
     → path_of word ≡ Some path → IsNotTaken e options.geometry.block name (told name) X f → Meets told held e (CatParsed options true name word) (sink_change old old n n) (Err f)

@@ -1,10 +1,11 @@
 //! The commands that look at an image alone: `check --scan`, `check`, `ls`, `cat`. Each opens the
 //! file, lets `jreport` do the work, and closes it.
 
-ghost use Rattle.std.specs.Prelude.{◌≡◌, true, IfErr, IfOk, None, Some, option_map};
+ghost use Rattle.std.specs.Prelude.{◌≡◌, ℕ, true, false, List, Option, IfErr, IfOk, None, Some, option_map};
 ghost use Rattle.flashbase.specs.Device.{CountsErr};
 ghost use Rattle.jcommand.specs.Parsed.{ScanParsed, CheckParsed, ListParsed, CatParsed};
 ghost use Rattle.jffs2_image.specs.Host.{GivesFile, ReadsFile};
+ghost use Rattle.jffs2_image.specs.Looking.{IsPartRefused, part_named};
 ghost use Rattle.jffs2_image.specs.Runs.{NamesUnread, Meets, found_answer};
 ghost use Rattle.flashbase.specs.Sinks.{change_of};
 
@@ -105,107 +106,85 @@ pub(crate) fn check<'a, E: Order, L: Loader, T: Sink>(
     named(found_number(answer), image, loader.reason())
 }
 
-/// `ls --decompress`: answers how many findings of the image that was read to note.
+/// The part of a tree that a word names, where one is given.
+fn part_word(alloc: Global, word: Option<&str>) -> Result<Option<Vec<u8>>, ProgramFault<'static>>
+    ensures ok { IfOk result (λ part. part_named (option_map (λ w. w.now) word.entry)
+        ≡ Some (option_map (λ p. p.items) part)) }
+    ensures fault { IfErr result (IsPartRefused (option_map (λ w. w.now) word.entry)) }
+{
+    let Some(word) = word else {
+        return Ok(None);
+    };
+    match path_word(alloc, word.as_bytes()) {
+        Ok(path) => Ok(Some(path)),
+        Err(fault) => Err(fault),
+    }
+}
+
+/// Its bytes.
+fn slice_of(part: &Option<Vec<u8>>) -> Option<&[u8]>
+    ensures { option_map (λ p. p.now) result ≡ option_map (λ p. p.items) part.now }
+{
+    match part {
+        Some(part) => Some(part.as_slice()),
+        None => None,
+    }
+}
+
+/// `ls --decompress` of a tree, or of a part of it: answers how many findings of the image that was
+/// read to note.
 fn list_decompressed<'a, E: Order, L: Loader, T: Sink>(
     alloc: Global,
     loader: &mut L,
     options: Options,
     image: &'a str,
+    part: Option<&[u8]>,
     sink: &mut T,
 ) -> Result<u64, ProgramFault<'a>>
-    ensures meets { Meets (L.told loader.old) (None, None) E.order
-        (ListParsed options true image.now None) (change_of T.Sink sink.old sink.new) result }
-    ensures host { ReadsFile (L.told loader.old image.now) (L.failures loader.old)
-        (L.failures loader.new) result }
-{
-    let taken = match take_file::<E, L>(alloc, loader, options.geometry, image) {
-        Ok(taken) => taken,
-        Err(fault) => return Err(fault),
-    };
-    match image_tree::<E, T>(alloc, taken.image.as_slice(), options.geometry, None, sink) {
-        Ok(_) => Ok(taken.found.noted),
-        Err(fault) => Err(fault),
-    }
-}
-
-/// `ls` of the whole tree: answers how many findings to note.
-fn list_whole<'a, E: Order, L: Loader, T: Sink>(
-    alloc: Global,
-    loader: &mut L,
-    options: Options,
-    decompress: bool,
-    image: &'a str,
-    sink: &mut T,
-) -> Result<u64, ProgramFault<'a>>
-    ensures meets { Meets (L.told loader.old) (None, None) E.order
-        (ListParsed options decompress image.now None) (change_of T.Sink sink.old sink.new) result }
-    ensures host { ReadsFile (L.told loader.old image.now) (L.failures loader.old)
-        (L.failures loader.new) result }
-{
-    if decompress {
-        return list_decompressed::<E, L, T>(alloc, loader, options, image, sink);
-    }
-    let mut source = open(loader, image)?;
-    let answer = put_list::<E, _, _>(alloc, &mut source, options.geometry, None, sink);
-    loader.close(source);
-    named(answer, image, loader.reason())
-}
-
-/// `ls --decompress` of a path, whose word is judged before the image is opened.
-fn part_decompressed<'a, E: Order, L: Loader, T: Sink>(
-    alloc: Global,
-    loader: &mut L,
-    options: Options,
-    image: &'a str,
-    path: &str,
-    sink: &mut T,
-) -> Result<u64, ProgramFault<'a>>
-    ensures meets { Meets (L.told loader.old) (None, None) E.order
-        (ListParsed options true image.now (Some path.now)) (change_of T.Sink sink.old sink.new)
-        result }
-    ensures host { ReadsFile (L.told loader.old image.now) (L.failures loader.old)
-        (L.failures loader.new) result }
-{
-    let path = path_word(alloc, path.as_bytes())?;
-    let taken = match take_file::<E, L>(alloc, loader, options.geometry, image) {
-        Ok(taken) => taken,
-        Err(fault) => return Err(fault),
-    };
-    let bytes = taken.image.as_slice();
-    match image_tree::<E, T>(alloc, bytes, options.geometry, Some(path.as_slice()), sink) {
-        Ok(_) => Ok(taken.found.noted),
-        Err(fault) => Err(fault),
-    }
-}
-
-/// `ls` of a path, whose word is judged before the image is opened.
-fn list_part<'a, E: Order, L: Loader, T: Sink>(
-    alloc: Global,
-    loader: &mut L,
-    options: Options,
-    decompress: bool,
-    image: &'a str,
-    path: &str,
-    sink: &mut T,
-) -> Result<u64, ProgramFault<'a>>
-    ensures meets { Meets (L.told loader.old) (None, None) E.order
-        (ListParsed options decompress image.now (Some path.now))
+    ensures meets { (word : Option (List ℕ))
+        → part_named word ≡ Some (option_map (λ p. p.now) part.entry)
+        → Meets (L.told loader.old) (None, None) E.order (ListParsed options true image.now word)
         (change_of T.Sink sink.old sink.new) result }
     ensures host { ReadsFile (L.told loader.old image.now) (L.failures loader.old)
         (L.failures loader.new) result }
 {
-    if decompress {
-        return part_decompressed::<E, L, T>(alloc, loader, options, image, path, sink);
+    let taken = match take_file::<E, L>(alloc, loader, options.geometry, image) {
+        Ok(taken) => taken,
+        Err(fault) => return Err(fault),
+    };
+    match image_tree::<E, T>(alloc, taken.image.as_slice(), options.geometry, part, sink) {
+        Ok(_) => Ok(taken.found.noted),
+        Err(fault) => Err(fault),
     }
-    let path = path_word(alloc, path.as_bytes())?;
-    let mut source = open(loader, image)?;
-    let part = Some(path.as_slice());
+}
+
+/// `ls` of a tree, or of a part of it, as the image is: answers how many findings to note.
+fn list_plain<'a, E: Order, L: Loader, T: Sink>(
+    alloc: Global,
+    loader: &mut L,
+    options: Options,
+    image: &'a str,
+    part: Option<&[u8]>,
+    sink: &mut T,
+) -> Result<u64, ProgramFault<'a>>
+    ensures meets { (word : Option (List ℕ))
+        → part_named word ≡ Some (option_map (λ p. p.now) part.entry)
+        → Meets (L.told loader.old) (None, None) E.order (ListParsed options false image.now word)
+        (change_of T.Sink sink.old sink.new) result }
+    ensures host { ReadsFile (L.told loader.old image.now) (L.failures loader.old)
+        (L.failures loader.new) result }
+{
+    let mut source = match open(loader, image) {
+        Ok(source) => source,
+        Err(file) => return Err(ProgramFault::File(file)),
+    };
     let answer = put_list::<E, _, _>(alloc, &mut source, options.geometry, part, sink);
     loader.close(source);
     named(answer, image, loader.reason())
 }
 
-/// `ls`: answers how many findings to note.
+/// `ls`: answers how many findings to note. The word of a path is judged before the image is
+/// opened.
 pub(crate) fn list<'a, E: Order, L: Loader, T: Sink>(
     alloc: Global,
     loader: &mut L,
@@ -221,11 +200,15 @@ pub(crate) fn list<'a, E: Order, L: Loader, T: Sink>(
     ensures host { ReadsFile (L.told loader.old image.now) (L.failures loader.old)
         (L.failures loader.new) result }
 {
-    match path {
-        Some(path) => {
-            list_part::<E, L, T>(alloc, loader, options, decompress, image, path, sink)
-        }
-        None => list_whole::<E, L, T>(alloc, loader, options, decompress, image, sink),
+    let word = match part_word(alloc, path) {
+        Ok(word) => word,
+        Err(fault) => return Err(fault),
+    };
+    let part = slice_of(&word);
+    if decompress {
+        list_decompressed::<E, L, T>(alloc, loader, options, image, part, sink)
+    } else {
+        list_plain::<E, L, T>(alloc, loader, options, image, part, sink)
     }
 }
 

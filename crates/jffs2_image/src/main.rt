@@ -1,8 +1,9 @@
 //! Reads and writes flash images of JFFS2: the program `jffs2_image`.
 //!
-//! `jcommand` reads the command line, `program` runs it, `looking` opens images and lets `jreport`
-//! do the work over them, and `writing` makes images by `jbuild`. `main` hands over the process's
-//! arguments and streams.
+//! `jcommand` reads the command line, and `tasks` runs what it asks for, in the byte order that it
+//! names: each command opens its files, puts what it has to, and reports how that ended. `looking`
+//! lets `jreport` do the work over images, and `writing` makes images by `jbuild`. `main` hands over
+//! the process's arguments and streams.
 #![tactic(auto)]
 
 ghost use Rattle.std.specs.Prelude.{◌≡◌, IfOk, map, string_bytes};

@@ -385,9 +385,9 @@ pub fn note<E: Sink>(findings: u64, errors: &mut E) -> Outcome
     Outcome::Done
 }
 
-/// Tells what a command line was answered, and how that ends. A fault is told in one line, which a
+/// Reports what a command line was answered, and how that ends. A fault is told in one line, which a
 /// note may follow; `ls` and `cat` note what they passed over.
-fn tell<N: Sink>(answer: Result<Success, Stop<'_>>, errors: &mut N) -> Outcome
+fn report_answer<N: Sink>(answer: Result<Success, Stop<'_>>, errors: &mut N) -> Outcome
     ensures ends { result ≡ outcome_after answer.entry }
     ensures said { Says (errors.new ≡ errors.old) (N.taken errors.old) (N.taken errors.new)
         (N.failures errors.old) (N.failures errors.new) (said_after answer.entry) }
@@ -422,10 +422,10 @@ pub(crate) fn run_image<E: Order, L: Loader, M: Maker, T: Output, N: Sink>(
 {
     let mut texts = Texts::new(alloc);
     let answer = answer_request::<E, L, M, T>(alloc, loader, maker, request, &mut texts, output);
-    tell(answer, errors)
+    report_answer(answer, errors)
 }
 
-/// Tells why words make no task, or the help that they ask for.
+/// Reports why words make no task, or puts the help that they ask for.
 fn run_refused<T: Output, N: Sink>(fault: RequestFault, output: &mut T, errors: &mut N) -> Outcome
     ensures { (told : List ℕ → Option (List ℕ)) → (held : Held)
         → RunsCommand (output.new ≡ output.old) told held (Err fault)
@@ -434,7 +434,7 @@ fn run_refused<T: Output, N: Sink>(fault: RequestFault, output: &mut T, errors: 
         (N.failures errors.old) (N.failures errors.new)) result }
 {
     let answer = answer_refusal(fault, output);
-    tell(answer, errors)
+    report_answer(answer, errors)
 }
 
 /// Runs the program on its arguments, of which the first is its own name.

@@ -1,6 +1,5 @@
-use Rattle.std.proofs.Common.{◌≡◌, Bool, Result, Ok, Err, sym, subst}
-use Rattle.std.specs.Prelude.{IfErr, IfOk, true, false}
-use Rattle.std.proofs.Common.{List, ℕ}
+use Rattle.std.proofs.Common.{ℕ, Bool, true, List, Option, Result, Ok, ◌≡◌, sym, subst}
+use Rattle.std.specs.Prelude.{IfErr, IfOk}
 use Rattle.flashbase.specs.Device.{Puts}
 use Rattle.flashbase.specs.Sinks.{SinkChange}
 use Rattle.jinfo.specs.Containers.{container_of}
@@ -8,31 +7,22 @@ use Rattle.jinfo.specs.Infos.{order_of}
 use Rattle.jinfo.specs.InfoText.{info_text}
 use Rattle.jreport.specs.declared.faults.ProgramFault.{ProgramFault}
 use Rattle.jreport.specs.declared.faults.ProgramFault.TheVariants as program
-use Rattle.std.proofs.Common.{Option}
 use Rattle.jffs2_image.specs.InfoRuns.{InformsOf}
 use Rattle.jffs2_image.specs.Runs.{Finishes, answer_finished}
 use Rattle.jffs2_image.specs.declared.info.Informed.{Informed}
 use Rattle.jffs2_image.proofs.FinishLemmas.{text_failed, text_out, text_part}
 use Rattle.jffs2_image.proofs.info.inform.Goals as goal
 
--- what was put is told of the image, also where it is finished
+-- what was put is told of the image, also where the output is finished
 informs : (image : List ℕ) (output : SinkChange) (taken : Option (List ℕ)) (count : ℕ) (answer : Result Informed ProgramFault) (all : Bool)
     → IfOk answer (λ found. found.order ≡ order_of image) → IfOk answer (λ found. found.container ≡ container_of image) → IfErr answer (λ fault. fault ≡ program.Output)
     → Puts output.old taken output.before count (info_text image) answer → Finishes taken output.new count output.now all → InformsOf image output (answer_finished answer all)
 informs image output taken count (Ok found) true order container fault puts ends =
     let out = text_out _ output.old taken output.new output.before count output.now (info_text image) (Ok found) true puts ends in
     (order, container, out.0, out.1)
-informs image output taken count (Ok found) false order container fault puts ends =
-    let part = text_part _ output.old taken output.new output.before count output.now (info_text image) (Ok found) false puts ends in
-    let failed = text_failed _ output.old taken output.new output.before count output.now (info_text image) (Ok found) false puts fault ends in
-    (failed.0, part, failed.1)
-informs image output taken count (Err f) true order container fault puts ends =
-    let part = text_part Informed output.old taken output.new output.before count output.now (info_text image) (Err f) true puts ends in
-    let failed = text_failed Informed output.old taken output.new output.before count output.now (info_text image) (Err f) true puts fault ends in
-    (failed.0, part, failed.1)
-informs image output taken count (Err f) false order container fault puts ends =
-    let part = text_part Informed output.old taken output.new output.before count output.now (info_text image) (Err f) false puts ends in
-    let failed = text_failed Informed output.old taken output.new output.before count output.now (info_text image) (Err f) false puts fault ends in
+informs image output taken count answer all order container fault puts ends =
+    let part = text_part Informed output.old taken output.new output.before count output.now (info_text image) answer all puts ends in
+    let failed = text_failed Informed output.old taken output.new output.before count output.now (info_text image) answer all puts fault ends in
     (failed.0, part, failed.1)
 
 pub returns : goal.returns

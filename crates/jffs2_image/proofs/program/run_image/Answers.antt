@@ -5,8 +5,8 @@ returns g c = (
   record {
     answer = c.answer_request-answer.result;
     meets = c.answer_request-answer.ensures.meets;
-    ends = c.tell.ensures.ends;
-    said = c.tell.ensures.said;
+    ends = c.report_answer.ensures.ends;
+    said = c.report_answer.ensures.said;
   },
   c.answer_request-answer.ensures.host,
 )

@@ -4,6 +4,6 @@ pub returns : goal.returns
 returns g c = λ told held. record {
   answer = c.answer_refusal-answer.result;
   meets = c.answer_refusal-answer.ensures told held;
-  ends = c.tell.ensures.ends;
-  said = c.tell.ensures.said;
+  ends = c.report_answer.ensures.ends;
+  said = c.report_answer.ensures.said;
 }
