@@ -41,7 +41,7 @@ fn run_onto(alloc: Global, sink: Taker) -> Result<(RunReport, Taker), Fail> {
     let ops = ops_of(alloc, &CUT_LINES, BY)?;
     let mounted = mount::<LittleEndian>(alloc, &[], GEOMETRY)?;
     let session = Log::resume(alloc, &mounted, GEOMETRY, 1, sink)?;
-    run_in(alloc, session, &ops).ok_or(Fail::from("not broken"))
+    Ok(run_in(alloc, session, &ops).ok_or("not broken")?)
 }
 
 /// Whether so many operations are accepted, and the nodes that have a place are the first ones.
