@@ -11,7 +11,7 @@ use flashbase::{FromReader, FromWriter, Sink, Source};
 use jline::put_escaped;
 use jmount::{FindFault, MountFault, mount};
 use jreport::{
-    Found, ProgramFault, put_check, content, file_bytes, found_in, image_file, image_tree,
+    Found, ProgramFault, content, file_bytes, found_in, image_file, image_tree, put_check,
     put_list, put_note,
 };
 use jscan::{GREATEST_IMAGE, Geometry};
