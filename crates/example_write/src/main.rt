@@ -6,7 +6,7 @@
 #![tactic(auto)]
 
 use anyhow::{Context, Result};
-use jffs2::{FromWriter, Geometry, LittleEndian, Parts, Session, listing, mount, operations};
+use jffs2::{FromWriter, Geometry, HostFiles, LittleEndian, Session, listing, mount, operations};
 use std::alloc::Global;
 
 const GEOMETRY: Geometry = Geometry { block: 8192 };
@@ -17,7 +17,7 @@ const LISTING: &[u8] =
 
 /// The bytes of an image of one block with these files.
 fn build(alloc: Global) -> Result<Vec<u8>> {
-    let parts = Parts::new(alloc);
+    let parts = HostFiles::new(alloc);
     let ops = operations::<LittleEndian>(alloc, listing(alloc, LISTING)?, &parts)?;
     let empty = mount::<LittleEndian>(alloc, &[], GEOMETRY)?;
     let sink = FromWriter::new(Vec::new(alloc));
