@@ -165,39 +165,30 @@ fn files_are_found_in_turn_and_out_of_turn(rt: HostRuntime) -> Result<(), Fail> 
 const DEVICES: &[u8] = b"device c 0600 4 1 /c\ndevice b 0640 259 65537 /b\n";
 
 /// A device's kind, and the bytes of its number.
-type Device = (DeviceKind, &'static [u8]);
-
 /// Whether the operations of these lines make devices of these kinds and numbers.
-fn has_numbers<E: Order>(alloc: Global, wanted: &[Device]) -> Result<bool, Fail> {
+fn has_numbers<E: Order>(alloc: Global, wanted: [(DeviceKind, &[u8]); 2]) -> Result<bool, Fail> {
     let parts = HostFiles::new(alloc);
     let ops = operations::<E>(alloc, listing(alloc, DEVICES)?, &parts)?;
-    let mut same = ops.len() == wanted.len();
+    let mut same = ops.len() == 2;
     for (op, (kind, bytes)) in ops.iter().zip(wanted) {
         same = same
             && matches!(op, Op::Device { kind: found, number, .. }
-                if *found == *kind && number.as_slice() == *bytes);
+                if *found == kind && number.as_slice() == bytes);
     }
     Ok(same)
 }
 
-fn little_devices() -> &'static [Device] {
-    &[
-        (DeviceKind::Character, &[1, 4]),
-        (DeviceKind::Block, &[1, 3, 1, 16]),
-    ]
-}
-
-fn big_devices() -> &'static [Device] {
-    &[
-        (DeviceKind::Character, &[4, 1]),
-        (DeviceKind::Block, &[16, 1, 3, 1]),
-    ]
-}
-
 #[test]
 fn devices_have_numbers_in_the_order_of_an_image(rt: HostRuntime) -> Result<(), Fail> {
-    let little = has_numbers::<LittleEndian>(rt.alloc(), little_devices())?;
-    let big = has_numbers::<BigEndian>(rt.alloc(), big_devices())?;
-    expect(&rt, little && big);
+    let little: [(DeviceKind, &[u8]); 2] = [
+        (DeviceKind::Character, &[1, 4]),
+        (DeviceKind::Block, &[1, 3, 1, 16]),
+    ];
+    let big: [(DeviceKind, &[u8]); 2] = [
+        (DeviceKind::Character, &[4, 1]),
+        (DeviceKind::Block, &[16, 1, 3, 1]),
+    ];
+    expect(&rt, has_numbers::<LittleEndian>(rt.alloc(), little)?);
+    expect(&rt, has_numbers::<BigEndian>(rt.alloc(), big)?);
     Ok(())
 }

@@ -1,5 +1,8 @@
 //! A growth that is refused is told as such, and what stands after it.
 
+ghost use Rattle.jnode.specs.declared.order.Endian.TheVariants.{Little};
+ghost use Rattle.jmount.specs.Mounts.{IsMountOf};
+
 use crate::checks::expect;
 use crate::sessions::BY;
 use byteorder::LittleEndian;
@@ -92,7 +95,9 @@ fn log_on<'a, 'b>(
     mounted: &Mounted<'a>,
     sink: Matcher<'b>,
     is_begun: bool,
-) -> Result<Log<'a, 'b>, Matcher<'b>> {
+) -> Result<Log<'a, 'b>, Matcher<'b>>
+    requires { IsMountOf Little 8192 mounted.now }
+{
     if is_begun {
         let Ok(start) = Start::<LittleEndian>::of(mounted, FLASH) else {
             return Err(sink);
