@@ -29,5 +29,5 @@ pub use crate::laws::{
     newest_of_one_more, pad4_is_least,
 };
 pub use crate::part::{Part, PartBytes};
-pub use crate::sink::{FromWriter, PutFault, Sink, put_all, write_once};
+pub use crate::sink::{FromWriter, PutFault, Sink, put_all};
 pub use crate::source::{DeviceFault, FromReader, LoadFault, Source, load};

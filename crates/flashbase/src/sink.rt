@@ -25,7 +25,7 @@ pub trait Sink: Drop {
 
 /// Writes bytes by one call, and counts a failure: an error, also one that only interrupts, or
 /// nothing taken of a nonempty slice.
-pub fn write_once<W: Write>(
+fn write_once<W: Write>(
     writer: &mut W,
     failures: &mut u64,
     bytes: &[u8],

@@ -1,7 +1,9 @@
 //! Puts into sinks that take a little at a time, and fail.
 
+ghost use Rattle.flashbase.specs.Device.{CountsErr};
+
 use crate::checks::{equal, expect};
-use flashbase::{FromWriter, PutFault, Sink, put_all, write_once};
+use flashbase::{DeviceFault, FromWriter, PutFault, Sink, put_all};
 use std::io;
 use std::io::{ErrorKind, Write};
 use test_support::Taker;
@@ -65,18 +67,25 @@ fn a_put_meets_each_failure(rt: HostRuntime) {
     }
 }
 
+/// One call of the writer: its failure is counted, and nothing else is.
+fn put_once<W: Write + Drop>(sink: &mut FromWriter<W>, bytes: &[u8]) -> Result<(), DeviceFault>
+    ensures { CountsErr (⟦<FromWriter<W> as Sink>⟧.failures sink.old)
+        (⟦<FromWriter<W> as Sink>⟧.failures sink.new) result }
+{
+    match sink.put(bytes) {
+        Ok(n) if n == 0 && !bytes.is_empty() => Err(DeviceFault),
+        Ok(_) => Ok(()),
+        Err(fault) => Err(fault),
+    }
+}
+
 #[test]
-fn a_write_counts_what_fails(rt: HostRuntime) {
-    let mut failures = 0;
-    let mut bytes = Vec::new(rt.alloc());
-    equal(&rt, write_once(&mut bytes, &mut failures, b"xy"), Ok(2));
-    expect(&rt, bytes.as_slice() == b"xy".as_slice());
-    equal(&rt, failures, 0);
-    expect(
-        &rt,
-        write_once(&mut Interrupted, &mut failures, b"xy").is_err(),
-    );
-    equal(&rt, failures, 1);
+fn a_put_counts_what_fails(rt: HostRuntime) {
+    let mut sink = FromWriter::new(Vec::new(rt.alloc()));
+    equal(&rt, put_once(&mut sink, b"xy"), Ok(()));
+    expect(&rt, sink.into_writer().as_slice() == b"xy".as_slice());
+    let mut interrupted = FromWriter::new(Interrupted);
+    equal(&rt, put_once(&mut interrupted, b"xy"), Err(DeviceFault));
 }
 
 #[test]
