@@ -8,9 +8,6 @@ use jmount::{Kind, Mounted};
 use std::alloc::{AllocError, Global};
 use std::collections::BTreeMap;
 
-/// The root's number.
-pub(crate) const ROOT: u32 = 1;
-
 /// A name: its directory's number, its bytes, and the number that it stands for.
 pub(crate) type Name<'m> = (u32, &'m [u8], u32);
 

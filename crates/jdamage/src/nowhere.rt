@@ -6,8 +6,8 @@ ghost use Rattle.std.specs.Ordering.{nat_cmp};
 ghost use Rattle.jmount.specs.Tree as tree;
 ghost use Rattle.jdamage.specs.Ways.{AreFirsts, LeadNowhere};
 
-use crate::firsts::{Firsts, ROOT, first_name, is_directory};
-use jmount::Mounted;
+use crate::firsts::{Firsts, first_name, is_directory};
+use jmount::{Mounted, ROOT};
 use std::alloc::{AllocError, Global};
 use std::collections::BTreeSet;
 

@@ -11,10 +11,10 @@ ghost use Rattle.jdamage.specs.Telling.{HasListedNumber, PushesHurt, PushesPath,
 ghost use Rattle.jdamage.specs.Ways.{path_below, path_to_name, paths_to, root_paths};
 
 use crate::fields::{Loss, Stretch, loss_at, stretch_at};
-use crate::firsts::ROOT;
 use crate::lines::{push_hides, push_loss, push_missing, push_no_path, push_nothing, push_unknown};
 use crate::text::Text;
 use crate::ways::Ways;
+use jmount::ROOT;
 use jnode::{Damage, Order};
 use std::alloc::{AllocError, Global};
 use std::collections::BTreeSet;

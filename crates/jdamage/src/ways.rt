@@ -7,10 +7,10 @@ ghost use Rattle.jmount.specs.Tree as tree;
 ghost use Rattle.jdamage.specs.Groups.{group_of};
 ghost use Rattle.jdamage.specs.Ways.{AreFirsts, AreNamed, LeadNowhere, first_name, name_held, names_for, names_held, path_below, steps_at_most};
 
-use crate::firsts::{Firsts, Name, ROOT, first_name, firsts_of, is_directory};
+use crate::firsts::{Firsts, Name, first_name, firsts_of, is_directory};
 use crate::groups::{Groups, add, group};
 use crate::nowhere::nowhere_of;
-use jmount::Mounted;
+use jmount::{Mounted, ROOT};
 use std::alloc::{AllocError, Global};
 use std::collections::{BTreeMap, BTreeSet};
 

@@ -9,13 +9,11 @@ use crate::found::{directory_of, look};
 use crate::pair::Pair;
 use crate::spot::{Trees, put_changes};
 use flashbase::Sink;
-use jmount::Mounted;
+use jmount::{Mounted, ROOT};
 use jreport::ProgramFault;
 use std::alloc::Global;
 use std::collections::BTreeSet;
 use std::mem;
-
-const ROOT: u32 = 1;
 
 /// What came of a path: how many lines went out, and the directories whose names come next.
 #[derive(Clone, Copy)]

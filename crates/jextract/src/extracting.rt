@@ -21,13 +21,11 @@ use crate::notes::tell;
 use crate::parts::Part;
 use crate::totals::Totals;
 use flashbase::Sink;
-use jmount::{Kind, Mounted};
+use jmount::{Kind, Mounted, ROOT};
 use jname::Of;
 use std::alloc::Global;
 use std::collections::BTreeMap;
 use std::mem;
-
-pub(crate) const ROOT: u32 = 1;
 
 impl Totals {
     fn none() -> Totals

@@ -6,8 +6,8 @@ ghost use Rattle.jmount.specs.Tree as tree;
 ghost use Rattle.jextract.specs.Parts.{IsPartAt, keys_of, way_from};
 ghost use Rattle.jextract.specs.PartsOf.{IsPart, IsPartFault, IsWayTo, part_of, part_to};
 
-use crate::extracting::{ROOT, is_directory};
-use jmount::{FindFault, Mounted, after_slash};
+use crate::extracting::is_directory;
+use jmount::{FindFault, Mounted, ROOT, after_slash};
 use std::alloc::{AllocError, Global};
 use thiserror::Error;
 

@@ -32,7 +32,7 @@ mod versions;
 mod walk;
 
 pub use crate::fault::{FindFault, MountFault};
-pub use crate::mounted::Mounted;
+pub use crate::mounted::{Mounted, ROOT};
 pub use crate::mounting::{mount, mount_scanned};
 pub use crate::object::{Kind, Object};
 pub use crate::path::{after_slash, is_name};

@@ -23,7 +23,7 @@ use std::collections::BTreeMap;
 use std::marker::Model;
 
 /// The root's number.
-pub(crate) const ROOT: u32 = 1;
+pub const ROOT: u32 = 1;
 
 /// A mounted image: its bytes, and the file system that its nodes make.
 #[derive(Drop)]

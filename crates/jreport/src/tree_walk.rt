@@ -9,13 +9,11 @@ use crate::faults::ProgramFault;
 use crate::paths::names_of_path;
 use crate::tree::put_object;
 use flashbase::Sink;
-use jmount::{FindFault, Kind, Mounted};
+use jmount::{FindFault, Kind, Mounted, ROOT};
 use jname::Of;
 use std::alloc::Global;
 use std::collections::BTreeSet;
 use std::mem;
-
-const ROOT: u32 = 1;
 
 /// Puts the line of an object, if there is one. Answers whether it is a directory that is met for
 /// the first time.
