@@ -12,15 +12,12 @@ ghost use Rattle.jconvert.specs.Compressing.{packed_as, IsPackedForm};
 
 use flashbase::{Part, pad4};
 use jexpand::ConvertFault;
-use jnode::{CompressedNode, Fill, InodeNode, Order, WriteFault, write_compressed};
+use jnode::{CompressedNode, Fill, INODE_LEN, InodeNode, Order, WriteFault, write_compressed};
 use jpack::{Packer, compress};
 use std::alloc::Global;
 
 /// The number of ZLIB.
 const ZLIB: u8 = 6;
-
-/// The length of an inode node without its bytes.
-const INODE_LEN: u32 = 68;
 
 /// The most bytes that are packed at once.
 const LONGEST: usize = 0x8000;
@@ -59,7 +56,7 @@ fn is_shorter(packed: usize, plain: usize) -> bool
     requires plain { plain ≤ totlen_most }
     ensures { IsTrue result → pad4_of (inode_len + packed) < pad4_of (inode_len + plain) }
 {
-    pad4(INODE_LEN + packed as u32) < pad4(INODE_LEN + plain as u32)
+    pad4(INODE_LEN as u32 + packed as u32) < pad4(INODE_LEN as u32 + plain as u32)
 }
 
 /// Where nodes are packed.

@@ -15,18 +15,16 @@ use crate::fault::ConvertFault;
 use flashbase::Part;
 use jcompr::{DataFault, Method};
 use jnode::{
-    CompressedNode, Dirent, Fill, InodeNode, NodeRef, Order, Seen, compressed_fields, write_entry,
-    write_inode,
+    CompressedNode, Dirent, Fill, INODE_LEN, InodeNode, NodeRef, Order, Seen, compressed_fields,
+    write_entry, write_inode,
 };
 use jscan::{Geometry, block_at};
 use std::alloc::Global;
 
-/// The lengths of a clean marker, and of an entry and an inode node without their bytes.
+/// The lengths of a clean marker, and of an entry without its name.
 const MARKER_LEN: u32 = 12;
 
 const ENTRY_LEN: u32 = 40;
-
-const INODE_LEN: u32 = 68;
 
 /// The node at an address where a compressed one is sighted.
 fn compressed_node<'a, E: Order>(
@@ -94,7 +92,7 @@ fn compressed_len(
             compr: node.compr,
         });
     }
-    let len = placed_len(geometry, addr, INODE_LEN, node.dsize as usize)?;
+    let len = placed_len(geometry, addr, INODE_LEN as u32, node.dsize as usize)?;
     match fill_content(alloc, node, content) {
         Ok(()) => Ok(len),
         Err(DataFault::Wrong) => Err(ConvertFault::Data { addr }),
@@ -126,7 +124,7 @@ pub fn expanded_len<E: Order>(
     content.clear();
     match seen {
         Seen::Entry(entry) => placed_len(geometry, addr, ENTRY_LEN, entry.name.len()),
-        Seen::Inode(inode) => placed_len(geometry, addr, INODE_LEN, stored_len(&inode.fill)),
+        Seen::Inode(inode) => placed_len(geometry, addr, INODE_LEN as u32, stored_len(&inode.fill)),
         Seen::Compressed { .. } => {
             let node = compressed_node::<E>(image, geometry, addr);
             compressed_len(alloc, geometry, addr, &node, content)

@@ -82,6 +82,9 @@ pub(crate) mod inode {
     pub(crate) const COVERED: usize = 60;
 }
 
+/// The length of an inode node without its data.
+pub const INODE_LEN: usize = inode::LEN;
+
 /// Node types.
 pub(crate) mod nodetype {
     pub(crate) const DIRENT: u16 = 0xE001;
