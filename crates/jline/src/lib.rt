@@ -5,10 +5,10 @@
 //! that is pairs of hexadecimal digits. Both take digits in either case, one buffer, and time
 //! linear in the word. What `put_word` puts, `unescape` reads back.
 //!
-//! It is built on `jnode` (names with an erased tail, and how a node is damaged). Its promise to the
-//! crates above: what a call leaves in a line is that line's definition; a name goes out escaped, or
-//! a beginning of it and a fault of the sink; and what a word is read as are the bytes that it stands
-//! for, or that it stands for none.
+//! It is built on `jnode` (names with an erased tail, and how a node is damaged). Its promise to
+//! the crates above: what a call leaves in a line is that line's definition; a name goes out
+//! escaped, or a beginning of it and a fault of the sink; and what a word is read as are the bytes
+//! that it stands for, or that it stands for none.
 //!
 //! `specs/Words.antt` says how numbers and names are spelled, `specs/Paths.antt` how paths are,
 //! `specs/Damages.antt` what damages are called, and `specs/Read.antt` what a word stands for.
