@@ -27,7 +27,6 @@ pub use crate::compressing::{compress, judge_plain, write_packed};
 pub use crate::converted::{Converted, Judged};
 pub use crate::judging::{HELD_MOST, judge};
 pub use crate::keeping::write_nodes;
-pub use crate::locating::located;
 pub use crate::writing::{decompress, decompressed, write_converted};
-pub use jclash::{LeftOut, Parted, without_clashing};
+pub use jclash::{LeftOut, Parted};
 pub use jexpand::ConvertFault;

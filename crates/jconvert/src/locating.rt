@@ -66,7 +66,7 @@ fn push_node<'a>(
 ///
 /// # Errors
 /// Only memory can be wanting.
-pub fn located<'a, E: Order>(
+pub(crate) fn located<'a, E: Order>(
     alloc: Global,
     image: &'a [u8],
     geometry: Geometry,

@@ -4,10 +4,7 @@ use crate::checks::{equal, expect, expect_at};
 use crate::converting::BLOCKS_OF_8_KIB;
 use crate::vectors::*;
 use byteorder::{BigEndian, LittleEndian};
-use jconvert::{
-    ConvertFault, LeftOut, decompress_apart, decompressed, judge, located, part, without_clashing,
-    write_nodes,
-};
+use jconvert::{ConvertFault, LeftOut, decompress_apart, decompressed, judge, part, write_nodes};
 use jnode::{NodeRef, Order};
 use jscan::Geometry;
 use std::alloc::Global;
@@ -187,12 +184,6 @@ fn calls_one_after_another(rt: HostRuntime) -> Result<(), Fail> {
     let Ok(judged) = judge::<LittleEndian>(alloc, &image, BLOCKS_OF_8_KIB, 100) else {
         panic!(rt; "refused");
     };
-    let Ok(nodes) = located::<LittleEndian>(alloc, &image, BLOCKS_OF_8_KIB, &judged.held) else {
-        panic!(rt; "not located");
-    };
-    expect(&rt, nodes.len() == 2 && nodes[0].0 == 0 && nodes[1].0 == 72);
-    let same = without_clashing(alloc, &nodes)?;
-    expect(&rt, are_left(&same.left, &[(0, 72)]));
     let Ok(parted) = part::<LittleEndian>(alloc, &image, BLOCKS_OF_8_KIB, &judged.held) else {
         panic!(rt; "not parted");
     };
