@@ -41,8 +41,13 @@ pub struct Texts {
 }
 
 impl Texts {
+    ghost use Rattle.std.specs.Prelude.{[], string_bytes};
+
     /// None yet.
-    pub fn new(alloc: Global) -> Texts {
+    pub fn new(alloc: Global) -> Texts
+        ensures listing { result.listing.items ≡ [] }
+        ensures unread { string_bytes result.unread ≡ [] }
+    {
         Texts {
             listing: Vec::new(alloc),
             unread: String::new(alloc),
