@@ -22,6 +22,5 @@ mod standing;
 
 pub use crate::cuts::{CutsFault, put_cuts};
 pub use crate::held::Held;
-pub use crate::lines::{StepNode, Telling, put_end, put_nodes};
-pub use crate::planning::{Plan, plan_op};
-pub use crate::standing::{Standing, standings_in};
+pub use crate::lines::{StepNode, Telling};
+pub use crate::standing::Standing;

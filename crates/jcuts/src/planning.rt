@@ -14,7 +14,7 @@ use jsteps::Op;
 use std::alloc::Global;
 
 /// A log that is planned, and not written: what an operation puts is held until it is looked at.
-pub type Plan<'a, E> = Session<'a, E, Held>;
+pub(crate) type Plan<'a, E> = Session<'a, E, Held>;
 
 /// A fault of a log whose sink keeps what it takes: where that fails, memory is wanting.
 fn without_sink(fault: SessionFault) -> SessionFault
@@ -31,7 +31,7 @@ fn without_sink(fault: SessionFault) -> SessionFault
 ///
 /// # Errors
 /// `Refused`, `Full` and `OutOfMemory` as a session answers them. The log is not used again.
-pub fn plan_op<E: Order>(
+pub(crate) fn plan_op<E: Order>(
     alloc: Global,
     plan: &mut Plan<'_, E>,
     op: &Op<'_>,

@@ -1,12 +1,11 @@
 //! Operations that are planned, and told with the numbers of their lines.
 
 use crate::checks::{expect, expect_at};
-use crate::rows::MADE_NODES;
 use crate::sessions::{GEOMETRY, create, write};
 use byteorder::LittleEndian;
 use flashbase::Sink;
-use jcuts::{CutsFault, Held, Plan, Telling, plan_op, put_cuts};
-use jlog::{Flash, Session, SessionFault, Start};
+use jcuts::{CutsFault, Telling, put_cuts};
+use jlog::{Flash, SessionFault, Start};
 use jmount::mount;
 use jscan::Page;
 use jsteps::{Op, OpFault};
@@ -14,7 +13,7 @@ use std::alloc::Global;
 use std::test::Fail;
 use test_support::Taker;
 
-const FLASH: Flash = Flash {
+pub(crate) const FLASH: Flash = Flash {
     geometry: GEOMETRY,
     blocks: 1,
     page: Page::P4096,
@@ -32,8 +31,17 @@ const TOLD: &str = "0000000c 68 line 3 step 1 of 2 stands from 00000050\n\
 
 const NOTES: &str = "jffs2_image: note: weak 000000c4 at 68\n";
 
+/// What is told where the weak node is written first.
+pub(crate) const WEAK_TOLD: &str = "0000000c 68 line 3 step 1 of 2 stands from 00000050\n\
+    00000050 41 line 3 step 2 of 2 stands from 00000079\n\
+    0000007c 73 line 5 step 1 of 1 stands from 000000c5\n\
+    weak 0000007c at 68\n\
+    total operations 2 steps 3 from 00000000 to 000000c8 weak 1\n";
+
+const WEAK_NOTES: &str = "jffs2_image: note: weak 0000007c at 68\n";
+
 /// Five bytes of which a cut goes unseen.
-const WEAK_BYTES: &[u8] = b"\xBE\xF9\x8E\x24\xFE";
+pub(crate) const WEAK_BYTES: &[u8] = b"\xBE\xF9\x8E\x24\xFE";
 
 /// Tells operations on an empty base.
 fn tell<T: Sink>(
@@ -48,18 +56,24 @@ fn tell<T: Sink>(
     Ok(put_cuts::<LittleEndian, T>(alloc, &start, telling, ops, lines, sink))
 }
 
+/// Whether operations of which one node is weak are told so, in both ways.
+fn are_told(alloc: Global, ops: &[Op<'_>], nodes: &str, notes: &str) -> Result<bool, Fail> {
+    let mut lines = Taker::new(alloc);
+    let mut weak = Taker::new(alloc);
+    let told = tell(alloc, Telling::Nodes, ops, &mut lines)?;
+    let noted = tell(alloc, Telling::WeakNotes, ops, &mut weak)?;
+    let is_all = lines.took(0, nodes.as_bytes()) && weak.took(0, notes.as_bytes());
+    Ok(is_all && told == Ok(1) && noted == Ok(1))
+}
+
 #[test]
 fn operations_are_told(rt: HostRuntime) -> Result<(), Fail> {
     let ops = [create(), write(b"\xFF\xFF\xFF"), write(WEAK_BYTES)];
-    for (telling, wanted) in [(Telling::Nodes, TOLD), (Telling::WeakNotes, NOTES)] {
-        let mut sink = Taker::new(rt.alloc());
-        let told = tell(rt.alloc(), telling, &ops, &mut sink)?;
-        expect_at(
-            &rt,
-            told == Ok(1) && sink.took(0, wanted.as_bytes()),
-            wanted,
-        );
-    }
+    let is_so = are_told(rt.alloc(), &ops, TOLD, NOTES)?;
+    expect(&rt, is_so);
+    let ops = [create(), write(WEAK_BYTES)];
+    let is_so = are_told(rt.alloc(), &ops, WEAK_TOLD, WEAK_NOTES)?;
+    expect(&rt, is_so);
     Ok(())
 }
 
@@ -84,7 +98,7 @@ fn a_refused_operation_ends_it(rt: HostRuntime) -> Result<(), Fail> {
 #[test]
 fn sinks_that_fail_within(rt: HostRuntime) -> Result<(), Fail> {
     let ops = [create(), write(b"\xFF\xFF\xFF"), write(WEAK_BYTES)];
-    for limit in [0, 103, 104, 208, 287] {
+    for limit in [0, 51, 52, 103, 104, 155, 156, 207, 208, 227, 228, 287] {
         let mut sink = Taker::limited(rt.alloc(), 7, limit);
         let told = tell(rt.alloc(), Telling::Nodes, &ops, &mut sink)?;
         let wanted = TOLD.as_bytes().get(..limit).ok_or("short")?;
@@ -94,21 +108,5 @@ fn sinks_that_fail_within(rt: HostRuntime) -> Result<(), Fail> {
             limit,
         );
     }
-    Ok(())
-}
-
-/// Whether the nodes of an operation that is planned are these.
-fn are_made(alloc: Global) -> Result<bool, Fail> {
-    let mounted = mount::<LittleEndian>(alloc, &[], GEOMETRY)?;
-    let held = Held::new(alloc);
-    let mut plan: Plan<'_, LittleEndian> = Session::resume(alloc, &mounted, GEOMETRY, 1, held)?;
-    let planned = plan_op(alloc, &mut plan, &create())?;
-    Ok(planned.as_slice() == MADE_NODES.as_slice())
-}
-
-#[test]
-fn nodes_are_planned(rt: HostRuntime) -> Result<(), Fail> {
-    let is_so = are_made(rt.alloc())?;
-    expect(&rt, is_so);
     Ok(())
 }

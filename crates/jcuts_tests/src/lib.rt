@@ -1,8 +1,8 @@
-//! Worked lines of `jcuts`: what is told of given nodes, from the rules of the format and not from
+//! Worked lines of `jcuts`: what is told of operations, from the rules of the format and not from
 //! the program's output, and a session that goes on with another sink.
 //!
-//! `rows` has what is told, and sinks that fail; `cuts` has operations that are planned and told,
-//! and `sessions` the session.
+//! `cuts` has operations that are planned and told, and sinks that fail; `growth` has growths that
+//! are refused, and `sessions` the session.
 #![tactic(auto)]
 
 #[cfg(test)]
@@ -10,6 +10,6 @@ mod checks;
 #[cfg(test)]
 mod cuts;
 #[cfg(test)]
-mod rows;
+mod growth;
 #[cfg(test)]
 mod sessions;
