@@ -55,7 +55,7 @@ pub struct Refused {
 }
 
 /// The first limit that a flash does not keep, if there is one.
-pub fn first_limit(plan: Plan) -> Option<Limit>
+fn first_limit(plan: Plan) -> Option<Limit>
     ensures { result ≡ first_limit plan }
 {
     let block = plan.geometry.block;

@@ -394,7 +394,10 @@ fn put_fault<T: Sink>(fault: &ProgramFault<'_>, sink: &mut T) -> Result<(), Devi
 
 /// Puts the line of a fault, as it is on standard error. It is one line: a control byte of a file's
 /// name goes out escaped.
-pub fn put_fault_line<T: Sink>(fault: &ProgramFault<'_>, sink: &mut T) -> Result<(), DeviceFault>
+pub(crate) fn put_fault_line<T: Sink>(
+    fault: &ProgramFault<'_>,
+    sink: &mut T,
+) -> Result<(), DeviceFault>
     ensures { PutsTo T.Sink sink.old sink.new (fault_line_of fault.now) result }
 {
     put_text(sink, b"jffs2_image: ")?;

@@ -122,7 +122,7 @@ pub fn put_tail<T: Sink>(
 
 /// Puts the line of an object. `again` says that it is a directory that was met before. Takes no
 /// memory, however long the path and the names are.
-pub fn put_object<T: Sink>(
+pub(crate) fn put_object<T: Sink>(
     mounted: &Mounted<'_>,
     path: &[&[u8]],
     ino: u32,

@@ -2,12 +2,13 @@
 
 use crate::checks::{expect, expect_at};
 use flashbase::{FromWriter, LoadFault};
+use jline::put_in_line;
 use jlisting::{BadLine, ListingFault, Rule, WordRule};
 use jlog::SessionFault;
 use jmount::{FindFault, MountFault};
 use jreport::{
-    Cause, Limit, Plan, ProgramFault, Reason, Refused, Unopened, cause_of, fault_text, first_limit,
-    put_fault_and_note, put_fault_line,
+    Cause, Limit, Plan, ProgramFault, Reason, Refused, Unopened, cause_of, fault_text,
+    put_fault_and_note,
 };
 use jscan::{Geometry, Page, ScanFault};
 use jsteps::OpFault;
@@ -138,24 +139,29 @@ fn op_faults() -> &'static [(OpFault, &'static str)] {
     ]
 }
 
-/// The text of a fault, and its line; none where they can't be written.
+/// The text of a fault, and its line with the note after it; none where they can't be written.
 fn texts_of(alloc: Global, fault: &ProgramFault<'_>) -> Option<(Vec<u8>, Vec<u8>)> {
     let mut text = FromWriter::new(Vec::new(alloc));
-    let mut line = FromWriter::new(Vec::new(alloc));
-    if fault_text(fault, &mut text).is_err() || put_fault_line(fault, &mut line).is_err() {
+    let mut lines = FromWriter::new(Vec::new(alloc));
+    if fault_text(fault, &mut text).is_err() || put_fault_and_note(fault, &mut lines).is_err() {
         return None;
     }
-    Some((text.into_writer(), line.into_writer()))
+    Some((text.into_writer(), lines.into_writer()))
+}
+
+/// What comes after the line of a fault that is shown so; none where that line does not come first.
+fn after_line<'a>(lines: &'a [u8], shown: &[u8]) -> Option<&'a [u8]> {
+    let rest = lines.strip_prefix(b"jffs2_image: ".as_slice())?;
+    let rest = rest.strip_prefix(shown)?;
+    rest.strip_prefix(b"\n".as_slice())
 }
 
 /// Whether a fault has this text, and the line that goes with it.
 fn is_told(alloc: Global, fault: &ProgramFault<'_>, wanted: &str) -> bool {
-    let Some((text, line)) = texts_of(alloc, fault) else {
+    let Some((text, lines)) = texts_of(alloc, fault) else {
         return false;
     };
-    let rest = line.strip_suffix(b"\n".as_slice());
-    let rest = rest.and_then(|rest| rest.strip_prefix(b"jffs2_image: ".as_slice()));
-    text.as_slice() == wanted.as_bytes() && rest == Some(text.as_slice())
+    text.as_slice() == wanted.as_bytes() && after_line(&lines, wanted.as_bytes()).is_some()
 }
 
 /// Stops the test unless a fault has this text.
@@ -265,22 +271,6 @@ fn texts_of_a_listing(rt: HostRuntime) {
     has_text(&rt, rt.alloc(), told, "P2 Listing line 3");
 }
 
-/// The note after the line of a fault; none where the line does not come first.
-fn note_after(alloc: Global, fault: &ProgramFault<'_>) -> Option<Vec<u8>> {
-    let (_, line) = texts_of(alloc, fault)?;
-    let mut lines = FromWriter::new(Vec::new(alloc));
-    if put_fault_and_note(fault, &mut lines).is_err() {
-        return None;
-    }
-    let mut lines = lines.into_writer();
-    if lines.starts_with(&line) {
-        lines.drain(..line.len());
-        Some(lines)
-    } else {
-        None
-    }
-}
-
 /// The methods of compression of Linux that there are, and whether they are read.
 fn methods() -> &'static [(u8, bool)] {
     &[
@@ -309,17 +299,34 @@ const PAIR_NOTE: &str = "the nodes at 00000050 and 0000009c differ; \
 const FAR_PAIR_NOTE: &str = "the nodes at 00000000 and ffffffff differ; \
     decompress --clashes higher keeps that of the highest address";
 
+/// A text as it is shown in a line; none where it can't be written.
+fn shown(alloc: Global, text: &[u8]) -> Option<Vec<u8>> {
+    let mut shown = FromWriter::new(Vec::new(alloc));
+    match put_in_line(&mut shown, text) {
+        Ok(()) => Some(shown.into_writer()),
+        Err(_) => None,
+    }
+}
+
+/// Whether this is the line of a note, or nothing where the note is empty.
+fn is_note(line: &[u8], note: &str) -> bool {
+    if note.is_empty() {
+        return line.is_empty();
+    }
+    let rest = line.strip_suffix(b"\n".as_slice());
+    let rest = rest.and_then(|rest| rest.strip_prefix(b"jffs2_image: note: ".as_slice()));
+    line.len() <= 126 && rest == Some(note.as_bytes())
+}
+
 /// Whether after the line of a fault comes this note, or none where it is empty.
-fn is_noted(alloc: Global, fault: &ProgramFault<'_>, wanted: &str) -> bool {
-    let Some(note) = note_after(alloc, fault) else {
+fn is_noted(alloc: Global, fault: &ProgramFault<'_>, note: &str) -> bool {
+    let Some((text, lines)) = texts_of(alloc, fault) else {
         return false;
     };
-    if wanted.is_empty() {
-        return note.is_empty();
-    }
-    let rest = note.strip_suffix(b"\n".as_slice());
-    let rest = rest.and_then(|rest| rest.strip_prefix(b"jffs2_image: note: ".as_slice()));
-    note.len() <= 126 && rest == Some(wanted.as_bytes())
+    let Some(shown) = shown(alloc, &text) else {
+        return false;
+    };
+    after_line(&lines, &shown).is_some_and(|line| is_note(line, note))
 }
 
 /// Stops the test unless this note comes after the line of a fault.
@@ -509,9 +516,8 @@ fn plans() -> &'static [(u32, u32, Page, usize, Option<Limit>)] {
     ]
 }
 
-/// Stops the test unless this is the first limit of a flash, and the cause that is told.
+/// Stops the test unless this is the first limit of a flash that is told.
 fn has_limit(rt: &impl Abort, plan: Plan, limit: Option<Limit>) {
-    expect_at(rt, first_limit(plan) == limit, plan);
     let cause = match limit {
         Some(limit) => Cause::Limit(limit),
         None => Cause::Unknown,

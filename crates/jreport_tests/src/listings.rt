@@ -1,4 +1,4 @@
-//! The line of an object. Worked trees are in tests/hostile.py.
+//! The lines of objects. Worked trees are in tests/hostile.py.
 
 use crate::checks::equal;
 use crate::images::{LARGE, image_of};
@@ -6,40 +6,45 @@ use byteorder::LittleEndian;
 use flashbase::FromWriter;
 use jline::LineBuffer;
 use jmount::{Kind, mount};
-use jreport::{push_number, put_object, put_tail, write_mode};
+use jreport::{push_number, put_subtree, put_tail, tree_lines, write_mode};
 use std::alloc::Global;
 use std::test::Fail;
 use test_support::{DIRECTORY, Node, SYMLINK};
 
-/// The line of object 2 in an image of directory 2.
-fn object_line(alloc: Global, path: &[&[u8]], again: bool) -> Option<Vec<u8>> {
-    let image = image_of(alloc, &[Node::Inode(2, DIRECTORY, b"")]).ok()?;
+/// Directory 2 in the root, with itself in it.
+const LOOP: &[Node<'static>] = &[
+    Node::Inode(2, DIRECTORY, b""),
+    Node::Entry(1, 2, b"a"),
+    Node::Entry(2, 2, b"\x7f"),
+];
+
+/// What is listed of the loop from a path on; of the whole where there is none.
+fn lines_of(alloc: Global, path: Option<&[u8]>) -> Option<Vec<u8>> {
+    let image = image_of(alloc, LOOP).ok()?;
     let mounted = mount::<LittleEndian>(alloc, &image, LARGE).ok()?;
-    let object = mounted.object(2)?;
     let mut sink = FromWriter::new(Vec::new(alloc));
-    match put_object(&mounted, path, 2, &object, again, &mut sink) {
+    let put = match path {
+        Some(path) => put_subtree(alloc, &mounted, path, &mut sink),
+        None => tree_lines(alloc, &mounted, &mut sink),
+    };
+    match put {
         Ok(()) => Some(sink.into_writer()),
         Err(_) => None,
     }
 }
 
-fn paths() -> &'static [(&'static [&'static [u8]], bool, &'static str)] {
-    &[
-        (&[], false, "d 0755 0 0 0 0 2 /\n"),
-        (
-            &[b"a", b"\x7f"],
-            true,
-            "d 0755 0 0 0 0 2 /a/\\x7f (again)\n",
-        ),
-    ]
-}
+const FROM_A: &str = "d 0755 0 0 0 0 2 /a\nd 0755 0 0 0 0 2 /a/\\x7f (again)\n";
+
+const WHOLE: &str = "d 0755 0 0 0 0 1 /\n\
+    d 0755 0 0 0 0 2 /a\n\
+    d 0755 0 0 0 0 2 /a/\\x7f (again)\n";
 
 #[test]
-fn a_line_of_an_object(rt: HostRuntime) -> Result<(), Fail> {
-    for &(path, again, line) in paths() {
-        let put = object_line(rt.alloc(), path, again).ok_or("no line")?;
-        equal(&rt, put.as_slice(), line.as_bytes());
-    }
+fn lines_of_objects(rt: HostRuntime) -> Result<(), Fail> {
+    let whole = lines_of(rt.alloc(), None).ok_or("no lines")?;
+    equal(&rt, whole.as_slice(), WHOLE.as_bytes());
+    let part = lines_of(rt.alloc(), Some(b"/a")).ok_or("no lines")?;
+    equal(&rt, part.as_slice(), FROM_A.as_bytes());
     Ok(())
 }
 

@@ -9,8 +9,7 @@ use jline::{put_escaped, put_in_line, put_text, put_word};
 use jmount::{FindFault, MountFault, mount};
 use jreport::{
     ProgramFault, content, fault_text, put_compressed, put_decompressed, put_fault_and_note,
-    put_fault_line, put_note, put_object, put_report, put_subtree, stream_lines, tree_lines,
-    verdict_lines,
+    put_note, put_subtree, stream_lines, tree_lines, verdict_lines,
 };
 use std::alloc::Global;
 use std::process::Abort;
@@ -20,7 +19,6 @@ use test_support::{LITTLE_MARKER, Taker};
 /// What is written: of an image, or of bytes alone.
 #[derive(Clone, Copy, Debug)]
 enum Text {
-    Report,
     Stream,
     Verdict,
     Tree,
@@ -41,7 +39,6 @@ enum Text {
 
 fn texts() -> &'static [Text] {
     &[
-        Text::Report,
         Text::Stream,
         Text::Verdict,
         Text::Tree,
@@ -79,10 +76,7 @@ fn put_mounted(
 ) -> Result<(), ProgramFault<'static>> {
     let mounted = mount::<LittleEndian>(alloc, image, GEOMETRY)?;
     match text {
-        Text::Object => match mounted.object(4) {
-            Some(object) => Ok(put_object(&mounted, &[b"s"], 4, &object, true, sink)?),
-            None => Err(FAULT),
-        },
+        Text::Object => put_subtree(alloc, &mounted, b"/s", sink),
         Text::Content => content(&mounted, b"/d/f", sink),
         Text::Part => put_subtree(alloc, &mounted, b"/d", sink),
         _ => tree_lines(alloc, &mounted, sink),
@@ -105,9 +99,6 @@ fn put(
     sink: &mut Taker,
 ) -> Result<(), ProgramFault<'static>> {
     match text {
-        Text::Report => {
-            put_report::<LittleEndian, _>(image, GEOMETRY, sink)?;
-        }
         Text::Stream => {
             let source = FromReader::new(image);
             stream_lines::<LittleEndian, _, _>(alloc, source, GEOMETRY, sink).0?;
@@ -123,7 +114,7 @@ fn put(
             let answer = fault_text(&FAULT, sink);
             put_of(answer, sink.bytes.len())?;
         }
-        Text::FaultLine => put_fault_line(&FAULT, sink)?,
+        Text::FaultLine => put_fault_and_note(&FAULT, sink)?,
         Text::FaultLines => put_fault_and_note(&NOTED_FAULT, sink)?,
         Text::Decompressed => put_decompressed(7, 29, 30168, sink)?,
         Text::Compressed => put_compressed(5, 31, 20416, sink)?,
