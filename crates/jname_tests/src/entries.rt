@@ -8,6 +8,10 @@ use jnode::{Dirent, Part};
 use std::process::Abort;
 use test_support::entry;
 
+/// A live name: its directory, the name, and the number that it stands for.
+#[derive(Clone, Copy)]
+pub(crate) struct Live(pub(crate) u32, pub(crate) &'static [u8], pub(crate) u32);
+
 /// An entry whose name is `content_at` and then bytes that the image lacks.
 pub(crate) fn cut_entry(
     pino: u32,
@@ -30,10 +34,10 @@ pub(crate) fn add<'a>(rt: &impl Abort, names: &mut Names<'a>, entry: &Dirent<'a>
 }
 
 /// Whether these are all live names, in this order.
-pub(crate) fn are_all(names: &Names<'_>, wanted: &[(u32, &[u8], u32)]) -> bool {
+pub(crate) fn are_all(names: &Names<'_>, wanted: &[Live]) -> bool {
     let mut all = names.all();
-    for &name in wanted {
-        if all.next() != Some(name) {
+    for &Live(directory, name, ino) in wanted {
+        if all.next() != Some((directory, name, ino)) {
             return false;
         }
     }

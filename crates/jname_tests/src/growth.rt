@@ -1,17 +1,13 @@
 //! A growth that is refused leaves what stood.
 
 use crate::checks::expect;
-use crate::entries::{are_all, cut_entry};
+use crate::entries::{Live, are_all, cut_entry};
 use jname::{NameFault, Names};
 use jnode::Dirent;
 use test_support::entry;
 
 /// Adds an entry. Where a growth is refused, nothing changes, and the entry can be added then.
-fn add_again(
-    names: &mut Names<'static>,
-    added: &Dirent<'static>,
-    before: &[(u32, &[u8], u32)],
-) -> bool {
+fn add_again(names: &mut Names<'static>, added: &Dirent<'static>, before: &[Live]) -> bool {
     let highest = names.highest(added.pino);
     match names.add(added) {
         Ok(()) => true,
@@ -24,56 +20,71 @@ fn add_again(
     }
 }
 
-/// What is added in turn, and what is before each and after the last.
+/// An entry that is added, by its directory, version, number and name, and the live names before
+/// it.
+struct Added(u32, u32, u32, &'static [u8], &'static [Live]);
+
+/// What is added in turn.
+fn additions() -> &'static [Added] {
+    &[
+        Added(1, 1, 2, b"a", &[]),
+        Added(1, 2, 3, b"b", &[Live(1, b"a", 2)]),
+        Added(1, 3, 4, b"a", &[Live(1, b"a", 2), Live(1, b"b", 3)]),
+        Added(7, 1, 5, b"c", &[Live(1, b"a", 4), Live(1, b"b", 3)]),
+    ]
+}
+
+/// What is live then.
+fn before_the_last() -> &'static [Live] {
+    &[Live(1, b"a", 4), Live(1, b"b", 3), Live(7, b"c", 5)]
+}
+
+/// What is live after the last.
+fn after() -> &'static [Live] {
+    &[
+        Live(1, b"a", 4),
+        Live(1, b"b", 3),
+        Live(7, b"c", 5),
+        Live(7, b"d\xFF\xFF\xFF", 6),
+    ]
+}
+
 #[test]
 fn refused_growth_changes_nothing(rt: HostRuntime) {
     let mut names = Names::new(rt.alloc());
-    let a_2: (u32, &[u8], u32) = (1, b"a", 2);
-    let a_4: (u32, &[u8], u32) = (1, b"a", 4);
-    let b_3: (u32, &[u8], u32) = (1, b"b", 3);
-    let c_5: (u32, &[u8], u32) = (7, b"c", 5);
-    let d_6: (u32, &[u8], u32) = (7, b"d\xFF\xFF\xFF", 6);
-    for (added, before) in [
-        (entry(1, 1, 2, b"a"), [].as_slice()),
-        (entry(1, 2, 3, b"b"), [a_2].as_slice()),
-        (entry(1, 3, 4, b"a"), [a_2, b_3].as_slice()),
-        (entry(7, 1, 5, b"c"), [a_4, b_3].as_slice()),
-        (cut_entry(7, 9, 6, b"d", 3), [a_4, b_3, c_5].as_slice()),
-    ] {
+    for &Added(pino, version, ino, name, before) in additions() {
+        let added = entry(pino, version, ino, name);
         expect(&rt, add_again(&mut names, &added, before));
     }
-    expect(&rt, are_all(&names, &[a_4, b_3, c_5, d_6]));
+    let last = cut_entry(7, 9, 6, b"d", 3);
+    expect(&rt, add_again(&mut names, &last, before_the_last()));
+    expect(&rt, are_all(&names, after()));
 }
 
 /// More names than stand in a row.
+fn many() -> &'static [Live] {
+    &[
+        Live(1, b"a", 2),
+        Live(1, b"b", 3),
+        Live(1, b"c", 4),
+        Live(1, b"d", 5),
+        Live(1, b"e", 6),
+        Live(1, b"f", 7),
+        Live(1, b"g", 8),
+        Live(1, b"h", 9),
+        Live(1, b"i", 10),
+        Live(1, b"j", 11),
+    ]
+}
+
 #[test]
 fn refused_growth_of_many_names_changes_nothing(rt: HostRuntime) {
     let mut names = Names::new(rt.alloc());
-    let all: [(u32, &[u8], u32); 10] = [
-        (1, b"a", 2),
-        (1, b"b", 3),
-        (1, b"c", 4),
-        (1, b"d", 5),
-        (1, b"e", 6),
-        (1, b"f", 7),
-        (1, b"g", 8),
-        (1, b"h", 9),
-        (1, b"i", 10),
-        (1, b"j", 11),
-    ];
-    for (added, before) in [
-        (entry(1, 1, 2, b"a"), &all[..0]),
-        (entry(1, 2, 3, b"b"), &all[..1]),
-        (entry(1, 3, 4, b"c"), &all[..2]),
-        (entry(1, 4, 5, b"d"), &all[..3]),
-        (entry(1, 5, 6, b"e"), &all[..4]),
-        (entry(1, 6, 7, b"f"), &all[..5]),
-        (entry(1, 7, 8, b"g"), &all[..6]),
-        (entry(1, 8, 9, b"h"), &all[..7]),
-        (entry(1, 9, 10, b"i"), &all[..8]),
-        (entry(1, 10, 11, b"j"), &all[..9]),
-    ] {
-        expect(&rt, add_again(&mut names, &added, before));
+    let all = many();
+    for index in 0..all.len() {
+        let Live(pino, name, ino) = all[index];
+        let added = entry(pino, ino, ino, name);
+        expect(&rt, add_again(&mut names, &added, &all[..index]));
     }
-    expect(&rt, are_all(&names, &all));
+    expect(&rt, are_all(&names, all));
 }

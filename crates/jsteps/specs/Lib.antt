@@ -4,6 +4,7 @@ pub mod Steps
 pub mod Nodes
 pub mod Ready
 pub mod Where
+pub mod Families
 pub mod Planning
 pub mod Refusals
 pub mod Codes

@@ -1,9 +1,10 @@
 //! The steps of an operation.
 
-ghost use Rattle.std.specs.Prelude.{◌≡◌, ◌==◌, ◌||◌, ◌&&◌, ◌≤◌, ◌+◌, ◌++◌, ℕ, nat_lt, length, [], ◌∷◌, IfOk, IfErr, Ok, Err, ◌≢◌};
+ghost use Rattle.std.specs.Prelude.{◌≡◌, ◌==◌, ◌||◌, ◌&&◌, ◌≤◌, ◌+◌, ◌++◌, ℕ, nat_lt, length, [], ◌∷◌, IfOk, IfErr, IsTrue, Ok, Err, ◌≢◌};
 ghost use Rattle.std.specs.List.{list_any};
 ghost use Rattle.jmount.specs.Shown.{top_at};
 ghost use Rattle.jscan.specs.Pages.{IsPage, page_size};
+ghost use Rattle.jsteps.specs.Families.{makes_empty, makes_special, is_of_bytes};
 ghost use Rattle.jsteps.specs.Planning.{most_steps, bytes_steps};
 ghost use Rattle.jsteps.specs.Refusals.{planned, planned_by, greatest_size};
 ghost use Rattle.jsteps.specs.Tests.{GivesPlan, made_plan, new_of, full_by, spent_by, into_itself_at};
@@ -564,22 +565,10 @@ fn set_attributes<'a>(
     Ok(one(alloc, set)?)
 }
 
-/// The steps of an operation, or why it is refused, with bytes cut where a page of this size of the
-/// file ends.
-///
-/// # Errors
-/// As those of [`plan`].
-pub fn plan_paged<'a>(
-    alloc: Global,
-    index: &Index,
-    op: &'a Op<'_>,
-    page: Page,
-) -> Result<Vec<Step<'a>>, OpFault>
-    ensures ok { IfOk result
-        (λ steps. planned_by (page_size page) index.now op.now ≡ Ok steps.items) }
-    ensures few { IfOk result (λ steps. length steps.items ≤ most_steps) }
-    ensures err { IfErr result (λ fault. fault ≢ refused.OutOfMemory
-        → planned_by (page_size page) index.now op.now ≡ Err fault) }
+/// The plan of an operation that makes an object without data.
+fn plan_empty<'a>(alloc: Global, index: &Index, op: &'a Op<'_>) -> Result<Vec<Step<'a>>, OpFault>
+    requires { IsTrue (makes_empty op.now) }
+    ensures { (page : ℕ) → GivesPlan result (planned_by page index.now op.now) }
 {
     match op {
         Op::Mkdir {
@@ -596,22 +585,30 @@ pub fn plan_paged<'a>(
             uid,
             gid,
         } => create(alloc, index, *time, path.as_slice(), *mode, *uid, *gid),
-        Op::File {
+        Op::Fifo {
             time,
             path,
             mode,
             uid,
             gid,
-            bytes,
-        } => {
-            let new = NewFile {
-                time: *time,
-                mode: *mode,
-                uid: *uid,
-                gid: *gid,
-            };
-            file(alloc, page.size(), index, path, new, bytes)
-        }
+        } => fifo(alloc, index, *time, path.as_slice(), *mode, *uid, *gid),
+        Op::Socket {
+            time,
+            path,
+            mode,
+            uid,
+            gid,
+        } => socket(alloc, index, *time, path.as_slice(), *mode, *uid, *gid),
+        _ => unreachable!(),
+    }
+}
+
+/// The plan of an operation that makes an object whose data say what it stands for.
+fn plan_special<'a>(alloc: Global, index: &Index, op: &'a Op<'_>) -> Result<Vec<Step<'a>>, OpFault>
+    requires { IsTrue (makes_special op.now) }
+    ensures { (page : ℕ) → GivesPlan result (planned_by page index.now op.now) }
+{
+    match op {
         Op::Device {
             time,
             path,
@@ -631,20 +628,6 @@ pub fn plan_paged<'a>(
             *gid,
             number,
         ),
-        Op::Fifo {
-            time,
-            path,
-            mode,
-            uid,
-            gid,
-        } => fifo(alloc, index, *time, path.as_slice(), *mode, *uid, *gid),
-        Op::Socket {
-            time,
-            path,
-            mode,
-            uid,
-            gid,
-        } => socket(alloc, index, *time, path.as_slice(), *mode, *uid, *gid),
         Op::Symlink {
             time,
             path,
@@ -652,13 +635,67 @@ pub fn plan_paged<'a>(
             uid,
             gid,
         } => symlink(alloc, index, *time, path, target, *uid, *gid),
+        _ => unreachable!(),
+    }
+}
+
+/// The plan of an operation on the bytes of a regular file, old or new.
+fn plan_bytes<'a>(
+    alloc: Global,
+    page: u32,
+    index: &Index,
+    op: &'a Op<'_>,
+) -> Result<Vec<Step<'a>>, OpFault>
+    requires page { IsPage page }
+    requires bytes { IsTrue (is_of_bytes op.now) }
+    ensures { GivesPlan result (planned_by page index.now op.now) }
+{
+    match op {
+        Op::File {
+            time,
+            path,
+            mode,
+            uid,
+            gid,
+            bytes,
+        } => {
+            let new = NewFile {
+                time: *time,
+                mode: *mode,
+                uid: *uid,
+                gid: *gid,
+            };
+            file(alloc, page, index, path, new, bytes)
+        }
         Op::Write {
             time,
             path,
             offset,
             bytes,
-        } => write(alloc, page.size(), index, *time, path, *offset, bytes),
+        } => write(alloc, page, index, *time, path, *offset, bytes),
         Op::Truncate { time, path, size } => truncate(alloc, index, *time, path.as_slice(), *size),
+        _ => unreachable!(),
+    }
+}
+
+/// The plan of an operation under a page.
+fn plan_by<'a>(
+    alloc: Global,
+    page: u32,
+    index: &Index,
+    op: &'a Op<'_>,
+) -> Result<Vec<Step<'a>>, OpFault>
+    requires { IsPage page }
+    ensures { GivesPlan result (planned_by page index.now op.now) }
+{
+    match op {
+        Op::Mkdir { .. } | Op::Create { .. } | Op::Fifo { .. } | Op::Socket { .. } => {
+            plan_empty(alloc, index, op)
+        }
+        Op::Device { .. } | Op::Symlink { .. } => plan_special(alloc, index, op),
+        Op::File { .. } | Op::Write { .. } | Op::Truncate { .. } => {
+            plan_bytes(alloc, page, index, op)
+        }
         Op::Link { time, old, new } => link(alloc, index, *time, old.as_slice(), new.as_slice()),
         Op::Remove { time, path } => remove(alloc, index, *time, path.as_slice()),
         Op::Rename { time, old, new } => {
@@ -673,6 +710,26 @@ pub fn plan_paged<'a>(
             attributes,
         } => { set_attributes(alloc, index, *time, path.as_slice(), *attributes) }
     }
+}
+
+/// The steps of an operation, or why it is refused, with bytes cut where a page of this size of the
+/// file ends.
+///
+/// # Errors
+/// As those of [`plan`].
+pub fn plan_paged<'a>(
+    alloc: Global,
+    index: &Index,
+    op: &'a Op<'_>,
+    page: Page,
+) -> Result<Vec<Step<'a>>, OpFault>
+    ensures ok { IfOk result
+        (λ steps. planned_by (page_size page) index.now op.now ≡ Ok steps.items) }
+    ensures few { IfOk result (λ steps. length steps.items ≤ most_steps) }
+    ensures err { IfErr result (λ fault. fault ≢ refused.OutOfMemory
+        → planned_by (page_size page) index.now op.now ≡ Err fault) }
+{
+    plan_by(alloc, page.size(), index, op)
 }
 
 /// The steps of an operation, or why it is refused. Each step is to be written as one node; bytes
