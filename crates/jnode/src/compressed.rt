@@ -60,23 +60,6 @@ fn found_in<'a, E: Order>(rest: &Part<'a>) -> Option<CompressedNode<'a>>
     }
 }
 
-/// The node with a good header at the start of a part, the rest of a block, where `read_part`
-/// answers that it is compressed. Its data are handed out as a part of that part.
-pub fn compressed_in<'a, E: Order>(rest: &Part<'a>) -> Option<CompressedNode<'a>>
-    requires good { IsGood E.order rest.now }
-    requires words { length rest.now % 4 ≡ 0 }
-    ensures node { (node : CompressedNode) → (result ≡ Some node)
-        ↔ ReadsCompressedNode E.order (tile_of E.order rest.now) node }
-    // It is the node that is seen, with its compression, and there is none where none is seen.
-    ensures seen { IfSome result
-        (λ node. seen_of E.order (tile_of E.order rest.now) ≡ Seen.Compressed node.compr) }
-    ensures none { result ≡ None
-        → (compr : ℕ) → seen_of E.order (tile_of E.order rest.now) ≢ Seen.Compressed compr }
-    ensures exact { result ≡ compressed_seen E.order (tile_of E.order rest.now) }
-{
-    found_in::<E>(rest)
-}
-
 /// The node with a good header at the start of these bytes, the rest of a block, where `read_node`
 /// answers that it is compressed.
 pub fn compressed_at<E: Order>(bytes: &[u8]) -> Option<CompressedNode<'_>>

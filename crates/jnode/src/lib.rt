@@ -9,7 +9,7 @@
 //!   is seen as.
 //! - `write_entry`, `write_inode`, `write_marker` and `write_padding` append the written form of a
 //!   node; `marker_bytes` is that of the marker.
-//! - `compressed_at` and `compressed_in` give the fields and data of a node that is seen as
+//! - `compressed_at` and `compressed_fields` give the fields and data of a node that is seen as
 //!   compressed, and `write_compressed` appends one.
 //! - `weak_cut` gives the least cut of a written node that no check shows.
 //! - `Order` names the byte order, and `Endian` is that order as a value, which the definitions
@@ -31,7 +31,7 @@ mod undo;
 mod weak;
 mod writing;
 
-pub use crate::compressed::{compressed_at, compressed_fields, compressed_in, write_compressed};
+pub use crate::compressed::{compressed_at, compressed_fields, write_compressed};
 pub use crate::header::{Header, header_at, header_in};
 pub use crate::layout::INODE_LEN;
 pub use crate::node::{CompressedNode, Damage, Dirent, Fill, InodeNode, NodeRef, Seen};

@@ -5,8 +5,8 @@ use crate::nodes::{compressed_of_5, cut_after, start_of};
 use crate::vectors::*;
 use byteorder::{BigEndian, LittleEndian};
 use jnode::{
-    CompressedNode, Fill, Order, Part, WriteFault, compressed_at, compressed_in, header_at,
-    header_in, laws, write_compressed,
+    CompressedNode, Fill, Order, Part, Seen, WriteFault, compressed_at, compressed_fields,
+    header_at, header_in, laws, read_part, write_compressed,
 };
 use std::alloc::Global;
 use std::process::Abort;
@@ -21,7 +21,10 @@ fn found_at<'a, E: Order>(rt: &impl Abort, bytes: &'a [u8]) -> Option<Compressed
 fn found_in<'a, E: Order>(rt: &impl Abort, part: &Part<'a>) -> Option<CompressedNode<'a>> {
     expect(rt, header_in::<E>(part).is_some());
     expect(rt, part.len() % 4 == 0);
-    compressed_in::<E>(part)
+    match read_part::<E>(part) {
+        Seen::Compressed { .. } => Some(compressed_fields::<E>(part)),
+        _ => None,
+    }
 }
 
 fn is_the_node(
