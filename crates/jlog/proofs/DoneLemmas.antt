@@ -114,6 +114,12 @@ all_first P zero xs p = tt
 all_first P (suc n) [] p = tt
 all_first P (suc n) (x ∷ xs) p = (p.0, all_first P n xs p.1)
 
+pub all_fewer : {X : Type 0} (P : X → Type 0) (n m : ℕ) (xs : List X) → n ≤ m → AllByRecursion P (take m xs) → AllByRecursion P (take n xs)
+all_fewer P zero m xs fewer p = tt
+all_fewer P (suc n) zero xs fewer p = absurd (omega arith)
+all_fewer P (suc n) (suc m) [] fewer p = tt
+all_fewer P (suc n) (suc m) (x ∷ xs) fewer p = (p.0, all_fewer P n m xs (omega arith) p.1)
+
 all_left : {X : Type 0} (P : X → Type 0) (xs ys : List X) → AllByRecursion P (xs ++ ys) → AllByRecursion P xs
 all_left P [] ys p = tt
 all_left P (x ∷ xs) ys p = (p.0, all_left P xs ys p.1)
@@ -239,7 +245,7 @@ fit_after page e size blocks from base done ops x n on fits_here =
       };
     }
 
-pub survives_after : (page : ℕ) (e : Endian) (size blocks from : ℕ) (base : List ℕ) (done ops : List Op) (x : Indexed) (n : ℕ) → IsPage page → page + 80 ≤ size
+survives_after : (page : ℕ) (e : Endian) (size blocks from : ℕ) (base : List ℕ) (done ops : List Op) (x : Indexed) (n : ℕ) → IsPage page → page + 80 ≤ size
     → GoesOnBy page e size blocks base done from x → AreBytes base → AllByRecursion OpFits ops → Fit page e size blocks from x ops n
     → SurvivesAfter e size blocks base (steps_on page e size base done) (steps_of_first page x ops n)
 survives_after page e size blocks from base done ops x n is_page room on are_bytes widths fits_here =
@@ -260,8 +266,24 @@ survives_after page e size blocks from base done ops x n is_page room on are_byt
           (subst (GoesOn page (plain_nodes e size base)) it.steps_are go);
     })
 
+-- the first of them alone have steps, and the same
+first_fit : (page : ℕ) (e : Endian) (size blocks from : ℕ) (x : Indexed) (ops : List Op) (n : ℕ) → Fit page e size blocks from x ops n → Fit page e size blocks from x (take n ops) n
+first_fit page e size blocks from x ops n fits_here =
+    let first : FirstOps page x ops n = first_ops page x ops n fits_here.planned in
+    record {
+      planned = first.planned;
+      fits = subst (λ (l : List Step). IsTrue (fit size blocks from (written e x l))) (sym first.steps_are) fits_here.fits;
+    }
+
+pub first_survive : (page : ℕ) (e : Endian) (size blocks from : ℕ) (base : List ℕ) (done ops : List Op) (x : Indexed) (n : ℕ) → IsPage page → page + 80 ≤ size
+    → GoesOnBy page e size blocks base done from x → AreBytes base → AllByRecursion OpFits (take n ops) → Fit page e size blocks from x ops n
+    → SurvivesAfter e size blocks base (steps_on page e size base done) (steps_of_first page x ops n)
+first_survive page e size blocks from base done ops x n is_page room on are_bytes widths fits_here =
+    subst (SurvivesAfter e size blocks base (steps_on page e size base done)) (first_ops page x ops n fits_here.planned).steps_are
+    (survives_after page e size blocks from base done (take n ops) x n is_page room on are_bytes widths (first_fit page e size blocks from x ops n fits_here))
+
 pub goes_on_by_more : (page : ℕ) (e : Endian) (size blocks from end : ℕ) (base : List ℕ) (done ops : List Op) (x y : Indexed) (n : ℕ)
-    → GoesOnBy page e size blocks base done from x → AllByRecursion OpFits ops → Fit page e size blocks from x ops n
+    → GoesOnBy page e size blocks base done from x → AllByRecursion OpFits (take n ops) → Fit page e size blocks from x ops n
     → end ≡ end_of_all size from (written e x (steps_of_first page x ops n)) → y ≡ advanced_all x (steps_of_first page x ops n)
     → GoesOnBy page e size blocks base (done ++ take n ops) end y
 goes_on_by_more page e size blocks from end base done ops x y n on widths fits_here cursor_is index_is =
@@ -272,10 +294,7 @@ goes_on_by_more page e size blocks from end base done ops x y n on widths fits_h
     let first : FirstOps page x ops n = first_ops page x ops n fits_here.planned in
     let few : List Op = take n ops in
     let len : length few ≡ n = length-take-le n ops first.within in
-    let here_on : Fit page e size blocks from x few n = record {
-      planned = first.planned;
-      fits = subst (λ (l : List Step). IsTrue (fit size blocks from (written e x l))) (sym first.steps_are) fits_here.fits;
-    } in
+    let here_on : Fit page e size blocks from x few n = first_fit page e size blocks from x ops n fits_here in
     let it : FitAfter page e size blocks base done few n = fit_after page e size blocks from base done few x n on here_on in
     let long : length (done ++ few) ≡ length done + n = length-append done few ∙ ap (λ (i : ℕ). length done + i) len in
     let all_steps : steps_on page e size base (done ++ few) ≡ earlier ++ steps =
@@ -284,7 +303,7 @@ goes_on_by_more page e size blocks from end base done ops x y n on widths fits_h
     let goes : StepsGoOn e size start z earlier steps = steps_go_on e size start z earlier steps in
     record {
       is_base = on.is_base;
-      widths = all_both OpFits done few on.widths (all_first OpFits n ops widths);
+      widths = all_both OpFits done few on.widths widths;
       accepted = subst (AreAccepted page e size blocks base (done ++ few)) (sym long) it.accepted;
       cursor_is = cursor_is
           ∙ (ap (λ (c : ℕ). end_of_all size c (written e x steps)) on.cursor_is
