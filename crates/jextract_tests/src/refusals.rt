@@ -15,7 +15,8 @@ use test_support::{FILE, Node, Taker};
 /// The call that is refused, what is made, and what is told.
 type Row = (u64, &'static str, &'static str);
 
-fn rows() -> &'static [Row] {
+/// The directory `/d`, its file, or the bytes of that are refused.
+fn below_d() -> &'static [Row] {
     &[
         (
             1,
@@ -25,26 +26,22 @@ fn rows() -> &'static [Row] {
               content t [hi] 755 7 5\n\
               link u s\n\
               attributes  755 0 0\n",
-            "left out /d: the host refused it\n\
-              left out /x: no inode\n",
+            "left out /d: the host refused it\nleft out /x: no inode\n",
         ),
         (
             2,
-            "directory \n\
-              directory d\n\
+            "directory \ndirectory d\n\
               attributes d 1700 7 5\n\
               symlink s /d/f 777 7 5\n\
               file t\n\
               content t [hi] 755 7 5\n\
               link u s\n\
               attributes  755 0 0\n",
-            "left out /d/f: the host refused it\n\
-              left out /x: no inode\n",
+            "left out /d/f: the host refused it\nleft out /x: no inode\n",
         ),
         (
             3,
-            "directory \n\
-              directory d\n\
+            "directory \ndirectory d\n\
               file d/f\n\
               attributes d 1700 7 5\n\
               symlink s /d/f 777 7 5\n\
@@ -52,78 +49,78 @@ fn rows() -> &'static [Row] {
               content t [hi] 755 7 5\n\
               link u s\n\
               attributes  755 0 0\n",
-            "left out /d/f: the host refused it\n\
-              left out /x: no inode\n",
+            "left out /d/f: the host refused it\nleft out /x: no inode\n",
         ),
+    ]
+}
+
+/// The attributes of `/d` are refused, `/s` or `/t`.
+fn from_d_on() -> &'static [Row] {
+    &[
         (
             4,
-            "directory \n\
-              directory d\n\
+            "directory \ndirectory d\n\
               file d/f\n\
               content d/f [hi] 755 7 5\n\
               symlink s /d/f 777 7 5\n\
               link t d/f\n\
               link u s\n\
               attributes  755 0 0\n",
-            "left out /d: the host refused it\n\
-              left out /x: no inode\n",
+            "left out /d: the host refused it\nleft out /x: no inode\n",
         ),
         (
             5,
-            "directory \n\
-              directory d\n\
+            "directory \ndirectory d\n\
               file d/f\n\
               content d/f [hi] 755 7 5\n\
               attributes d 1700 7 5\n\
               link t d/f\n\
               symlink u /d/f 777 7 5\n\
               attributes  755 0 0\n",
-            "left out /s: the host refused it\n\
-              left out /x: no inode\n",
+            "left out /s: the host refused it\nleft out /x: no inode\n",
         ),
         (
             6,
-            "directory \n\
-              directory d\n\
+            "directory \ndirectory d\n\
               file d/f\n\
               content d/f [hi] 755 7 5\n\
               attributes d 1700 7 5\n\
               symlink s /d/f 777 7 5\n\
               link u s\n\
               attributes  755 0 0\n",
-            "left out /t: the host refused it\n\
-              left out /x: no inode\n",
+            "left out /t: the host refused it\nleft out /x: no inode\n",
         ),
+    ]
+}
+
+/// `/u` is refused, the attributes of the root, or nothing.
+fn last() -> &'static [Row] {
+    &[
         (
             7,
-            "directory \n\
-              directory d\n\
+            "directory \ndirectory d\n\
               file d/f\n\
               content d/f [hi] 755 7 5\n\
               attributes d 1700 7 5\n\
               symlink s /d/f 777 7 5\n\
               link t d/f\n\
               attributes  755 0 0\n",
-            "left out /u: the host refused it\n\
-              left out /x: no inode\n",
+            "left out /u: the host refused it\nleft out /x: no inode\n",
         ),
         (
             8,
-            "directory \n\
-              directory d\n\
+            "directory \ndirectory d\n\
               file d/f\n\
               content d/f [hi] 755 7 5\n\
               attributes d 1700 7 5\n\
               symlink s /d/f 777 7 5\n\
               link t d/f\n\
               link u s\n",
-            "left out /x: no inode\n\
-              left out /: the host refused it\n",
+            "left out /x: no inode\nleft out /: the host refused it\n",
         ),
         (
             9,
-            "directory \n\
-              directory d\n\
+            "directory \ndirectory d\n\
               file d/f\n\
               content d/f [hi] 755 7 5\n\
               attributes d 1700 7 5\n\
@@ -158,12 +155,24 @@ fn is_told(rt: &impl Abort, alloc: Global, mounted: &Mounted<'_>, row: &Row) -> 
     Ok(())
 }
 
+fn are_told(
+    rt: &impl Abort,
+    alloc: Global,
+    mounted: &Mounted<'_>,
+    rows: &[Row],
+) -> Result<(), Fail> {
+    for row in rows {
+        is_told(rt, alloc, mounted, row)?;
+    }
+    Ok(())
+}
+
 #[test]
 fn a_refusal_at_each_call(rt: HostRuntime) -> Result<(), Fail> {
     let image = image_of(rt.alloc(), PLAIN)?;
     let mounted = mount::<LittleEndian>(rt.alloc(), &image, LARGE)?;
-    for row in rows() {
-        is_told(&rt, rt.alloc(), &mounted, row)?;
+    for rows in [below_d(), from_d_on(), last()] {
+        are_told(&rt, rt.alloc(), &mounted, rows)?;
     }
     Ok(())
 }

@@ -167,11 +167,15 @@ impl Pair {
         Some(steps.len())
     }
 
-    /// Takes the operation of a line, and tells how many steps it has.
+    /// Takes an operation, and tells how many steps it has.
+    fn take_op(&mut self, alloc: Global, op: &Op<'_>) -> Option<usize> {
+        let steps = self.steps(alloc, op)?;
+        self.take_all(alloc, &steps)
+    }
+
     fn take_line(&mut self, alloc: Global, line: &str) -> Option<usize> {
         let op = op_of(line, BY)?;
-        let steps = self.steps(alloc, &op)?;
-        self.take_all(alloc, &steps)
+        self.take_op(alloc, &op)
     }
 }
 

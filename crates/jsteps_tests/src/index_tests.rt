@@ -5,25 +5,35 @@ use crate::lines::answer;
 use crate::taking::take;
 use crate::trees::{index_of, one_number_left, small};
 use jmount::Kind;
-use jsteps::with_permissions;
+use jsteps::{Index, with_permissions};
+use std::alloc::Global;
+use std::process::Abort;
 use std::test::Fail;
 
-#[test]
-fn what_an_index_shows(rt: HostRuntime) -> Result<(), Fail> {
-    let index = index_of(rt.alloc(), small())?;
-    let shown = [
+/// Numbers, each with its object's kind, mode and size, and its greatest version.
+fn shown() -> &'static [(u32, Option<(Kind, u32, u32)>, u32)] {
+    &[
         (1, Some((Kind::Directory, 0o040755, 0)), 7),
         (2, Some((Kind::Regular, 0o100644, 10)), 1),
         (6, Some((Kind::Directory, 0o040755, 0)), 1),
         (7, Some((Kind::Symlink, 0o120777, 3)), 1),
         (9, Some((Kind::Directory, 0o040755, 0)), 1),
         (57, None, 0),
-    ];
-    for (ino, object, top) in shown {
+    ]
+}
+
+fn are_shown(rt: &impl Abort, index: &Index) {
+    for &(ino, object, top) in shown() {
         let found = index.object(ino).map(|o| (o.kind, o.mode, o.size));
-        equal_at(&rt, found, object, ino);
-        equal_at(&rt, index.top(ino), top, ino);
+        equal_at(rt, found, object, ino);
+        equal_at(rt, index.top(ino), top, ino);
     }
+}
+
+#[test]
+fn what_an_index_shows(rt: HostRuntime) -> Result<(), Fail> {
+    let index = index_of(rt.alloc(), small())?;
+    are_shown(&rt, &index);
     equal(&rt, index.next(), 58);
     Ok(())
 }
@@ -52,16 +62,20 @@ fn changes() -> &'static [(&'static str, usize, u32, Option<(u32, u16, u16, u32)
     ]
 }
 
+fn change(rt: &impl Abort, alloc: Global, index: &mut Index) -> Result<(), Fail> {
+    for &(line, count, ino, object, top) in changes() {
+        equal_at(rt, take(alloc, index, line)?, count, line);
+        let found = index.object(ino).map(|o| (o.mode, o.uid, o.gid, o.size));
+        equal_at(rt, found, object, line);
+        equal_at(rt, index.top(ino), top, line);
+    }
+    Ok(())
+}
+
 #[test]
 fn what_steps_leave(rt: HostRuntime) -> Result<(), Fail> {
-    let alloc = rt.alloc();
-    let mut index = index_of(alloc, small())?;
-    for &(line, count, ino, object, top) in changes() {
-        equal_at(&rt, take(alloc, &mut index, line)?, count, line);
-        let found = index.object(ino).map(|o| (o.mode, o.uid, o.gid, o.size));
-        equal_at(&rt, found, object, line);
-        equal_at(&rt, index.top(ino), top, line);
-    }
+    let mut index = index_of(rt.alloc(), small())?;
+    change(&rt, rt.alloc(), &mut index)?;
     equal(&rt, index.next(), 61);
     equal(&rt, index.top(1), 10);
     let times = index.object(2).map(|o| (o.atime, o.mtime, o.ctime));
@@ -80,22 +94,31 @@ fn attributes() -> &'static [(&'static str, usize, u32, u32, u32, u32)] {
     ]
 }
 
-#[test]
-fn what_attributes_leave(rt: HostRuntime) -> Result<(), Fail> {
-    let alloc = rt.alloc();
-    let mut index = index_of(alloc, small())?;
+fn set_attributes(rt: &impl Abort, alloc: Global, index: &mut Index) -> Result<(), Fail> {
     for &(line, count, ino, mode, size, top) in attributes() {
-        equal_at(&rt, take(alloc, &mut index, line)?, count, line);
+        equal_at(rt, take(alloc, index, line)?, count, line);
         let found = index.object(ino).map(|o| (o.mode, o.size));
-        equal_at(&rt, found, Some((mode, size)), line);
-        equal_at(&rt, index.top(ino), top, line);
+        equal_at(rt, found, Some((mode, size)), line);
+        equal_at(rt, index.top(ino), top, line);
     }
+    Ok(())
+}
+
+/// Objects that got attributes have their owners and times.
+fn are_set(rt: &impl Abort, index: &Index) {
     for ino in [1, 2, 3, 58] {
         let found = index
             .object(ino)
             .map(|o| (o.uid, o.gid, o.atime, o.mtime, o.ctime));
-        equal_at(&rt, found, Some((5, 6, 1, 2, 7)), ino);
+        equal_at(rt, found, Some((5, 6, 1, 2, 7)), ino);
     }
+}
+
+#[test]
+fn what_attributes_leave(rt: HostRuntime) -> Result<(), Fail> {
+    let mut index = index_of(rt.alloc(), small())?;
+    set_attributes(&rt, rt.alloc(), &mut index)?;
+    are_set(&rt, &index);
     equal(
         &rt,
         index.object(4).map(|o| (o.mode, o.uid, o.ctime)),
@@ -113,28 +136,35 @@ fn devices() -> &'static [(&'static str, u32, u32, u32)] {
     ]
 }
 
-/// A device has no bytes, whatever its node has.
-#[test]
-fn what_devices_leave(rt: HostRuntime) -> Result<(), Fail> {
-    let alloc = rt.alloc();
-    let mut index = index_of(alloc, small())?;
+fn make_devices(rt: &impl Abort, alloc: Global, index: &mut Index) -> Result<(), Fail> {
     for &(line, ino, mode, size) in devices() {
-        equal_at(&rt, take(alloc, &mut index, line)?, 2, line);
+        equal_at(rt, take(alloc, index, line)?, 2, line);
         let found = index.object(ino).map(|o| (o.mode, o.size));
-        equal_at(&rt, found, Some((mode, size)), line);
+        equal_at(rt, found, Some((mode, size)), line);
     }
     Ok(())
 }
 
+/// A device has no bytes, whatever its node has.
 #[test]
-fn other_permission_bits(rt: HostRuntime) {
-    let rows = [
+fn what_devices_leave(rt: HostRuntime) -> Result<(), Fail> {
+    let mut index = index_of(rt.alloc(), small())?;
+    make_devices(&rt, rt.alloc(), &mut index)
+}
+
+/// Modes, permission bits, and the modes that have them.
+fn modes() -> &'static [(u32, u32, u32)] {
+    &[
         (0o100644, 0o600, 0o100600),
         (0o047777, 0, 0o040000),
         (0, 0o10777, 0o777),
         (u32::MAX, 0o7776, u32::MAX - 1),
-    ];
-    for (mode, permissions, wanted) in rows {
+    ]
+}
+
+#[test]
+fn other_permission_bits(rt: HostRuntime) {
+    for &(mode, permissions, wanted) in modes() {
         equal_at(&rt, with_permissions(mode, permissions), wanted, mode);
     }
 }
@@ -154,14 +184,46 @@ fn names() -> &'static [(&'static str, usize, &'static str, &'static str)] {
     ]
 }
 
+/// The operation of a line has this answer.
+fn answers(
+    rt: &impl Abort,
+    alloc: Global,
+    index: &Index,
+    line: &str,
+    wanted: &str,
+) -> Result<(), Fail> {
+    let found = answer(alloc, index, line)?;
+    equal_at(rt, found.as_str(), wanted, line);
+    Ok(())
+}
+
+fn take_names(rt: &impl Abort, alloc: Global, index: &mut Index) -> Result<(), Fail> {
+    for &(line, count, next, wanted) in names() {
+        equal_at(rt, take(alloc, index, line)?, count, line);
+        answers(rt, alloc, index, next, wanted)?;
+    }
+    Ok(())
+}
+
 #[test]
 fn what_names_leave(rt: HostRuntime) -> Result<(), Fail> {
-    let alloc = rt.alloc();
-    let mut index = index_of(alloc, small())?;
-    for &(line, count, next, wanted) in names() {
-        equal_at(&rt, take(alloc, &mut index, line)?, count, line);
-        let found = answer(alloc, &index, next)?;
-        equal_at(&rt, found.as_str(), wanted, line);
+    let mut index = index_of(rt.alloc(), small())?;
+    take_names(&rt, rt.alloc(), &mut index)
+}
+
+fn after_the_last() -> &'static [(&'static str, &'static str)] {
+    &[
+        ("create /x 644", "O12 Exhausted"),
+        ("mkdir /y/x 755", "O12 Exhausted"),
+        ("link /z /y/x", "O3 NotFound"),
+        ("rename /y /x", "set 1 x 4294967295, clear 1 y"),
+        ("rename /y /y/x", "O8 IntoItself"),
+    ]
+}
+
+fn refuse_numbers(rt: &impl Abort, alloc: Global, index: &Index) -> Result<(), Fail> {
+    for &(line, wanted) in after_the_last() {
+        answers(rt, alloc, index, line, wanted)?;
     }
     Ok(())
 }
@@ -173,16 +235,5 @@ fn what_the_last_number_leaves(rt: HostRuntime) -> Result<(), Fail> {
     equal(&rt, take(alloc, &mut index, "mkdir /y 755")?, 2);
     equal(&rt, index.next(), 4_294_967_296);
     equal(&rt, index.top(u32::MAX), 1);
-    let rows = [
-        ("create /x 644", "O12 Exhausted"),
-        ("mkdir /y/x 755", "O12 Exhausted"),
-        ("link /z /y/x", "O3 NotFound"),
-        ("rename /y /x", "set 1 x 4294967295, clear 1 y"),
-        ("rename /y /y/x", "O8 IntoItself"),
-    ];
-    for (line, wanted) in rows {
-        let found = answer(alloc, &index, line)?;
-        equal_at(&rt, found.as_str(), wanted, line);
-    }
-    Ok(())
+    refuse_numbers(&rt, alloc, &index)
 }

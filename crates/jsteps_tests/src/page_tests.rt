@@ -4,9 +4,16 @@ use crate::checks::{equal, equal_at};
 use crate::lines::answer_by;
 use crate::trees::{index_of, small};
 use jscan::Page;
+use jsteps::Index;
+use std::alloc::Global;
+use std::process::Abort;
 use std::test::Fail;
 
-fn rows() -> &'static [(Page, &'static str, &'static str)] {
+/// A page, a line, and its answer.
+type Row = (Page, &'static str, &'static str);
+
+/// Writes and cuts.
+fn written() -> &'static [Row] {
     &[
         (Page::P8192, "write /a 0 8192", "put 2 0 8192"),
         (Page::P8192, "write /a 0 8193", "put 2 0 8192, put 2 8192 1"),
@@ -38,6 +45,14 @@ fn rows() -> &'static [(Page, &'static str, &'static str)] {
             "write /a 0 6465",
             "put 2 0 4096, put 2 4096 2369",
         ),
+        (Page::P16384, "truncate /a 20000", "zero 2 19990"),
+        (Page::P16384, "write / 0 1", "O1 BadPath"),
+    ]
+}
+
+/// New files.
+fn made() -> &'static [Row] {
+    &[
         (
             Page::P8192,
             "file /x 644 8193",
@@ -63,20 +78,23 @@ fn rows() -> &'static [(Page, &'static str, &'static str)] {
             "file /x 644 16384",
             "make 100644 5 6 [16384], set 1 x 58",
         ),
-        (Page::P16384, "truncate /a 20000", "zero 2 19990"),
-        (Page::P16384, "write / 0 1", "O1 BadPath"),
     ]
+}
+
+fn agree(rt: &impl Abort, alloc: Global, index: &Index, rows: &[Row]) -> Result<(), Fail> {
+    for &(page, line, wanted) in rows {
+        let found = answer_by(alloc, index, line, page)?;
+        equal_at(rt, found.as_str(), wanted, line);
+    }
+    Ok(())
 }
 
 /// A piece of 6,465 bytes is two puts, since its node's length would spell the magic of a header.
 #[test]
 fn bytes_are_cut_at_pages(rt: HostRuntime) -> Result<(), Fail> {
     let index = index_of(rt.alloc(), small())?;
-    for &(page, line, wanted) in rows() {
-        let found = answer_by(rt.alloc(), &index, line, page)?;
-        equal_at(&rt, found.as_str(), wanted, line);
-    }
-    Ok(())
+    agree(&rt, rt.alloc(), &index, written())?;
+    agree(&rt, rt.alloc(), &index, made())
 }
 
 #[test]

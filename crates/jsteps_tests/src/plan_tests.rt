@@ -93,7 +93,8 @@ fn names() -> &'static [(&'static str, &'static str)] {
     ]
 }
 
-fn alone() -> &'static [(&'static str, &'static str)] {
+/// Paths that lead nowhere.
+fn nowhere() -> &'static [(&'static str, &'static str)] {
     &[
         ("mkdir x 755", "O1 BadPath"),
         ("create  644", "O1 BadPath"),
@@ -116,6 +117,14 @@ fn alone() -> &'static [(&'static str, &'static str)] {
         ("remove /s/x", "O4 NotDirectory"),
         ("rename /c/x /y", "O4 NotDirectory"),
         ("rename /a /s/y", "O4 NotDirectory"),
+        ("rename / /x", "O1 BadPath"),
+        ("remove /", "O1 BadPath"),
+    ]
+}
+
+/// What is there forbids it, or what is asked for.
+fn forbidden() -> &'static [(&'static str, &'static str)] {
+    &[
         ("mkdir /d 755", "O5 Exists"),
         ("create /a 644", "O5 Exists"),
         ("symlink /s t", "O5 Exists"),
@@ -138,8 +147,12 @@ fn alone() -> &'static [(&'static str, &'static str)] {
         ("create /x 100644", "O10 BadMode"),
         ("symlink /x ", "O11 BadTarget"),
         ("symlink /x a\0b", "O11 BadTarget"),
-        ("rename / /x", "O1 BadPath"),
-        ("remove /", "O1 BadPath"),
+    ]
+}
+
+/// The same of FIFOs, sockets and devices.
+fn special() -> &'static [(&'static str, &'static str)] {
+    &[
         ("fifo / 644", "O1 BadPath"),
         ("socket x 644", "O1 BadPath"),
         ("fifo /none/x 644", "O3 NotFound"),
@@ -170,6 +183,7 @@ fn root() -> &'static [(&'static str, &'static str)] {
     ]
 }
 
+/// Two refusals apply, of which the first is told: paths.
 fn pairs() -> &'static [(&'static str, &'static str)] {
     &[
         ("rename x /none/y", "O1 BadPath"),
@@ -194,6 +208,12 @@ fn pairs() -> &'static [(&'static str, &'static str)] {
         ("write /q 2147483647 1", "O3 NotFound"),
         ("mkdir /none/x 10000", "O3 NotFound"),
         ("symlink /none/x ", "O3 NotFound"),
+    ]
+}
+
+/// The same of what paths lead to.
+fn later_pairs() -> &'static [(&'static str, &'static str)] {
+    &[
         ("rename /a/b /d", "O4 NotDirectory"),
         ("link /d /a/x", "O4 NotDirectory"),
         ("rename /d /d/f/x", "O4 NotDirectory"),
@@ -408,42 +428,60 @@ fn few_left() -> &'static [(&'static str, &'static str)] {
 
 #[test]
 fn plans(rt: HostRuntime) -> Result<(), Fail> {
-    let alloc = rt.alloc();
-    agree(&rt, alloc, small(), bytes())?;
-    agree(&rt, alloc, small(), names())?;
-    agree(&rt, alloc, small(), alone())?;
-    agree(&rt, alloc, small(), root())?;
-    agree(&rt, alloc, small(), pairs())?;
-    agree(&rt, alloc, small(), missing())?;
-    agree(&rt, alloc, small(), files())?;
-    agree(&rt, alloc, small(), replaced())?;
-    agree(&rt, alloc, small(), attributes())?;
-    agree(&rt, alloc, kinds(), other_kinds())
+    for rows in [
+        bytes(),
+        names(),
+        nowhere(),
+        forbidden(),
+        special(),
+        root(),
+        pairs(),
+        later_pairs(),
+        missing(),
+        files(),
+        replaced(),
+        attributes(),
+    ] {
+        agree(&rt, rt.alloc(), small(), rows)?;
+    }
+    Ok(())
 }
 
 #[test]
-fn versions_and_numbers_run_out(rt: HostRuntime) -> Result<(), Fail> {
-    let alloc = rt.alloc();
-    let last = [
+fn plans_of_other_kinds(rt: HostRuntime) -> Result<(), Fail> {
+    agree(&rt, rt.alloc(), kinds(), other_kinds())
+}
+
+/// The greatest number alone is left.
+fn last() -> &'static [(&'static str, &'static str)] {
+    &[
         ("create /y 644", "make 100644 5 6 [], set 1 y 4294967295"),
         (
             "file /y 644 4097",
             "make 100644 5 6 [4096], put 4294967295 4096 1, set 1 y 4294967295",
         ),
-    ];
+    ]
+}
+
+#[test]
+fn versions_and_numbers_run_out(rt: HostRuntime) -> Result<(), Fail> {
+    let alloc = rt.alloc();
     agree(&rt, alloc, spent(), none_left())?;
     agree(&rt, alloc, almost_spent(), few_left())?;
-    agree(&rt, alloc, one_number_left(), &last)
+    agree(&rt, alloc, one_number_left(), last())
+}
+
+fn beside_nothing() -> &'static [(&'static str, &'static str)] {
+    &[
+        ("create /r 644", "make 100644 5 6 [], set 1 r 58"),
+        ("create /q 644", "O5 Exists"),
+        ("remove /q", "clear 1 q"),
+    ]
 }
 
 #[test]
 fn names_without_objects_count(rt: HostRuntime) -> Result<(), Fail> {
-    let rows = [
-        ("create /r 644", "make 100644 5 6 [], set 1 r 58"),
-        ("create /q 644", "O5 Exists"),
-        ("remove /q", "clear 1 q"),
-    ];
-    agree(&rt, rt.alloc(), dangling(), &rows)
+    agree(&rt, rt.alloc(), dangling(), beside_nothing())
 }
 
 fn renamed_root() -> &'static [(&'static str, &'static str)] {
