@@ -45,7 +45,7 @@ refused_reads T e size image told n f not =
     subst (λ (x : ProgramFault). ReadsFile {T = T} told n n (Err x)) (sym not.1) (conversion_reads T told n not.0)
 
 -- nor of a report
-no_scan : (f : ConvertFault) → fault_of_conversion f ≡ program.Scan scan.BlockSize → ⊥
+pub no_scan : (f : ConvertFault) → fault_of_conversion f ≡ program.Scan scan.BlockSize → ⊥
 no_scan convert.BlockSize is = cc
 no_scan convert.TooLarge is = cc
 no_scan (convert.Incompatible addr nodetype) is = cc
@@ -109,13 +109,6 @@ not_written held e size output image made old n (program.Data addr) is not = abs
 not_written held e size output image made old n (program.TooLong addr) is not = absurd not
 not_written held e size output image made old n (program.Clash addr other) is not = absurd not
 
--- ---- `--decompress`
-
--- an answer with another number of findings has the same fault
-same_fault : (n : ℕ) (done : Result ℕ ProgramFault) (f : ProgramFault) → with_findings n done ≡ Err f → done ≡ Err f
-same_fault n (Ok x) f is = cc
-same_fault n (Err g) f is = is
-
 abbrev fault_or : ProgramFault → Result ℕ ProgramFault → ProgramFault
 fault_or other (Ok x) = other
 fault_or other (Err f) = f
@@ -123,149 +116,6 @@ fault_or other (Err f) = f
 -- one answer, one fault
 pub one_fault : {f g : ProgramFault} → IsErrOf {T = ℕ} {E = ProgramFault} (Err f) g → f ≡ g
 one_fault {f} is = ap (fault_or f) is
-
--- `ls`: its file is not read, or nothing is made of it, or the tree of what is made goes out
-pub list_unread : (told : List ℕ → Option (List ℕ)) (held : Held) (e : Endian) (options : Options) (name : List ℕ) (old : Option (List ℕ)) (n : ℕ) (f : ProgramFault)
-    → IsUnreadFile name (told name) f → Meets told held e (ListParsed options true name None) (sink_change old old n n) (Err f)
-list_unread told held e options name old n f not = record {
-  block_size = λ is. absurd (subst (IsUnreadFile name (told name)) (one_fault is) not);
-  told_of = λ wrong. tt;
-  put = inr (f, refl, not, refl, refl);
-}
-
-pub list_refused : (told : List ℕ → Option (List ℕ)) (held : Held) (e : Endian) (options : Options) (name image : List ℕ) (old : Option (List ℕ)) (n : ℕ) (f : ProgramFault)
-    → AreLoaded (told name) image → IsNotConverted e options.geometry.block image f → Meets told held e (ListParsed options true name None) (sink_change old old n n) (Err f)
-list_refused told held e options name image old n f of not = record {
-  block_size = λ is. absurd (no_scan not.0 (sym not.1 ∙ one_fault is));
-  told_of = λ wrong. tt;
-  put = inl (image, of.0, inr (f, refl, not, refl, refl));
-}
-
-pub list_done : (told : List ℕ → Option (List ℕ)) (held : Held) (e : Endian) (options : Options) (name image made : List ℕ) (old new : Option (List ℕ)) (before now : ℕ) (done : Result ℕ ProgramFault)
-    → AreLoaded (told name) image → Converts e options.geometry.block image (Ok made) → PutsListing (list_request e options.geometry.block None) made (sink_change old new before now) done
-    → Meets told held e (ListParsed options true name None) (sink_change old new before now) (with_findings (found_in e options.geometry.block image).noted done)
-list_done told held e options name image made old new before now done of is puts = record {
-  block_size = λ wrong. absurd ((subst (PutsListing (list_request e options.geometry.block None) made (sink_change old new before now)) (same_fault _ done _ wrong) puts).2.0);
-  told_of = λ wrong. tt;
-  put = inl (image, of.0, inl (made, done, is, puts, refl));
-}
-
--- `ls` of a path
-pub part_unread : (told : List ℕ → Option (List ℕ)) (held : Held) (e : Endian) (options : Options) (name word path : List ℕ) (old : Option (List ℕ)) (n : ℕ) (f : ProgramFault)
-    → path_of word ≡ Some path → IsUnreadFile name (told name) f → Meets told held e (ListParsed options true name (Some word)) (sink_change old old n n) (Err f)
-part_unread told held e options name word path old n f is not = by f not
-  where
-    by : (f : ProgramFault) → IsUnreadFile name (told name) f → Meets told held e (ListParsed options true name (Some word)) (sink_change old old n n) (Err f)
-    by (program.Load f) not = record { block_size = λ wrong. cc; told_of = λ wrong. tt; put = inr (program.Load f, refl, (not, rw is refl), refl, refl) }
-    by (program.File file) not = record { block_size = λ wrong. cc; told_of = λ wrong. tt; put = inr (program.File file, refl, (not, rw is refl), refl, refl) }
-    by (program.NotRead file) not = record { block_size = λ wrong. cc; told_of = λ wrong. tt; put = inr (program.NotRead file, refl, (not, rw is refl), refl, refl) }
-    by (program.Scan f) not = absurd not
-    by (program.Mount f) not = absurd not
-    by (program.Listing k) not = absurd not
-    by (program.Session f line cause) not = absurd not
-    by (program.Path f) not = absurd not
-    by program.NotRegular not = absurd not
-    by program.Output not = absurd not
-    by program.OutOfMemory not = absurd not
-    by (program.NoSpace folder) not = absurd not
-    by (program.Data addr) not = absurd not
-    by (program.TooLong addr) not = absurd not
-    by (program.Clash addr other) not = absurd not
-
-pub part_refused : (told : List ℕ → Option (List ℕ)) (held : Held) (e : Endian) (options : Options) (name word path image : List ℕ) (old : Option (List ℕ)) (n : ℕ) (f : ProgramFault)
-    → path_of word ≡ Some path → AreLoaded (told name) image → IsNotConverted e options.geometry.block image f
-    → Meets told held e (ListParsed options true name (Some word)) (sink_change old old n n) (Err f)
-part_refused told held e options name word path image old n f path_is of not = record {
-  block_size = λ is. absurd (no_scan not.0 (sym not.1 ∙ one_fault is));
-  told_of = λ wrong. tt;
-  put = inl (image, of.0, (path, path_is, inr (f, refl, not, refl, refl)));
-}
-
-pub part_done : (told : List ℕ → Option (List ℕ)) (held : Held) (e : Endian) (options : Options) (name word path image made : List ℕ) (old new : Option (List ℕ)) (before now : ℕ) (done : Result ℕ ProgramFault)
-    → path_of word ≡ Some path → AreLoaded (told name) image → Converts e options.geometry.block image (Ok made) → PutsListing (list_request e options.geometry.block (Some path)) made (sink_change old new before now) done
-    → Meets told held e (ListParsed options true name (Some word)) (sink_change old new before now) (with_findings (found_in e options.geometry.block image).noted done)
-part_done told held e options name word path image made old new before now done path_is of is puts = record {
-  block_size = λ wrong. absurd ((subst (PutsListing (list_request e options.geometry.block (Some path)) made (sink_change old new before now)) (same_fault _ done _ wrong) puts).2.0.2);
-  told_of = λ wrong. tt;
-  put = inl (image, of.0, (path, path_is, inl (made, done, is, puts, refl)));
-}
-
--- `cat`, of a path
-pub cat_unread : (told : List ℕ → Option (List ℕ)) (held : Held) (e : Endian) (options : Options) (name word path : List ℕ) (old : Option (List ℕ)) (n : ℕ) (f : ProgramFault)
-    → path_of word ≡ Some path → IsUnreadFile name (told name) f → Meets told held e (CatParsed options true name word) (sink_change old old n n) (Err f)
-cat_unread told held e options name word path old n f is not = by f not
-  where
-    by : (f : ProgramFault) → IsUnreadFile name (told name) f → Meets told held e (CatParsed options true name word) (sink_change old old n n) (Err f)
-    by (program.Load f) not = record { block_size = λ wrong. cc; told_of = λ wrong. tt; put = inr (program.Load f, refl, (not, rw is refl), refl, refl) }
-    by (program.File file) not = record { block_size = λ wrong. cc; told_of = λ wrong. tt; put = inr (program.File file, refl, (not, rw is refl), refl, refl) }
-    by (program.NotRead file) not = record { block_size = λ wrong. cc; told_of = λ wrong. tt; put = inr (program.NotRead file, refl, (not, rw is refl), refl, refl) }
-    by (program.Scan f) not = absurd not
-    by (program.Mount f) not = absurd not
-    by (program.Listing k) not = absurd not
-    by (program.Session f line cause) not = absurd not
-    by (program.Path f) not = absurd not
-    by program.NotRegular not = absurd not
-    by program.Output not = absurd not
-    by program.OutOfMemory not = absurd not
-    by (program.NoSpace folder) not = absurd not
-    by (program.Data addr) not = absurd not
-    by (program.TooLong addr) not = absurd not
-    by (program.Clash addr other) not = absurd not
-
-pub cat_refused : (told : List ℕ → Option (List ℕ)) (held : Held) (e : Endian) (options : Options) (name word path image : List ℕ) (old : Option (List ℕ)) (n : ℕ) (f : ProgramFault)
-    → path_of word ≡ Some path → AreLoaded (told name) image → IsNotConverted e options.geometry.block image f
-    → Meets told held e (CatParsed options true name word) (sink_change old old n n) (Err f)
-cat_refused told held e options name word path image old n f path_is of not = record {
-  block_size = λ is. absurd (no_scan not.0 (sym not.1 ∙ one_fault is));
-  told_of = λ wrong. tt;
-  put = inl (image, of.0, (path, path_is, inr (f, refl, not, refl, refl)));
-}
-
-pub cat_done : (told : List ℕ → Option (List ℕ)) (held : Held) (e : Endian) (options : Options) (name word path image made : List ℕ) (old new : Option (List ℕ)) (before now : ℕ) (done : Result ℕ ProgramFault)
-    → path_of word ≡ Some path → AreLoaded (told name) image → Converts e options.geometry.block image (Ok made) → PutsFile e options.geometry.block made path (sink_change old new before now) done
-    → Meets told held e (CatParsed options true name word) (sink_change old new before now) (with_findings (found_in e options.geometry.block image).noted done)
-cat_done told held e options name word path image made old new before now done path_is of is puts = record {
-  block_size = λ wrong. absurd ((subst (PutsFile e options.geometry.block made path (sink_change old new before now)) (same_fault _ done _ wrong) puts).2.0.0);
-  told_of = λ wrong. tt;
-  put = inl (image, of.0, (path, path_is, inl (made, done, is, puts, refl)));
-}
-
--- `append`: its image is not read, or nothing is made of it, or its listing is not read, or the operations are run on what is made
-pub append_unread : (told : List ℕ → Option (List ℕ)) (held : Held) (page : Page) (e : Endian) (options : Options) (blocks : ℕ) (name listing output : List ℕ) (old : Option (List ℕ)) (n : ℕ) (f : ProgramFault)
-    → IsUnreadFile name (told name) f → Meets told held e (AppendParsed options blocks page true name listing output) (sink_change old old n n) (Err f)
-append_unread told held page e options blocks name listing output old n f not = record {
-  block_size = λ is. absurd (subst (IsUnreadFile name (told name)) (one_fault is) not);
-  told_of = λ wrong. tt;
-  put = inr (f, refl, inl not, refl, refl);
-}
-
-pub append_refused : (told : List ℕ → Option (List ℕ)) (held : Held) (page : Page) (e : Endian) (options : Options) (blocks : ℕ) (name listing output image : List ℕ) (old : Option (List ℕ)) (n : ℕ) (f : ProgramFault)
-    → AreLoaded (told name) image → IsNotConverted e options.geometry.block image f
-    → Meets told held e (AppendParsed options blocks page true name listing output) (sink_change old old n n) (Err f)
-append_refused told held page e options blocks name listing output image old n f of not = record {
-  block_size = λ is. absurd (no_scan not.0 (sym not.1 ∙ one_fault is));
-  told_of = λ wrong. tt;
-  put = inl (image, of, inr (f, refl, not, refl, refl));
-}
-
-pub append_unlisted : (told : List ℕ → Option (List ℕ)) (held : Held) (page : Page) (e : Endian) (options : Options) (blocks : ℕ) (name listing output image made : List ℕ) (old : Option (List ℕ)) (n : ℕ) (f : ProgramFault)
-    → AreLoaded (told name) image → Converts e options.geometry.block image (Ok made) → IsUnreadFile listing (told listing) f
-    → Meets told held e (AppendParsed options blocks page true name listing output) (sink_change old old n n) (Err f)
-append_unlisted told held page e options blocks name listing output image made old n f of is not = record {
-  block_size = λ wrong. absurd (subst (IsUnreadFile listing (told listing)) (one_fault wrong) not);
-  told_of = λ wrong. tt;
-  put = inr (f, refl, inr (image, of, (made, is), not), refl, refl);
-}
-
-pub append_done : (told : List ℕ → Option (List ℕ)) (held : Held) (page : Page) (e : Endian) (options : Options) (blocks : ℕ) (name listing output image made : List ℕ) (old new : Option (List ℕ)) (before now : ℕ) (done : Result ℕ ProgramFault)
-    → AreLoaded (told name) image → Converts e options.geometry.block image (Ok made) → RunsListed told held (image_form page e options.geometry.block blocks) listing output made (sink_change old new before now) done
-    → IfOk done (IsNotedIn e options.geometry.block made)
-    → Meets told held e (AppendParsed options blocks page true name listing output) (sink_change old new before now) (with_findings (found_in e options.geometry.block image).noted done)
-append_done told held page e options blocks name listing output image made old new before now done of is runs noted = record {
-  block_size = λ wrong. not_scanned told held page e options.geometry.block blocks listing output made old new before now done runs (same_fault _ done _ wrong);
-  told_of = λ wrong. tt;
-  put = inl (image, of, inl (made, done, is, (runs, noted), refl));
-}
 
 -- `decompress`
 pub decompress_unread : (told : List ℕ → Option (List ℕ)) (held : Held) (e : Endian) (options : Options) (name output : List ℕ) (old : Option (List ℕ)) (n : ℕ) (f : ProgramFault)

@@ -8,6 +8,7 @@ pub mod DecompressingLemmas
 pub mod DiffLemmas
 pub mod WritingLemmas
 pub mod HostLemmas
+pub mod LoadingLemmas
 mod LookingLemmas
 pub mod RunLemmas
 pub mod CutRunLemmas

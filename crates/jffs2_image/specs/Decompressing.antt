@@ -1,6 +1,6 @@
 -- What a command does of an image that it decompresses: `decompress`, and a command with
 -- `--decompress`.
-use Rattle.std.specs.Prelude.{◌≡◌, ◌⊎◌, ℕ, Bool, true, false, List, Option, None, Result, Ok, Err}
+use Rattle.std.specs.Prelude.{◌≡◌, ◌⊎◌, ℕ, Bool, true, false, List, Option, None, Some, Result, Ok, Err}
 use Rattle.std.specs.Io.KnownBytes.{Appends}
 use Rattle.flashbase.specs.Device.{PutsPart, next_count}
 use Rattle.flashbase.specs.Sinks.{SinkChange}
@@ -21,6 +21,7 @@ use Rattle.jreport.specs.declared.faults.ProgramFault.{ProgramFault}
 use Rattle.jreport.specs.declared.faults.ProgramFault.TheVariants as program
 use Rattle.jreport.specs.declared.reason.Reason.{Reason}
 use Rattle.jffs2_image.specs.Writes.{GivesText, Held, HoldsNothing, IsFaultOfMaking, IsHanded}
+use Rattle.jffs2_image.specs.declared.decompressing.Subject.{Subject}
 use Rattle.jffs2_image.specs.declared.decompressing.Taken.{Taken}
 
 -- the program's fault that a fault of a conversion is
@@ -53,10 +54,22 @@ pub record IsTaken (e : Endian) (size : ℕ) (image : List ℕ) (taken : Taken) 
   pub made : Converts e size image (Ok taken.image.items)
   pub found : taken.found ≡ found_in e size image
 
+-- what a command goes on with that may be asked to decompress its image: the image, or what
+-- `decompress` makes of it, and then how many findings the image itself has
+abbrev pub IsSubject : Bool → Endian → ℕ → List ℕ → Subject → Type 0
+IsSubject false e size image subject = (subject.image.items ≡ image) × (subject.noted ≡ None)
+IsSubject true e size image subject = Converts e size image (Ok subject.image.items)
+    × (subject.noted ≡ Some (found_in e size image).noted)
+
 -- the same answer, with this number of findings
 abbrev pub with_findings : ℕ → Result ℕ ProgramFault → Result ℕ ProgramFault
 with_findings n (Ok _) = Ok n
 with_findings n (Err fault) = Err fault
+
+-- the same, where there is one
+abbrev pub answer_noting : Option ℕ → Result ℕ ProgramFault → Result ℕ ProgramFault
+answer_noting None answer = answer
+answer_noting (Some n) answer = with_findings n answer
 
 -- What a command puts that may be asked to decompress its image: then it does the same of what
 -- `decompress` makes of it, and answers how many findings the image itself has; or it says why

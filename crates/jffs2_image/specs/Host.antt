@@ -3,6 +3,7 @@
 use Rattle.std.specs.Prelude.{◌≡◌, ◌⊎◌, ◌++◌, ◌≤◌, ℕ, Bool, true, false, IsErrOf, List, [], ◌∷◌, Option, Some, None, Result, Ok, Err, IfSome, IsTrue, bytes_eq, is_some, length, option_map, slice_get, if◌then◌else◌}
 use Rattle.std.specs.Io.KnownBytes.{Appends}
 use Rattle.flashbase.specs.Device.{PutsPart, next_count}
+use Rattle.flashbase.specs.declared.source.LoadFault.{LoadFault}
 use Rattle.flashbase.specs.declared.source.LoadFault.TheVariants as load
 use Rattle.jscan.specs.Image.{greatest_image}
 use Rattle.jlisting.specs.Listing.{lines_of}
@@ -20,10 +21,11 @@ use Rattle.jcommand.specs.declared.parsed.Request.{Request}
 use Rattle.jcommand.specs.declared.command_line.RequestFault.{RequestFault}
 use Rattle.jreport.specs.declared.faults.ProgramFault.{ProgramFault}
 use Rattle.jreport.specs.declared.faults.ProgramFault.TheVariants as program
+use Rattle.jreport.specs.declared.reason.Reason.{Reason}
 use Rattle.jffs2_image.specs.Decompressing.{IsNotConverted}
 use Rattle.jffs2_image.specs.Writes.{FileReads, FileWrites, Held, ImageForm, HoldsFront, HoldsNothing, HoldsPart, IsNamedByLine, IsPartUnread, IsRunCause, IsRunOn, IsTooLong, form_flash, line_on}
-use Rattle.jffs2_image.specs.declared.host.FileFault.{FileFault}
-use Rattle.jffs2_image.specs.declared.host.FileFault.TheVariants as file
+use Rattle.jffs2_image.specs.declared.loading.FileFault.{FileFault}
+use Rattle.jffs2_image.specs.declared.loading.FileFault.TheVariants as file
 use Rattle.jffs2_image.specs.declared.host.MakeFault.{MakeFault}
 use Rattle.jffs2_image.specs.declared.host.MakeFault.TheVariants as make
 use Rattle.jffs2_image.specs.declared.program.Success.{Success}
@@ -32,13 +34,45 @@ use Rattle.jffs2_image.specs.declared.program.Stop.TheVariants as stop
 
 -- ---- files that are read
 
+-- why a file was not read whole, by the fault of its source, which failed for this reason
+abbrev pub file_fault : LoadFault → Reason → FileFault
+file_fault load.Device reason = file.NotRead reason
+file_fault load.TooLarge reason = file.TooLarge
+file_fault load.OutOfMemory reason = file.OutOfMemory
+
+-- what the program tells of a file of this name that was not read whole
+abbrev pub IsToldOf : List ℕ → FileFault → ProgramFault → Type 0
+IsToldOf name (file.NotOpened reason) (program.File told) =
+    (told.name.now ≡ name) × (told.reason ≡ reason)
+IsToldOf name (file.NotRead reason) (program.NotRead told) =
+    (told.name.now ≡ name) × (told.reason ≡ reason)
+IsToldOf name file.TooLarge (program.Load load.TooLarge) = Unit {0}
+IsToldOf name file.OutOfMemory (program.Load load.OutOfMemory) = Unit {0}
+IsToldOf name _ _ = ⊥
+
+-- the file's name is told with the fault
+abbrev pub TellsName : FileFault → Type 0
+TellsName (file.NotOpened reason) = Unit {0}
+TellsName (file.NotRead reason) = Unit {0}
+TellsName _ = ⊥
+
+-- a file that failed while it was read did so for this reason
+abbrev pub HasReason : Reason → FileFault → Type 0
+HasReason reason (file.NotRead told) = told ≡ reason
+HasReason reason _ = Unit {0}
+
+-- the same of the program's own faults
+abbrev pub TellsReason : Reason → ProgramFault → Type 0
+TellsReason reason (program.NotRead file) = file.reason ≡ reason
+TellsReason reason _ = Unit {0}
+
 -- a file that was not opened, or failed while it was read, counts once
 abbrev pub CountsFile : {T : Type 0} → ℕ → ℕ → Result T FileFault → Type 0
 CountsFile before now (Ok _) = now ≡ before
 CountsFile before now (Err (file.NotOpened reason)) = now ≡ next_count before
-CountsFile before now (Err (file.Load load.Device)) = now ≡ next_count before
-CountsFile before now (Err (file.Load load.TooLarge)) = now ≡ before
-CountsFile before now (Err (file.Load load.OutOfMemory)) = now ≡ before
+CountsFile before now (Err (file.NotRead reason)) = now ≡ next_count before
+CountsFile before now (Err file.TooLarge) = now ≡ before
+CountsFile before now (Err file.OutOfMemory) = now ≡ before
 
 -- the same of the program's own faults
 abbrev pub IsReadFault : ℕ → ℕ → ProgramFault → Type 0

@@ -57,13 +57,13 @@ abbrev pub found_answer : Result Bool ProgramFault → Result ℕ ProgramFault
 found_answer (Ok found) = Ok (number_found found)
 found_answer (Err fault) = Err fault
 
--- the image of a request is the file of the name that it gives, where the host tells its bytes;
--- `build` has none
+-- the image of a request is the file of the name that it gives, where the host tells its bytes, and
+-- no longer than the greatest where it is held in memory; `build` has none
 abbrev pub IsImageOf : (List ℕ → Option (List ℕ)) → Parsed → List ℕ → Type 0
 IsImageOf told (ScanParsed options name) image = AreOf (told name) image
-IsImageOf told (CheckParsed options shape name) image = AreOf (told name) image
-IsImageOf told (ListParsed options decompress name path) image = AreOf (told name) image
-IsImageOf told (CatParsed options decompress name word) image = AreOf (told name) image
+IsImageOf told (CheckParsed options shape name) image = AreLoaded (told name) image
+IsImageOf told (ListParsed options decompress name path) image = AreLoaded (told name) image
+IsImageOf told (CatParsed options decompress name word) image = AreLoaded (told name) image
 IsImageOf told (BuildParsed options blocks page listing output) image = image ≡ []
 IsImageOf told (AppendParsed options blocks page decompress name listing output) image =
     AreLoaded (told name) image
@@ -94,13 +94,6 @@ abbrev pub PutsNamed : List ℕ → (List ℕ → SinkChange → Result ℕ Prog
 PutsNamed name Puts image sink result =
     (answer : Result ℕ ProgramFault) × NamesUnread name answer result × Puts image sink answer
 
--- the same where the image may be one to decompress, which is held in memory first
-abbrev pub PutsRead : Bool → List ℕ → Endian → ℕ
-    → (List ℕ → SinkChange → Result ℕ ProgramFault → Type 0) → List ℕ → SinkChange
-    → Result ℕ ProgramFault → Type 0
-PutsRead false name e size Puts = PutsNamed name Puts
-PutsRead true name e size Puts = PutsTaken true e size Puts
-
 -- What is put of an image, or why no more of it is; with `--decompress`, of what `decompress` makes
 -- of it. The answer of
 -- `build` is no finding, and that of `append` the number of findings of its base.
@@ -109,17 +102,17 @@ abbrev pub PutsAnswer : (List ℕ → Option (List ℕ)) → Held → Endian →
 PutsAnswer told held e (ScanParsed options name) =
     PutsNamed name (PutsStream e options.geometry.block)
 PutsAnswer told held e (CheckParsed options shape name) =
-    PutsNamed name (PutsJudged e options.geometry.block shape)
+    PutsJudged e options.geometry.block shape
 PutsAnswer told held e (ListParsed options decompress name None) =
-    PutsRead decompress name e options.geometry.block
+    PutsTaken decompress e options.geometry.block
     (PutsListing (list_request e options.geometry.block None))
 PutsAnswer told held e (ListParsed options decompress name (Some word)) =
     λ image sink answer. (path : List ℕ) × (path_of word ≡ Some path)
-    × PutsRead decompress name e options.geometry.block
+    × PutsTaken decompress e options.geometry.block
     (PutsListing (list_request e options.geometry.block (Some path))) image sink answer
 PutsAnswer told held e (CatParsed options decompress name word) =
     λ image sink answer. (path : List ℕ) × (path_of word ≡ Some path)
-    × PutsRead decompress name e options.geometry.block
+    × PutsTaken decompress e options.geometry.block
     (λ bytes. PutsFile e options.geometry.block bytes path) image sink answer
 PutsAnswer told held e (BuildParsed options blocks page listing output) =
     λ image sink answer.
@@ -140,30 +133,28 @@ abbrev pub IsUnopened : List ℕ → ProgramFault → Type 0
 IsUnopened name (program.File file) = file.name.now ≡ name
 IsUnopened name _ = ⊥
 
--- the same, and one that is decompressed can't be read to its end either, since it is held in
--- memory first
-abbrev pub IsUnreadIf : Bool → List ℕ → Option (List ℕ) → ProgramFault → Type 0
-IsUnreadIf false file told fault = IsUnopened file fault
-IsUnreadIf true file told fault = IsUnreadFile file told fault
-
--- why no image is read: its file can't be opened, or the word of the path can't be read, which is
--- judged before; where an image is written, it or the listing can't be opened, or not be read to
--- its end, and the listing comes after the image, and after what `decompress` makes of it
+-- Why no image is read: its file can't be opened, or not be read to its end where it is held in
+-- memory. The word of a path is judged before the file is opened, and the size of a block before
+-- `check` reads it. Where an image is written, the listing comes after it, and after what
+-- `decompress` makes of it.
 abbrev pub IsEarlyFault : (List ℕ → Option (List ℕ)) → Endian → Parsed → ProgramFault → Type 0
 IsEarlyFault told e (ScanParsed options image) fault = IsUnopened image fault
-IsEarlyFault told e (CheckParsed options shape image) fault = IsUnopened image fault
+IsEarlyFault told e (CheckParsed options shape image) (program.Scan scan.BlockSize) =
+    IsFalse (is_block_size options.geometry.block)
+IsEarlyFault told e (CheckParsed options shape image) fault =
+    IsUnreadFile image (told image) fault
 IsEarlyFault told e (ListParsed options decompress image None) fault =
-    IsUnreadIf decompress image (told image) fault
+    IsUnreadFile image (told image) fault
 IsEarlyFault told e (ListParsed options decompress image (Some word)) (program.Path find.BadPath) =
     path_of word ≡ None
 IsEarlyFault told e (ListParsed options decompress image (Some word)) program.OutOfMemory = Unit {0}
 IsEarlyFault told e (ListParsed options decompress image (Some word)) fault =
-    IsUnreadIf decompress image (told image) fault × IsTrue (is_some (path_of word))
+    IsUnreadFile image (told image) fault × IsTrue (is_some (path_of word))
 IsEarlyFault told e (CatParsed options decompress image word) (program.Path find.BadPath) =
     path_of word ≡ None
 IsEarlyFault told e (CatParsed options decompress image word) program.OutOfMemory = Unit {0}
 IsEarlyFault told e (CatParsed options decompress image word) fault =
-    IsUnreadIf decompress image (told image) fault × IsTrue (is_some (path_of word))
+    IsUnreadFile image (told image) fault × IsTrue (is_some (path_of word))
 IsEarlyFault told e (BuildParsed options blocks page listing output) fault =
     IsUnreadFile listing (told listing) fault
 IsEarlyFault told e (AppendParsed options blocks page decompress image listing output) fault =

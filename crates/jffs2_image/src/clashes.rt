@@ -19,9 +19,9 @@ ghost use Rattle.jffs2_image.specs.Placing.{telling, writes};
 
 use crate::decompressing::{conversion_fault, sink_cause};
 use crate::host::{Loader, MakeFault, Maker};
+use crate::loading::load_file;
 use crate::output::{Output, finished};
 use crate::program::{note, report_fault};
-use crate::writing::load_file;
 use flashbase::{DeviceFault, Sink};
 use jcommand::{Decompression, Outcome};
 use jconvert::{ConvertFault, LeftOut, Parted, judge, part, write_nodes};
@@ -172,7 +172,7 @@ fn apart_file<'a, E: Order, L: Loader, M: Maker, T: Sink>(
         image,
         output,
     } = asked;
-    let bytes = match load_file(loader, image) {
+    let bytes = match load_file(alloc, loader, image) {
         Ok(bytes) => bytes,
         Err(fault) => return Err(fault),
     };

@@ -14,9 +14,10 @@ ghost use Rattle.flashbase.specs.Sinks.{change_of};
 ghost use Rattle.jffs2_image.specs.Tasks.{passage, reads};
 
 use crate::host::Loader;
+use crate::loading::{load_file, load_parts};
 use crate::output::{Output, finished};
 use crate::program::report_fault;
-use crate::writing::{Texts, load_file, load_parts, numbers_of};
+use crate::writing::{Texts, numbers_of};
 use flashbase::Sink;
 use jbuild::{HostFiles, operations};
 use jcommand::{Cuts, Outcome};
@@ -155,7 +156,7 @@ fn load_base<'a, L: Loader>(
     let Some(name) = on else {
         return Ok(Vec::new(alloc));
     };
-    match load_file(loader, name) {
+    match load_file(alloc, loader, name) {
         Ok(bytes) => Ok(bytes),
         Err(fault) => Err(fault),
     }
@@ -188,7 +189,7 @@ fn tell_files<'a, E: Order, L: Loader, T: Sink>(
         Ok(base) => base,
         Err(fault) => return Err(fault),
     };
-    texts.listing = match load_file(loader, asked.listing) {
+    texts.listing = match load_file(alloc, loader, asked.listing) {
         Ok(text) => text,
         Err(fault) => return Err(fault),
     };

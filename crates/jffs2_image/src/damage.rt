@@ -6,9 +6,9 @@ ghost use Rattle.flashbase.specs.Sinks.{change_of};
 ghost use Rattle.jffs2_image.specs.Tasks.{passage, reads};
 
 use crate::host::Loader;
+use crate::loading::load_file;
 use crate::output::{Output, finished};
 use crate::program::report_fault;
-use crate::writing::load_file;
 use flashbase::Sink;
 use jcommand::{Examination, Options, Outcome};
 use jdamage::{DamageFault, Totals, put_damage};
@@ -54,7 +54,7 @@ fn examine_file<'a, E: Order, L: Loader, T: Output>(
         (reads L.told L.failures loader.old loader.new) (output.new ≡ output.old)
         (passage T.taken T.given T.failures output.old output.new) result }
 {
-    let image = match load_file(loader, asked.image) {
+    let image = match load_file(alloc, loader, asked.image) {
         Ok(image) => image,
         Err(fault) => return Err(fault),
     };

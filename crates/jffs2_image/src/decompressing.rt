@@ -1,16 +1,15 @@
 //! Images that are decompressed: in memory, for a command that goes on with them, and into a file.
-ghost use Rattle.std.specs.Prelude.{◌≡◌, ◌⊎◌, ℕ, List, None, IfOk, IfErr, OnOk};
+ghost use Rattle.std.specs.Prelude.{◌≡◌, ℕ, None, IfOk, IfErr, IsTrue, OnOk};
 ghost use Rattle.std.specs.Io.KnownBytes.{Appends};
 ghost use Rattle.jconvert.specs.Converting.{convert_fault, converted_image};
 ghost use Rattle.jconvert.specs.Holding.{IsHeldOf};
-ghost use Rattle.jffs2_image.specs.Decompressing.{DecompressesFile, HoldsMade, IsNotConverted, IsNotWritten, IsSinkCause, IsTaken, fault_of_conversion};
-ghost use Rattle.jffs2_image.specs.Host.{AreLoaded, BlamesDecompress, HasFailed, MakesFile, ReadsFile};
-ghost use Rattle.jffs2_image.specs.Writes.{GivesText, IsFaultOfMaking, IsUnreadFile};
+ghost use Rattle.jffs2_image.specs.Decompressing.{DecompressesFile, HoldsMade, IsNotConverted, IsNotWritten, IsSinkCause, IsSubject, IsTaken, answer_noting, fault_of_conversion};
+ghost use Rattle.jffs2_image.specs.Host.{BlamesDecompress, HasFailed, MakesFile};
+ghost use Rattle.jffs2_image.specs.Writes.{GivesText, IsFaultOfMaking};
 ghost use Rattle.flashbase.specs.Sinks.{change_of};
 
-use crate::host::{Loader, MakeFault, Maker};
+use crate::host::{MakeFault, Maker};
 use crate::output::Output;
-use crate::writing::load_file;
 use flashbase::{DeviceFault, Sink};
 use jconvert::{ConvertFault, HELD_MOST, decompressed, judge, write_converted};
 use jlog::SessionFault;
@@ -85,31 +84,49 @@ pub fn take_image<E: Order>(
     }
 }
 
-/// The same of the file of a name.
-pub fn take_file<'a, E: Order, L: Loader>(
+/// The image that a command goes on with.
+#[derive(Drop)]
+pub(crate) struct Subject {
+    pub image: Vec<u8>,
+    /// How many findings the image has that was read, where this is made of it.
+    pub noted: Option<u64>,
+}
+
+/// An image that was read, or what `decompress` makes of it, where that is asked for.
+pub(crate) fn subject_of<E: Order>(
     alloc: Global,
-    loader: &mut L,
+    image: Vec<u8>,
     geometry: Geometry,
-    name: &'a str,
-) -> Result<Taken, ProgramFault<'a>>
-    ensures taken { IfOk result
-        (λ taken. (image : List ℕ) × AreLoaded (L.told loader.old name.entry.now) image
-        × IsTaken E.order geometry.block image taken) }
-    ensures refused { IfErr result
-        (λ fault. IsUnreadFile name.entry.now (L.told loader.old name.entry.now) fault
-        ⊎ ((image : List ℕ) × AreLoaded (L.told loader.old name.entry.now) image
-        × IsNotConverted E.order geometry.block image fault
-        × (L.failures loader.new ≡ L.failures loader.old))) }
-    ensures host { ReadsFile (L.told loader.old name.entry.now) (L.failures loader.old)
-        (L.failures loader.new) result }
-    ensures stays { (other : List ℕ) → L.told loader.new other ≡ L.told loader.old other }
+    decompress: bool,
+) -> Result<Subject, ProgramFault<'static>>
+    ensures taken { IfOk result (IsSubject decompress E.order geometry.block image.items) }
+    ensures refused { IfErr result (λ fault. IsTrue decompress
+        × IsNotConverted E.order geometry.block image.items fault) }
 {
-    let image = match load_file(loader, name) {
-        Ok(image) => image,
-        Err(fault) => return Err(fault),
-    };
+    if !decompress {
+        return Ok(Subject { image, noted: None });
+    }
     match take_image::<E>(alloc, image.as_slice(), geometry) {
-        Ok(taken) => Ok(taken),
+        Ok(taken) => Ok(Subject {
+            image: taken.image,
+            noted: Some(taken.found.noted),
+        }),
+        Err(fault) => Err(fault),
+    }
+}
+
+/// What a command answers: the findings are those of the image that was read.
+pub(crate) fn noting<'a>(
+    noted: Option<u64>,
+    answer: Result<u64, ProgramFault<'a>>,
+) -> Result<u64, ProgramFault<'a>>
+    ensures { result ≡ answer_noting noted answer.entry }
+{
+    let Some(noted) = noted else {
+        return answer;
+    };
+    match answer {
+        Ok(_) => Ok(noted),
         Err(fault) => Err(fault),
     }
 }

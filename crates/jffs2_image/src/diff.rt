@@ -6,9 +6,9 @@ ghost use Rattle.flashbase.specs.Sinks.{change_of};
 ghost use Rattle.jffs2_image.specs.Tasks.{passage, reads};
 
 use crate::host::Loader;
+use crate::loading::load_file;
 use crate::output::{Output, finished};
 use crate::program::report_fault;
-use crate::writing::load_file;
 use flashbase::Sink;
 use jcommand::{Comparison, Options, Outcome};
 use jdiff::put_differences;
@@ -49,11 +49,11 @@ fn compare_files<'a, E: Order, L: Loader, T: Output>(
         (reads L.told L.failures loader.old loader.new) (output.new ≡ output.old)
         (passage T.taken T.given T.failures output.old output.new) result }
 {
-    let first = match load_file(loader, asked.first) {
+    let first = match load_file(alloc, loader, asked.first) {
         Ok(image) => image,
         Err(fault) => return Err(fault),
     };
-    let second = match load_file(loader, asked.second) {
+    let second = match load_file(alloc, loader, asked.second) {
         Ok(image) => image,
         Err(fault) => return Err(fault),
     };

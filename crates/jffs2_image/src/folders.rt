@@ -14,10 +14,10 @@ ghost use Rattle.jffs2_image.specs.Tasks as tasks;
 
 use crate::decompressing::{Taken, take_image};
 use crate::host::Loader;
+use crate::loading::load_file;
 use crate::output::{Output, finished};
 use crate::program::report_fault;
 use crate::refusing::Refusing;
-use crate::writing::load_file;
 use flashbase::{DeviceFault, Sink};
 use jcommand::{Extraction, FolderListing, Outcome, Owner};
 use jextract::{ExtractFault, Folder, PartFault, Totals, extract, extract_part, part_at};
@@ -209,7 +209,7 @@ fn extract_image<'a, E: Order, L: Loader, X: Folder + Refusing, N: Sink>(
         (filling X.made X.failures folder.old folder.new
         (change_of N.Sink notes.old notes.new)) result }
 {
-    let bytes = match load_file(loader, asked.image) {
+    let bytes = match load_file(alloc, loader, asked.image) {
         Ok(bytes) => bytes,
         Err(fault) => return Err(fault),
     };

@@ -1,35 +1,25 @@
-//! Files of the host: those that are read whole, and the one that is made.
-ghost use Rattle.std.specs.Prelude.{◌≡◌, ◌<◌, ◌≤◌, ◌++◌, ℕ, List, [], ◌∷◌, Option, IfOk, IfErr, IfSome, OnOk, None, Some, Err, length, vec_len};
+//! Files of the host: those that are read, and the one that is made.
+ghost use Rattle.std.specs.Prelude.{◌≡◌, ◌++◌, ℕ, List, [], ◌∷◌, Option, IfOk, IfErr, IfSome, OnOk, None, Some};
 ghost use Rattle.jreport.specs.declared.reason.Reason.{Reason};
-ghost use Rattle.flashbase.specs.Device.{CountsErr, CountsLoad, next_count};
+ghost use Rattle.flashbase.specs.Device.{CountsErr};
 ghost use Rattle.jffs2_image.specs.Filling.{HoldsFilled, HoldsFilledInPart};
 ghost use Rattle.jffs2_image.specs.Reasons.{reason_of_last};
-ghost use Rattle.jffs2_image.specs.Host.{AreAllLoaded, AreOf, CountsFile, CountsNotMade, GivesFile, HoldsBy, MakesBy};
+ghost use Rattle.jffs2_image.specs.Host.{AreAllLoaded, CountsNotMade, GivesFile, HoldsBy, MakesBy};
 
 use crate::filling::{Filling, fill_output};
 use crate::kept::KeptFiles;
 use crate::output::{BufferedOutput, Output};
 use crate::refusing::Refusing;
 use crate::source::FileSource;
-use flashbase::{DeviceFault, LoadFault, Source};
+use flashbase::{DeviceFault, Source};
 use jbuild::HostFiles;
 use jreport::Reason;
-use std::alloc::{AllocError, Global};
 use std::cell::Cell;
 use std::fs;
 use std::io::Write;
 use std::rt::Files;
 
-/// Why a file was not read whole.
-#[derive(Clone, Copy, Debug, PartialEq, Eq)]
-pub enum FileFault {
-    /// It can't be opened.
-    NotOpened(Reason),
-    /// It was not read to its end.
-    Load(LoadFault),
-}
-
-/// Reads files, whole or as sources.
+/// Opens files, to be read as sources, and closes them.
 pub trait Loader {
     type Opened: Source + Refusing;
 
@@ -48,15 +38,6 @@ pub trait Loader {
         ensures count { failures self.new ≡ failures self.old }
         ensures stays { (other : List ℕ) → told self.new other ≡ told self.old other };
 
-    /// The bytes of the file of a name, if they are at most `limit`.
-    fn load(&mut self, name: &str, limit: usize) -> Result<Vec<u8>, FileFault>
-        ensures bytes { IfOk result (λ bytes. AreOf (told self.old name.now) bytes.items) }
-        ensures within { IfOk result (λ bytes. length bytes.items ≤ limit) }
-        ensures large { result ≡ Err (FileFault.Load LoadFault.TooLarge)
-            → IfSome (told self.old name.now) (λ bytes. limit < length bytes) }
-        ensures count { CountsFile (failures self.old) (failures self.new) result }
-        ensures stays { (other : List ℕ) → told self.new other ≡ told self.old other };
-
     /// The file of a name, to be read from its start. It goes on with the count of failures.
     fn open(&mut self, name: &str) -> Result<Self::Opened, Reason>
         ensures opened { IfOk result
@@ -65,7 +46,7 @@ pub trait Loader {
         ensures count { CountsErr (failures self.old) (failures self.new) result }
         ensures stays { (other : List ℕ) → told self.new other ≡ told self.old other };
 
-    /// Takes back a file that was opened, with its count of failures.
+    /// Takes back a file that was opened, with its count of failures and why it failed last.
     fn close(&mut self, opened: Self::Opened)
         ensures count { failures self.new ≡ Self.Opened.failures opened }
         ensures reason { last_reason self.new ≡ Self.Opened.last_reason opened }
@@ -131,70 +112,13 @@ pub trait Maker {
         ensures { result ≡ last_reason self.now };
 }
 
-/// How many bytes a file is asked for at once.
-const PIECE: usize = 65_536;
-
-fn zeros(alloc: Global) -> Result<Vec<u8>, AllocError>
-    ensures { IfOk result (λ zeros. vec_len zeros ≡ 65536) }
-{
-    vec![in alloc; 0u8; PIECE]
-}
-
-/// Reads all that the source has left, if it is at most `limit` bytes. They come through the piece,
-/// which may have any bytes.
-fn load_through<S: Source>(
-    alloc: Global,
-    source: &mut S,
-    piece: &mut [u8],
-    limit: usize,
-) -> Result<Vec<u8>, LoadFault>
-    requires { 0 < length piece.old }
-    ensures whole { IfOk result (λ v. IfSome (S.rest source.old) (λ bytes. v.items ≡ bytes)) }
-    ensures within { IfOk result (λ v. vec_len v ≤ limit) }
-    ensures too_large { result ≡ Err LoadFault.TooLarge
-        → IfSome (S.rest source.old) (λ bytes. limit < length bytes) }
-    ensures count { CountsLoad (S.failures source.old) (S.failures source.new) result }
-{
-    let mut bytes = Vec::new(alloc);
-    loop {
-        let n = source.fill(piece)?;
-        if n == 0 {
-            return Ok(bytes);
-        }
-        if limit - bytes.len() < n {
-            return Err(LoadFault::TooLarge);
-        }
-        bytes.extend_from_slice(&piece[..n])?;
-    }
-}
-
-/// The same through a piece that is made for the first file.
-fn load_by_piece<S: Source>(
-    alloc: Global,
-    source: &mut S,
-    piece: &mut Vec<u8>,
-    limit: usize,
-) -> Result<Vec<u8>, LoadFault>
-    ensures whole { IfOk result (λ v. IfSome (S.rest source.old) (λ bytes. v.items ≡ bytes)) }
-    ensures within { IfOk result (λ v. vec_len v ≤ limit) }
-    ensures too_large { result ≡ Err LoadFault.TooLarge
-        → IfSome (S.rest source.old) (λ bytes. limit < length bytes) }
-    ensures count { CountsLoad (S.failures source.old) (S.failures source.new) result }
-{
-    if piece.is_empty() {
-        *piece = zeros(alloc)?;
-    }
-    load_through(alloc, source, piece.as_mut_slice(), limit)
-}
-
-/// Reads files of the system, all through one piece.
+/// Reads files of the system.
 #[derive(Drop)]
 pub struct FileLoader<'r, R: Files + AllocGlobal> {
     rt: &'r R,
     failures: u64,
     /// Why the file that was closed last failed.
     reason: Reason,
-    piece: Vec<u8>,
     /// The files that were read before.
     kept: &'r Cell<Option<KeptFiles>>,
 }
@@ -207,7 +131,6 @@ impl<'r, R: Files + AllocGlobal> FileLoader<'r, R> {
             rt,
             failures: 0,
             reason: Reason::Other,
-            piece: Vec::new(rt.alloc()),
             kept,
         }
     }
@@ -226,19 +149,6 @@ impl<'r, R: Files + AllocGlobal> Loader for FileLoader<'r, R> {
         match self.kept.replace(None) {
             Some(files) => files.into_parts(),
             None => HostFiles::new(self.rt.alloc()),
-        }
-    }
-
-    fn load(&mut self, name: &str, limit: usize) -> Result<Vec<u8>, FileFault> {
-        let mut file = match self.open(name) {
-            Ok(file) => file,
-            Err(reason) => return Err(FileFault::NotOpened(reason)),
-        };
-        let loaded = load_by_piece(self.rt.alloc(), &mut file, &mut self.piece, limit);
-        self.close(file);
-        match loaded {
-            Ok(bytes) => Ok(bytes),
-            Err(fault) => Err(FileFault::Load(fault)),
         }
     }
 

@@ -13,14 +13,15 @@ ghost use Rattle.jffs2_image.specs.Writes.{GivesText};
 ghost use Rattle.jffs2_image.specs.Tasks.{passage, reads};
 
 use crate::host::Loader;
+use crate::loading::load_file;
 use crate::output::{Output, finished};
 use crate::program::report_fault;
-use crate::writing::load_file;
 use flashbase::Sink;
 use jcommand::Outcome;
 use jinfo::{Container, InfoFault, container_of, put_container_note, put_info};
 use jnode::Endian;
 use jreport::ProgramFault;
+use std::alloc::Global;
 
 /// What an image was found to be.
 #[derive(Clone, Copy)]
@@ -60,6 +61,7 @@ fn inform<T: Output>(image: &[u8], output: &mut T) -> Result<Informed, ProgramFa
 
 /// The same of the file of a name.
 pub fn inform_of_file<'a, L: Loader, T: Output>(
+    alloc: Global,
     loader: &mut L,
     name: &'a str,
     output: &mut T,
@@ -70,7 +72,7 @@ pub fn inform_of_file<'a, L: Loader, T: Output>(
     ensures reads { ReadsFile (L.told loader.old name.entry.now) (L.failures loader.old)
         (L.failures loader.new) result }
 {
-    let image = match load_file(loader, name) {
+    let image = match load_file(alloc, loader, name) {
         Ok(image) => image,
         Err(fault) => return Err(fault),
     };
@@ -100,6 +102,7 @@ fn outcome_of_order(order: Option<Endian>) -> Outcome
 
 /// `info` as a command: that of the file of a name.
 pub fn run_info<L: Loader, T: Output, E: Sink>(
+    alloc: Global,
     loader: &mut L,
     name: &str,
     output: &mut T,
@@ -109,7 +112,7 @@ pub fn run_info<L: Loader, T: Output, E: Sink>(
         (output.new ≡ output.old) (passage T.taken T.given T.failures output.old output.new)
         (change_of E.Sink errors.old errors.new) result }
 {
-    match inform_of_file(loader, name, output) {
+    match inform_of_file(alloc, loader, name, output) {
         Ok(found) => {
             note_container(found.container, errors);
             outcome_of_order(found.order)

@@ -1,41 +1,24 @@
-//! The commands that look at an image alone: `check --scan`, `check`, `ls`, `cat`. Each opens the
-//! file, lets `jreport` do the work, and closes it.
+//! The commands that look at an image alone: `check --scan`, `check`, `ls`, `cat`. Each lets
+//! `jreport` do the work: the first over the file, the others over its bytes.
 
-ghost use Rattle.std.specs.Prelude.{◌≡◌, ℕ, true, false, List, Option, IfErr, IfOk, None, Some, option_map};
-ghost use Rattle.flashbase.specs.Device.{CountsErr};
+ghost use Rattle.std.specs.Prelude.{◌≡◌, IfErr, IfOk, None, Some, option_map};
 ghost use Rattle.jcommand.specs.Parsed.{ScanParsed, CheckParsed, ListParsed, CatParsed};
-ghost use Rattle.jffs2_image.specs.Host.{GivesFile, ReadsFile};
+ghost use Rattle.jreport.specs.WholeImage.{PutsFile, PutsListing, list_request};
+ghost use Rattle.jffs2_image.specs.Decompressing.{PutsTaken};
+ghost use Rattle.jffs2_image.specs.Host.{ReadsFile};
 ghost use Rattle.jffs2_image.specs.Looking.{IsPartRefused, part_named};
 ghost use Rattle.jffs2_image.specs.Runs.{NamesUnread, Meets, found_answer};
 ghost use Rattle.flashbase.specs.Sinks.{change_of};
 
-use crate::decompressing::take_file;
+use crate::decompressing::{noting, subject_of};
 use crate::host::Loader;
+use crate::loading::{FileFault, load_file, load_opened, told_of};
 use flashbase::{LoadFault, Sink};
 use jcommand::Options;
 use jnode::Order;
-use jreport::{
-    ProgramFault, Reason, Unopened, file_bytes, image_file, image_tree, path_word, put_check,
-    put_list, stream_lines,
-};
+use jreport::{ProgramFault, Reason, image_check, image_file, image_tree, path_word, stream_lines};
+use jscan::{Geometry, ScanFault};
 use std::alloc::Global;
-
-/// The file of an image.
-fn open<'a, L: Loader>(loader: &mut L, image: &'a str) -> Result<L::Opened, Unopened<'a>>
-    ensures unopened { IfErr result (λ file. file.name.now ≡ image.entry.now) }
-    ensures opened { IfOk result
-        (λ source. GivesFile (L.told loader.old image.entry.now) (L.Opened.rest source)) }
-    ensures counting { IfOk result (λ source. L.Opened.failures source ≡ L.failures loader.old) }
-    ensures count { CountsErr (L.failures loader.old) (L.failures loader.new) result }
-{
-    match loader.open(image) {
-        Ok(source) => Ok(source),
-        Err(reason) => Err(Unopened {
-            name: image,
-            reason,
-        }),
-    }
-}
 
 /// What a call answers that reads the file of an image. Where the file failed, its name is told,
 /// and the reason of that.
@@ -47,10 +30,9 @@ fn named<'a>(
     ensures { NamesUnread image.entry.now answer.entry result }
 {
     match answer {
-        Err(ProgramFault::Load(LoadFault::Device)) => Err(ProgramFault::NotRead(Unopened {
-            name: image,
-            reason,
-        })),
+        Err(ProgramFault::Load(LoadFault::Device)) => {
+            Err(told_of(FileFault::NotRead(reason), image))
+        }
         other => other,
     }
 }
@@ -78,7 +60,10 @@ pub(crate) fn scan<'a, E: Order, L: Loader, T: Sink>(
     ensures host { ReadsFile (L.told loader.old image.now) (L.failures loader.old)
         (L.failures loader.new) result }
 {
-    let source = open(loader, image)?;
+    let source = match loader.open(image) {
+        Ok(source) => source,
+        Err(reason) => return Err(told_of(FileFault::NotOpened(reason), image)),
+    };
     let (answer, read) = stream_lines::<E, _, _>(alloc, source, options.geometry, sink);
     if let Some(source) = read {
         loader.close(source);
@@ -86,7 +71,8 @@ pub(crate) fn scan<'a, E: Order, L: Loader, T: Sink>(
     named(answer, image, loader.reason())
 }
 
-/// `check`: answers whether anything was found, as a number.
+/// `check`: answers whether anything was found, as a number. The size of a block is judged before
+/// the image is read.
 pub(crate) fn check<'a, E: Order, L: Loader, T: Sink>(
     alloc: Global,
     loader: &mut L,
@@ -100,10 +86,20 @@ pub(crate) fn check<'a, E: Order, L: Loader, T: Sink>(
     ensures host { ReadsFile (L.told loader.old image.now) (L.failures loader.old)
         (L.failures loader.new) result }
 {
-    let mut source = open(loader, image)?;
-    let answer = put_check::<E, _, _>(alloc, &mut source, options.geometry, shape, sink);
-    loader.close(source);
-    named(found_number(answer), image, loader.reason())
+    let opened = match loader.open(image) {
+        Ok(opened) => opened,
+        Err(reason) => return Err(told_of(FileFault::NotOpened(reason), image)),
+    };
+    if !options.geometry.is_readable() {
+        loader.close(opened);
+        return Err(ProgramFault::Scan(ScanFault::BlockSize));
+    }
+    let bytes = match load_opened(alloc, loader, opened) {
+        Ok(bytes) => bytes,
+        Err(fault) => return Err(told_of(fault, image)),
+    };
+    let answer = image_check::<E, T>(alloc, bytes.as_slice(), options.geometry, shape, sink);
+    found_number(answer)
 }
 
 /// The part of a tree that a word names, where one is given.
@@ -131,56 +127,26 @@ fn slice_of(part: &Option<Vec<u8>>) -> Option<&[u8]>
     }
 }
 
-/// `ls --decompress` of a tree, or of a part of it: answers how many findings of the image that was
-/// read to note.
-fn list_decompressed<'a, E: Order, L: Loader, T: Sink>(
+/// `ls` of a tree, or of a part of it, of the image that was read, or of what `decompress` makes of
+/// it. Answers how many findings of the image to note.
+fn put_tree<E: Order, T: Sink>(
     alloc: Global,
-    loader: &mut L,
-    options: Options,
-    image: &'a str,
+    image: Vec<u8>,
+    geometry: Geometry,
+    decompress: bool,
     part: Option<&[u8]>,
     sink: &mut T,
-) -> Result<u64, ProgramFault<'a>>
-    ensures meets { (word : Option (List ℕ))
-        → part_named word ≡ Some (option_map (λ p. p.now) part.entry)
-        → Meets (L.told loader.old) (None, None) E.order (ListParsed options true image.now word)
-        (change_of T.Sink sink.old sink.new) result }
-    ensures host { ReadsFile (L.told loader.old image.now) (L.failures loader.old)
-        (L.failures loader.new) result }
+) -> Result<u64, ProgramFault<'static>>
+    ensures { PutsTaken decompress E.order geometry.block
+        (PutsListing (list_request E.order geometry.block (option_map (λ p. p.now) part.entry)))
+        image.items (change_of T.Sink sink.old sink.new) result }
 {
-    let taken = match take_file::<E, L>(alloc, loader, options.geometry, image) {
-        Ok(taken) => taken,
+    let subject = match subject_of::<E>(alloc, image, geometry, decompress) {
+        Ok(subject) => subject,
         Err(fault) => return Err(fault),
     };
-    match image_tree::<E, T>(alloc, taken.image.as_slice(), options.geometry, part, sink) {
-        Ok(_) => Ok(taken.found.noted),
-        Err(fault) => Err(fault),
-    }
-}
-
-/// `ls` of a tree, or of a part of it, as the image is: answers how many findings to note.
-fn list_plain<'a, E: Order, L: Loader, T: Sink>(
-    alloc: Global,
-    loader: &mut L,
-    options: Options,
-    image: &'a str,
-    part: Option<&[u8]>,
-    sink: &mut T,
-) -> Result<u64, ProgramFault<'a>>
-    ensures meets { (word : Option (List ℕ))
-        → part_named word ≡ Some (option_map (λ p. p.now) part.entry)
-        → Meets (L.told loader.old) (None, None) E.order (ListParsed options false image.now word)
-        (change_of T.Sink sink.old sink.new) result }
-    ensures host { ReadsFile (L.told loader.old image.now) (L.failures loader.old)
-        (L.failures loader.new) result }
-{
-    let mut source = match open(loader, image) {
-        Ok(source) => source,
-        Err(file) => return Err(ProgramFault::File(file)),
-    };
-    let answer = put_list::<E, _, _>(alloc, &mut source, options.geometry, part, sink);
-    loader.close(source);
-    named(answer, image, loader.reason())
+    let put = image_tree::<E, T>(alloc, subject.image.as_slice(), geometry, part, sink);
+    noting(subject.noted, put)
 }
 
 /// `ls`: answers how many findings to note. The word of a path is judged before the image is
@@ -204,38 +170,34 @@ pub(crate) fn list<'a, E: Order, L: Loader, T: Sink>(
         Ok(word) => word,
         Err(fault) => return Err(fault),
     };
-    let part = slice_of(&word);
-    if decompress {
-        list_decompressed::<E, L, T>(alloc, loader, options, image, part, sink)
-    } else {
-        list_plain::<E, L, T>(alloc, loader, options, image, part, sink)
-    }
-}
-
-/// `cat --decompress`: answers how many findings of the image that was read to note. The word of
-/// the path is judged before the image is opened.
-fn cat_decompressed<'a, E: Order, L: Loader, T: Sink>(
-    alloc: Global,
-    loader: &mut L,
-    options: Options,
-    image: &'a str,
-    path: &str,
-    sink: &mut T,
-) -> Result<u64, ProgramFault<'a>>
-    ensures meets { Meets (L.told loader.old) (None, None) E.order
-        (CatParsed options true image.now path.now) (change_of T.Sink sink.old sink.new) result }
-    ensures host { ReadsFile (L.told loader.old image.now) (L.failures loader.old)
-        (L.failures loader.new) result }
-{
-    let path = path_word(alloc, path.as_bytes())?;
-    let taken = match take_file::<E, L>(alloc, loader, options.geometry, image) {
-        Ok(taken) => taken,
+    let bytes = match load_file(alloc, loader, image) {
+        Ok(bytes) => bytes,
         Err(fault) => return Err(fault),
     };
-    match image_file::<E, T>(alloc, taken.image.as_slice(), options.geometry, &path, sink) {
-        Ok(_) => Ok(taken.found.noted),
-        Err(fault) => Err(fault),
-    }
+    let part = slice_of(&word);
+    put_tree::<E, T>(alloc, bytes, options.geometry, decompress, part, sink)
+}
+
+/// `cat` of a file of the image that was read, or of what `decompress` makes of it. Answers how
+/// many findings of the image to note.
+fn put_file<E: Order, T: Sink>(
+    alloc: Global,
+    image: Vec<u8>,
+    geometry: Geometry,
+    decompress: bool,
+    path: &[u8],
+    sink: &mut T,
+) -> Result<u64, ProgramFault<'static>>
+    ensures { PutsTaken decompress E.order geometry.block
+        (λ bytes. PutsFile E.order geometry.block bytes path.now) image.items
+        (change_of T.Sink sink.old sink.new) result }
+{
+    let subject = match subject_of::<E>(alloc, image, geometry, decompress) {
+        Ok(subject) => subject,
+        Err(fault) => return Err(fault),
+    };
+    let put = image_file::<E, T>(alloc, subject.image.as_slice(), geometry, path, sink);
+    noting(subject.noted, put)
 }
 
 /// `cat`: answers how many findings to note. The word of the path is judged before the image is
@@ -255,12 +217,20 @@ pub(crate) fn cat<'a, E: Order, L: Loader, T: Sink>(
     ensures host { ReadsFile (L.told loader.old image.now) (L.failures loader.old)
         (L.failures loader.new) result }
 {
-    if decompress {
-        return cat_decompressed::<E, L, T>(alloc, loader, options, image, path, sink);
-    }
-    let path = path_word(alloc, path.as_bytes())?;
-    let mut source = open(loader, image)?;
-    let answer = file_bytes::<E, _, _>(alloc, &mut source, options.geometry, &path, sink);
-    loader.close(source);
-    named(answer, image, loader.reason())
+    let path = match path_word(alloc, path.as_bytes()) {
+        Ok(path) => path,
+        Err(fault) => return Err(fault),
+    };
+    let bytes = match load_file(alloc, loader, image) {
+        Ok(bytes) => bytes,
+        Err(fault) => return Err(fault),
+    };
+    put_file::<E, T>(
+        alloc,
+        bytes,
+        options.geometry,
+        decompress,
+        path.as_slice(),
+        sink,
+    )
 }

@@ -22,6 +22,7 @@ pub mod host;
 pub mod info;
 mod keeping;
 mod kept;
+pub mod loading;
 mod looking;
 pub mod output;
 mod packing;

@@ -12,15 +12,16 @@ ghost use Rattle.jffs2_image.specs.Writes.{GivesText, Held};
 ghost use Rattle.jffs2_image.specs.Runs.{IsSaid, Meets, MeetsCommand, MeetsWhole, RunsCommand, Says, note_after, outcome_after, said_after, success_of};
 ghost use Rattle.flashbase.specs.Sinks.{PutsTo, change_of};
 
-use crate::decompressing::{decompress_into, take_file};
+use crate::decompressing::{decompress_into, noting, subject_of};
 use crate::folders::Folders;
 use crate::host::{Loader, Maker};
+use crate::loading::load_file;
 use crate::looking::{cat, check, list, scan};
 use crate::output::{Output, finished};
 use crate::placing::Placer;
 use crate::tasks::run_placed;
 use crate::weak::Notes;
-use crate::writing::{Texts, Writing, load_file, write_image};
+use crate::writing::{Texts, Writing, write_image};
 use flashbase::{Sink, put_all};
 use jcommand::{Options, Outcome, Request, RequestFault, Target, asked};
 use jnode::Order;
@@ -65,7 +66,7 @@ fn build<'a, E: Order, L: Loader, M: Maker, T: Sink>(
         → HasNotes (L.told loader.old) E.order (BuildParsed target.entry.options target.entry.blocks
         target.entry.page listing.entry.now target.entry.output.now) notes.new) }
 {
-    texts.listing = load_file(loader, listing)?;
+    texts.listing = load_file(alloc, loader, listing)?;
     let work = Writing {
         target,
         base: &[],
@@ -73,51 +74,6 @@ fn build<'a, E: Order, L: Loader, M: Maker, T: Sink>(
     };
     write_image::<E, _, _, _>(alloc, loader, maker, work, &mut texts.unread, notes, sink)?;
     Ok(0)
-}
-
-/// `append --decompress`: the same of what `decompress` makes of the image. Answers how many
-/// findings of the image that was read to note.
-fn append_decompressed<'a, E: Order, L: Loader, M: Maker, T: Sink>(
-    alloc: Global,
-    loader: &mut L,
-    maker: &mut M,
-    target: Target<'a>,
-    image: &'a str,
-    listing: &'a str,
-    texts: &'a mut Texts,
-    notes: &mut Notes,
-    sink: &mut T,
-) -> Result<u64, ProgramFault<'a>>
-    ensures meets { Meets (L.told loader.old) (M.held maker.old, M.held maker.new) E.order
-        (AppendParsed target.entry.options target.entry.blocks target.entry.page true
-        image.entry.now listing.entry.now target.entry.output.now) (change_of T.Sink sink.old
-        sink.new) result }
-    ensures host { BlamesFor E.order (AppendParsed target.entry.options target.entry.blocks
-        target.entry.page true image.entry.now listing.entry.now target.entry.output.now)
-        (maker.new ≡ maker.old) (reads L.told L.failures loader.old loader.new)
-        (writes (telling M.names M.held M.failures) maker.old maker.new) result }
-    ensures weak { OnOk result (IsTrue notes.old.asked
-        → HasNotes (L.told loader.old) E.order (AppendParsed target.entry.options
-        target.entry.blocks target.entry.page true image.entry.now listing.entry.now
-        target.entry.output.now) notes.new) }
-{
-    let taken = match take_file::<E, L>(alloc, loader, target.options.geometry, image) {
-        Ok(taken) => taken,
-        Err(fault) => return Err(fault),
-    };
-    texts.listing = match load_file(loader, listing) {
-        Ok(text) => text,
-        Err(fault) => return Err(fault),
-    };
-    let work = Writing {
-        target,
-        base: taken.image.as_slice(),
-        text: texts.listing.as_slice(),
-    };
-    match write_image::<E, _, _, _>(alloc, loader, maker, work, &mut texts.unread, notes, sink) {
-        Ok(_) => Ok(taken.found.noted),
-        Err(fault) => Err(fault),
-    }
 }
 
 /// `decompress`: answers how many findings of the image to note. It is held in memory before the
@@ -138,7 +94,7 @@ fn decompress<'a, E: Order, L: Loader, M: Maker, T: Sink>(
         (MakesFile output.entry.now (M.names maker.old) (M.names maker.new)) (L.failures loader.old)
         (L.failures loader.new) (M.failures maker.old) (M.failures maker.new) result }
 {
-    let bytes = match load_file(loader, image) {
+    let bytes = match load_file(alloc, loader, image) {
         Ok(bytes) => bytes,
         Err(fault) => return Err(fault),
     };
@@ -152,9 +108,10 @@ fn decompress<'a, E: Order, L: Loader, M: Maker, T: Sink>(
     )
 }
 
-/// `append`: an image with what a listing makes of its file system. It is held in memory before the
-/// file is made, so the two may be one. The listing's text is kept, since a fault may name a part
-/// of it. Answers how many findings of the image to note.
+/// `append`: an image, or what `decompress` makes of it, with what a listing makes of its file
+/// system. It is held in memory before the file is made, so the two may be one. The listing's text
+/// is kept, since a fault may name a part of it. Answers how many findings of the image that was
+/// read to note.
 fn append<'a, E: Order, L: Loader, M: Maker, T: Sink>(
     alloc: Global,
     loader: &mut L,
@@ -180,19 +137,33 @@ fn append<'a, E: Order, L: Loader, M: Maker, T: Sink>(
         target.entry.blocks target.entry.page decompress image.entry.now listing.entry.now
         target.entry.output.now) notes.new) }
 {
-    if decompress {
-        return append_decompressed::<E, L, M, T>(
-            alloc, loader, maker, target, image, listing, texts, notes, sink,
-        );
-    }
-    let base = load_file(loader, image)?;
-    texts.listing = load_file(loader, listing)?;
+    let read = match load_file(alloc, loader, image) {
+        Ok(bytes) => bytes,
+        Err(fault) => return Err(fault),
+    };
+    let subject = match subject_of::<E>(alloc, read, target.options.geometry, decompress) {
+        Ok(subject) => subject,
+        Err(fault) => return Err(fault),
+    };
+    texts.listing = match load_file(alloc, loader, listing) {
+        Ok(text) => text,
+        Err(fault) => return Err(fault),
+    };
     let work = Writing {
         target,
-        base: &base,
+        base: subject.image.as_slice(),
         text: texts.listing.as_slice(),
     };
-    write_image::<E, _, _, _>(alloc, loader, maker, work, &mut texts.unread, notes, sink)
+    let answer = write_image::<E, _, _, _>(
+        alloc,
+        loader,
+        maker,
+        work,
+        &mut texts.unread,
+        notes,
+        sink,
+    );
+    noting(subject.noted, answer)
 }
 
 /// Runs the request in the byte order `E`, and answers how much was found.

@@ -1,13 +1,13 @@
-//! What says why it failed.
+//! Files and folders of the host that tell why they failed.
 
 ghost use Rattle.std.specs.Prelude.{◌≡◌};
 ghost use Rattle.jreport.specs.declared.reason.Reason.{Reason};
 
 use jreport::Reason;
 
-/// What the host is behind, and what says why it failed.
+/// A file or a folder of the host that tells why it failed.
 pub trait Refusing {
-    /// Why the last call failed that did, as far as the host tells.
+    /// Why it failed last, as far as the host tells.
     ghost last_reason: { Self → Reason };
 
     fn reason(&self) -> Reason

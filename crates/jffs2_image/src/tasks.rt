@@ -207,7 +207,7 @@ fn run_task_in<'a, E: Order, L: Loader, M: Maker, D: Folders, T: Output, N: Sink
         }
         Task::Extract(asked) => run_extract::<E, L, D, N>(alloc, loader, folders, asked, errors),
         Task::Listing(asked) => run_listing(alloc, folders, asked, output, errors),
-        Task::Info { image } => run_info(loader, image, output, errors),
+        Task::Info { image } => run_info(alloc, loader, image, output, errors),
         Task::Cuts(asked) => run_cuts::<E, L, T, N>(alloc, loader, asked, output, errors),
         Task::Compress(asked) => {
             run_compress::<E, L, M, T, N>(alloc, loader, maker, asked, output, errors)

@@ -1,13 +1,12 @@
 //! Writing an image to a file of the host: a listing's operations on a base.
-ghost use Rattle.std.specs.Prelude.{◌≡◌, ◌≢◌, ◌≤◌, ℕ, List, Option, Some, IsTrue, IsFalse, Ok, Err, IfOk, IfErr, IfSome, IsOk, OnOk, length, map, option_map, slice_get};
+ghost use Rattle.std.specs.Prelude.{◌≡◌, ◌≢◌, ℕ, List, Option, Some, IsTrue, IsFalse, Ok, Err, IfOk, IfErr, IfSome, IsOk, OnOk, map, option_map, slice_get};
 ghost use Rattle.jmount.specs.Mounts.{IsMountOf};
-ghost use Rattle.jscan.specs.Image.{greatest_image};
 ghost use Rattle.jlisting.specs.Listing.{lines_of};
-ghost use Rattle.jffs2_image.specs.Host.{AreOf, AreRead, Blames, BlamesMaker, CountsFile, IsHandedBack, IsMadeUntil, IsMakeFault, IsReadFault, Leaves, MakesFile, ReadsFile, ReadsFilePart, RunsFiles};
+ghost use Rattle.jffs2_image.specs.Host.{AreRead, Blames, BlamesMaker, IsHandedBack, IsMadeUntil, IsMakeFault, Leaves, MakesFile, RunsFiles};
 ghost use Rattle.jbuild.specs.Operations.{ops_in};
 ghost use Rattle.jbuild.specs.HostFiles.{part_contents};
 ghost use Rattle.jffs2_image.specs.WeakRuns.{AreNotes, AreNotesOn, flash_given};
-ghost use Rattle.jffs2_image.specs.Writes.{GivesCut, HoldsCut, IsCause, IsMade, IsNotGoneOn, IsNotMade, IsNotedIn, IsPartUnread, IsPut, IsTooLong, IsUnreadFile, WritesImage, form_of, resumed, form_flash, flash_plan};
+ghost use Rattle.jffs2_image.specs.Writes.{GivesCut, HoldsCut, IsCause, IsMade, IsNotGoneOn, IsNotMade, IsNotedIn, IsPut, WritesImage, form_of, resumed, form_flash, flash_plan};
 ghost use Rattle.jbuild.specs.Blocks.{TellsRefusedOn};
 ghost use Rattle.jbuild.specs.Emitting.{IsEmitted, IsNotEmitted};
 ghost use Rattle.jlog.specs.View.{address_of, flash_of_start, mount_of};
@@ -15,10 +14,11 @@ ghost use Rattle.jreport.specs.Causes.{cause_of};
 ghost use Rattle.flashbase.specs.Sinks.{change_of};
 ghost use Rattle.jffs2_image.specs.Tasks.{passage};
 
-use crate::host::{FileFault, Loader, MakeFault, Maker};
+use crate::host::{Loader, MakeFault, Maker};
+use crate::loading::load_parts;
 use crate::output::Output;
 use crate::weak::Notes;
-use flashbase::{LoadFault, Sink};
+use flashbase::Sink;
 use jbuild::{Emitted, HostFiles, emit_from, operations, put_accepted};
 use jcommand::Target;
 use jlisting::{Line, listing};
@@ -28,7 +28,6 @@ use jnode::Order;
 use jreport::{
     Cause, Plan, ProgramFault, Reason, Refused, Unopened, cause_of, mount_or_tell, noted,
 };
-use jscan::GREATEST_IMAGE;
 use jsteps::Op;
 use std::alloc::{AllocError, Global};
 
@@ -48,98 +47,6 @@ impl Texts {
             unread: String::new(alloc),
         }
     }
-}
-
-/// The bytes of a file.
-pub fn load_file<'a, L: Loader>(loader: &mut L, name: &'a str) -> Result<Vec<u8>, ProgramFault<'a>>
-    ensures unread { IfErr result
-        (λ fault. IsUnreadFile name.entry.now (L.told loader.old name.entry.now) fault) }
-    ensures bytes { IfOk result (λ bytes. AreOf (L.told loader.old name.entry.now) bytes.items) }
-    ensures within { IfOk result (λ bytes. length bytes.items ≤ greatest_image) }
-    ensures read { OnOk result (L.failures loader.new ≡ L.failures loader.old) }
-    ensures fault { IfErr result
-        (λ fault. IsReadFault (L.failures loader.old) (L.failures loader.new) fault) }
-    ensures host { ReadsFile (L.told loader.old name.entry.now) (L.failures loader.old)
-        (L.failures loader.new) result }
-    ensures stays { (other : List ℕ) → L.told loader.new other ≡ L.told loader.old other }
-{
-    match loader.load(name, GREATEST_IMAGE) {
-        Ok(bytes) => Ok(bytes),
-        Err(FileFault::NotOpened(reason)) => Err(ProgramFault::File(Unopened { name, reason })),
-        Err(FileFault::Load(LoadFault::Device)) => {
-            let reason = loader.reason();
-            Err(ProgramFault::NotRead(Unopened { name, reason }))
-        }
-        Err(FileFault::Load(fault)) => Err(ProgramFault::Load(fault)),
-    }
-}
-
-/// One more file, or one anew, behind those that were read.
-fn read_part<L: Loader>(
-    alloc: Global,
-    loader: &mut L,
-    parts: &mut HostFiles,
-    name: &str,
-) -> Result<(), FileFault>
-    ensures part { OnOk result
-        (ReadsFilePart (L.told loader.old name.now) name.now parts.old parts.new) }
-    ensures large { result ≡ Err (FileFault.Load LoadFault.TooLarge)
-        → IsTooLong (L.told loader.old name.now) }
-    ensures count { CountsFile (L.failures loader.old) (L.failures loader.new) result }
-    ensures stays { (other : List ℕ) → L.told loader.new other ≡ L.told loader.old other }
-{
-    let Ok(key) = name.to_string(alloc) else {
-        return Err(FileFault::Load(LoadFault::OutOfMemory));
-    };
-    let mut opened = match loader.open(name) {
-        Ok(opened) => opened,
-        Err(reason) => return Err(FileFault::NotOpened(reason)),
-    };
-    let read = parts.read(alloc, key, &mut opened, GREATEST_IMAGE);
-    loader.close(opened);
-    match read {
-        Ok(()) => Ok(()),
-        Err(fault) => Err(FileFault::Load(fault)),
-    }
-}
-
-/// The files that a listing names, each of which is read once; one that was read before is not read
-/// again. The name of one that can't be opened, or that failed, is kept in `unread`.
-pub fn load_parts<'a, L: Loader>(
-    alloc: Global,
-    loader: &mut L,
-    lines: &[Line<'_>],
-    unread: &'a mut String,
-) -> Result<HostFiles, ProgramFault<'a>>
-    ensures unread { IfErr result (λ fault. IsPartUnread (L.told loader.old) lines.now fault) }
-    ensures parts { IfOk result (λ parts. AreRead (L.told loader.old) lines.now parts) }
-    ensures read { OnOk result (L.failures loader.new ≡ L.failures loader.old) }
-    ensures fault { IfErr result
-        (λ fault. IsReadFault (L.failures loader.old) (L.failures loader.new) fault) }
-{
-    let mut parts = loader.read_before();
-    for line in lines {
-        if let Some(file) = line.action.file() {
-            if !parts.has(file) {
-                match read_part(alloc, loader, &mut parts, file) {
-                    Ok(()) => {}
-                    Err(FileFault::NotOpened(reason)) => {
-                        *unread = file.to_string(alloc)?;
-                        let name = unread.as_str();
-                        return Err(ProgramFault::File(Unopened { name, reason }));
-                    }
-                    Err(FileFault::Load(LoadFault::Device)) => {
-                        let reason = loader.reason();
-                        *unread = file.to_string(alloc)?;
-                        let name = unread.as_str();
-                        return Err(ProgramFault::NotRead(Unopened { name, reason }));
-                    }
-                    Err(FileFault::Load(fault)) => return Err(ProgramFault::Load(fault)),
-                }
-            }
-        }
-    }
-    Ok(parts)
 }
 
 /// The numbers of lines.

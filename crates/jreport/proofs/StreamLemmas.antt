@@ -26,15 +26,22 @@ use Rattle.jscan.specs.declared.geometry.ScanFault.TheVariants as scan
 use Rattle.jscan.proofs.StreamCounts.{Scanning, IsCounted, breaks_here, scanning_start, scanning_next, scanning_end, readable_some}
 use Rattle.jscan.proofs.StreamLemmas.{IsAtBlock, IsWhole, at_next, block_here}
 use Rattle.jreport.specs.Faults.{fault_of_stream}
-use Rattle.jreport.specs.WholeImage.{OfSomeImage}
 use Rattle.jreport.specs.Report.{scan_text, lines_of_block, lines_below, block_lines, totals_line}
-use Rattle.jreport.specs.Stream.{BreaksOff, HandsBack, PutsStream, ReadsTo, StopsBehind}
+use Rattle.jreport.specs.Stream.{BreaksOff, HandsBack, OfSomeImage, PutsStream, ReadsTo, StopsBehind}
 use Rattle.jreport.specs.declared.faults.ProgramFault.{ProgramFault}
 use Rattle.jreport.specs.declared.faults.ProgramFault.TheVariants as program
 use Rattle.jreport.proofs.BlockLemmas.{lines_below_more, lines_begin, one_more}
 use Rattle.jreport.proofs.GrowingLemmas.{Untold, untold_next, untold_count, untold_part}
-use Rattle.jreport.proofs.WholeImageLemmas.{of_unread}
 use Rattle.jreport.proofs.SinkLemmas.{sink_change}
+
+-- an image that fits what a source tells
+fitting : (known_bytes : Option (List ℕ)) → (image : List ℕ) × IfSome known_bytes (λ bytes. image ≡ bytes)
+fitting None = ([], tt)
+fitting (Some bytes) = (bytes, refl)
+
+-- of an image that was not read there is nothing to say
+of_unread : {P : List ℕ → Type 0} (known_bytes : Option (List ℕ)) → ((image : List ℕ) → P image) → OfSomeImage known_bytes P
+of_unread known_bytes all = ((fitting known_bytes).0, (fitting known_bytes).1, all (fitting known_bytes).0)
 
 -- the lines of the first n blocks of these bytes have gone out
 abbrev pub Gone : Endian → ℕ → ℕ → Option (List ℕ) → Option (List ℕ) → List ℕ → Type 0

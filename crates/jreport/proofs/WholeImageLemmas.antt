@@ -1,15 +1,13 @@
--- What is put of an image that was read, in terms of what its source had left.
-use Rattle.std.proofs.Common.{◌≡◌, ℕ, ◌<◌, ◌≤◌, ◌||◌, Bool, true, false, nat_lt, List, [], ◌++◌, length, sym, refl, ap, ◌∙◌, subst, arith, inl, inr, Option, Some, None, Result, Ok, Err}
-use Rattle.std.specs.Prelude.{IfErr, IfSome, IsErrAnd, IsErrOf, IsTrue, IsFalse}
-use Rattle.std.specs.Io.KnownBytes.{Appends, IsAtEnd}
+-- What is put of an image in memory.
+use Rattle.std.proofs.Common.{◌≡◌, ℕ, ◌||◌, Bool, true, false, nat_lt, List, [], ◌++◌, sym, refl, ap, ◌∙◌, subst, inl, inr, Option, Some, None, Result, Ok, Err}
+use Rattle.std.specs.Prelude.{IfSome, IsErrAnd, IsErrOf, IsTrue, IsFalse}
+use Rattle.std.specs.Io.KnownBytes.{Appends}
 use Rattle.std.proofs.KnownBytes.{Appends-trans}
-use Rattle.flashbase.specs.Device.{CountsLoad, next_count}
-use Rattle.flashbase.specs.declared.source.LoadFault.{LoadFault}
-use Rattle.flashbase.specs.declared.source.LoadFault.TheVariants as load
+use Rattle.flashbase.specs.Device.{next_count}
 use Rattle.flashbase.proofs.DeviceLemmas.{part_behind}
 use Rattle.jnode.specs.declared.order.Endian.{Endian}
 use Rattle.jscan.specs.Counts.{is_found}
-use Rattle.jscan.specs.Image.{greatest_image, is_block_size}
+use Rattle.jscan.specs.Image.{is_block_size}
 use Rattle.jscan.specs.declared.geometry.ScanFault.TheVariants as scan
 use Rattle.jscan.specs.PartialScans.{HasScanned, IsScanOf}
 use Rattle.jscan.specs.Scans.{IsScannable, image_extents}
@@ -22,7 +20,7 @@ use Rattle.jmount.specs.declared.fault.MountFault.{MountFault}
 use Rattle.jmount.specs.declared.fault.MountFault.TheVariants as mount
 use Rattle.jreport.specs.Content.{content_of, PutsContent}
 use Rattle.jreport.specs.Faults.{fault_of_report}
-use Rattle.jreport.specs.WholeImage.{AnswersNoted, IsFaultOfLoad, OfSomeImage, OnMount, PutsCheck, PutsFile, PutsListing, ReadsWhole, list_request}
+use Rattle.jreport.specs.WholeImage.{AnswersNoted, OnMount, PutsCheck, PutsFile, PutsListing, list_request}
 use Rattle.jreport.specs.Puts.{PutsReport}
 use Rattle.jreport.specs.Refusal.{IsRefusalTold}
 use Rattle.jreport.specs.Report.{count_in_image, scan_text}
@@ -35,56 +33,7 @@ use Rattle.jreport.specs.declared.report_fault.ReportFault.TheVariants as report
 use Rattle.jreport.proofs.RefusalLemmas.{refusal_cases}
 use Rattle.jreport.proofs.SinkLemmas.{sink_change}
 
--- ---- what was read
-
--- an image that fits what a source tells
-pub fitting : (known_bytes : Option (List ℕ)) → (image : List ℕ) × IfSome known_bytes (λ bytes. image ≡ bytes)
-fitting None = ([], tt)
-fitting (Some bytes) = (bytes, refl)
-
--- of an image that was not read there is nothing to say
-pub of_unread : {P : List ℕ → Type 0} (known_bytes : Option (List ℕ)) → ((image : List ℕ) → P image) → OfSomeImage known_bytes P
-of_unread known_bytes all = ((fitting known_bytes).0, (fitting known_bytes).1, all (fitting known_bytes).0)
-
-pub is_short : (known_bytes : Option (List ℕ)) (items : List ℕ) → IfSome known_bytes (λ bytes. items ≡ bytes) → length items ≤ greatest_image
-    → IfSome known_bytes (λ bytes. length bytes ≤ greatest_image)
-is_short None items whole short = tt
-is_short (Some bytes) items whole short = subst (λ (l : List ℕ). length l ≤ greatest_image) whole short
-
-pub load_failed : {T U : Type 0} (old new : Option (List ℕ)) (before now : ℕ) (f : LoadFault) (loaded : Result U LoadFault) (r : Result T ProgramFault)
-    → loaded ≡ Err f → IsErrAnd r (λ x. x ≡ program.Load f) → CountsLoad before now loaded
-    → (loaded ≡ Err load.TooLarge → IfSome old (λ bytes. greatest_image < length bytes)) → ReadsWhole old new before now r
-load_failed old new before now f loaded (Ok x) was is count long = absurd is
-load_failed {T} {U} old new before now f loaded (Err x) was is count long =
-    subst (λ (y : ProgramFault). ReadsWhole {T = T} old new before now (Err y)) (sym is) (by f was (subst (CountsLoad before now) was count))
-  where
-    by : (g : LoadFault) → loaded ≡ Err g → CountsLoad {T = U} before now (Err g) → ReadsWhole {T = T} old new before now (Err (program.Load g))
-    by load.Device was count = count
-    by load.TooLarge was count = (long was, count)
-    by load.OutOfMemory was count = count
-
--- the fault is none of loading
-abbrev pub IsRead : {T : Type 0} → Result T ProgramFault → Type 0
-IsRead r = IfErr r (λ x. IsFaultOfLoad x → ⊥)
-
-pub read_whole : {T : Type 0} (old new : Option (List ℕ)) (before now : ℕ) (r : Result T ProgramFault) → IsRead r
-    → IsAtEnd new → IfSome old (λ bytes. length bytes ≤ greatest_image) → now ≡ before → ReadsWhole old new before now r
-read_whole old new before now (Err (program.Load f)) read end short same = absurd (read tt)
-read_whole old new before now r read end short same = (end, short, same)
-
 -- ---- a mount
-
-pub mount_is_read : {T : Type 0} (e : Endian) (size : ℕ) (image : List ℕ) (f : ProgramFault) (r : Result T ProgramFault) → IsErrAnd r (λ x. x ≡ f) → IsRefusalTold e size image f → IsRead r
-mount_is_read e size image f (Ok x) is told = absurd is
-mount_is_read e size image f (Err x) is told =
-    subst (λ (y : ProgramFault). IsFaultOfLoad y → ⊥) (sym is)
-    (refusal_cases (λ (y : ProgramFault). IsFaultOfLoad y → ⊥) e size image f (λ g here none. none) (λ addr other here none. none) told)
-
-pub unread_mount : {T : Type 0} (e : Endian) (size : ℕ) (image : List ℕ) (f : LoadFault) (a : Option (List ℕ)) (n : ℕ) (puts : Mount → Type 0) (r : Result T ProgramFault)
-    → IsErrAnd r (λ x. x ≡ program.Load f) → OnMount e size image (sink_change a a n n) puts r
-unread_mount e size image f a n puts (Ok x) is = absurd is
-unread_mount {T} e size image f a n puts (Err x) is =
-    subst (λ (y : ProgramFault). OnMount {T = T} e size image (sink_change a a n n) puts (Err y)) (sym is) (refl, refl)
 
 -- an image that does not mount
 pub mount_failed : {T : Type 0} (e : Endian) (size : ℕ) (image : List ℕ) (f : ProgramFault) (a : Option (List ℕ)) (n : ℕ) (puts : Mount → Type 0) (r : Result T ProgramFault)
@@ -94,22 +43,16 @@ mount_failed {T} e size image f a n puts (Err x) is told =
     let P = λ (y : ProgramFault). OnMount {T = T} e size image (sink_change a a n n) puts (Err y) in
     subst P (sym is) (refusal_cases P e size image f (λ g here. (here, refl, refl)) (λ addr other here. (here, refl, refl)) told)
 
--- an image that mounts, and a call that says nothing of faults of a load or a mount
+-- an image that mounts, and a call that says nothing of faults of a mount
 on_mounted : {T : Type 0} (e : Endian) (size : ℕ) (image : List ℕ) (m : Mount) (a b : Option (List ℕ)) (before now : ℕ) (puts : Mount → Result T ProgramFault → Type 0) (r : Result T ProgramFault)
-    → ((f : LoadFault) → puts m (Err (program.Load f)) → ⊥) → ((f : MountFault) → puts m (Err (program.Mount f)) → ⊥)
+    → ((f : MountFault) → puts m (Err (program.Mount f)) → ⊥)
     → ((addr other : ℕ) → puts m (Err (program.Clash addr other)) → ⊥)
     → Answers e size image (Ok m) → puts m r → OnMount e size image (sink_change a b before now) (λ x. puts x r) r
-on_mounted e size image m a b before now puts (Err (program.Load f)) no_load no_mount no_clash answers put = absurd (no_load f put)
-on_mounted e size image m a b before now puts (Err (program.Mount f)) no_load no_mount no_clash answers put = absurd (no_mount f put)
-on_mounted e size image m a b before now puts (Err (program.Clash addr other)) no_load no_mount no_clash answers put = absurd (no_clash addr other put)
-on_mounted e size image m a b before now puts r no_load no_mount no_clash answers put = (m, answers, put)
+on_mounted e size image m a b before now puts (Err (program.Mount f)) no_mount no_clash answers put = absurd (no_mount f put)
+on_mounted e size image m a b before now puts (Err (program.Clash addr other)) no_mount no_clash answers put = absurd (no_clash addr other put)
+on_mounted e size image m a b before now puts r no_mount no_clash answers put = (m, answers, put)
 
 -- ---- `check`
-
-pub check_unread : (e : Endian) (size : ℕ) (asked : Bool) (image : List ℕ) (f : LoadFault) (a : Option (List ℕ)) (n : ℕ) (r : Result Bool ProgramFault)
-    → IsErrAnd r (λ x. x ≡ program.Load f) → PutsCheck e size image asked (sink_change a a n n) r
-check_unread e size asked image f a n (Ok x) is = absurd is
-check_unread e size asked image f a n (Err x) is = subst (λ (y : ProgramFault). PutsCheck e size image asked (sink_change a a n n) (Err y)) (sym is) (refl, refl)
 
 -- the scan that a report made
 pub scan_of : (e : Endian) (size : ℕ) (image : List ℕ) (partial : Option PartialScan) → IsScannable size image → IfSome partial (HasScanned (image_extents e size image))
@@ -123,48 +66,35 @@ some_scan e size image None is = tt
 some_scan e size image (Some scan) is = (e, size, is)
 
 -- the report ended early
-pub report_failed : (e : Endian) (size : ℕ) (asked : Bool) (items present : List ℕ) (f : ReportFault) (a b : Option (List ℕ)) (before now : ℕ) (r : Result Bool ProgramFault)
-    → IsErrAnd r (λ x. x ≡ fault_of_report f) → present ≡ items → length items ≤ greatest_image
-    → PutsReport e size present (sink_change a b before now) (Err f) → PutsCheck e size items asked (sink_change a b before now) r
-report_failed e size asked items present f a b before now (Ok x) is same short put = absurd is
-report_failed e size asked items present f a b before now (Err x) is same short put =
-    subst (λ (y : ProgramFault). PutsCheck e size items asked (sink_change a b before now) (Err y)) (sym is)
-    (by f (subst (λ (image : List ℕ). PutsReport e size image (sink_change a b before now) (Err f)) same put))
+pub report_failed : (e : Endian) (size : ℕ) (asked : Bool) (image : List ℕ) (f : ReportFault) (a b : Option (List ℕ)) (before now : ℕ) (r : Result Bool ProgramFault)
+    → IsErrAnd r (λ x. x ≡ fault_of_report f) → PutsReport e size image (sink_change a b before now) (Err f) → PutsCheck e size image asked (sink_change a b before now) r
+report_failed e size asked image f a b before now (Ok x) is put = absurd is
+report_failed e size asked image f a b before now (Err x) is put =
+    subst (λ (y : ProgramFault). PutsCheck e size image asked (sink_change a b before now) (Err y)) (sym is) (by f put)
   where
-    by : (g : ReportFault) → PutsReport e size items (sink_change a b before now) (Err g) → PutsCheck e size items asked (sink_change a b before now) (Err (fault_of_report g))
+    by : (g : ReportFault) → PutsReport e size image (sink_change a b before now) (Err g) → PutsCheck e size image asked (sink_change a b before now) (Err (fault_of_report g))
     by report.Output p = (inl p.1, p.2)
     by (report.Scan scan.OutOfMemory) p = absurd p
-    by (report.Scan scan.BlockSize) p = (p.1, p.2)
-    by (report.Scan scan.TooLarge) p = absurd (omega (arith, p.0.1, short))
+    by (report.Scan scan.BlockSize) p = p
+    by (report.Scan scan.TooLarge) p = p
     by (report.Scan (scan.Incompatible addr nodetype)) p = absurd p.0
     by (report.Scan (scan.Compressed addr compr)) p = absurd p.0
 
--- no fault of a report is one of loading
-pub report_is_read : {T : Type 0} (f : ReportFault) (r : Result T ProgramFault) → IsErrAnd r (λ x. x ≡ fault_of_report f) → IsRead r
-report_is_read f (Ok x) is = absurd is
-report_is_read f (Err x) is = subst (λ (y : ProgramFault). IsFaultOfLoad y → ⊥) (sym is) (by f)
-  where
-    by : (g : ReportFault) → IsFaultOfLoad (fault_of_report g) → ⊥
-    by report.Output none = none
-    by (report.Scan fault) none = none
-
-pub check_done : (e : Endian) (size : ℕ) (asked : Bool) (items present again : List ℕ) (a b c : Option (List ℕ)) (before mid now findings : ℕ) (bad found : Bool)
-    → present ≡ items → again ≡ items → PutsReport e size present (sink_change a b before mid) (Ok findings) → PutsVerdict e size again asked (sink_change b c mid now) (Ok bad)
-    → found ≡ nat_lt 0 findings || bad → PutsCheck e size items asked (sink_change a c before now) (Ok found)
-check_done e size asked items present again a b c before mid now findings bad found same same_again report verdict judged =
-    let put = subst (λ (image : List ℕ). PutsReport e size image (sink_change a b before mid) (Ok findings)) same report in
-    let said = subst (λ (image : List ℕ). PutsVerdict e size image asked (sink_change b c mid now) (Ok bad)) same_again verdict in (
-      scan_text e size items ++ said.0,
-      record {
-        verdict = said.0;
-        bad = bad;
-        mount = said.1;
-        said = refl;
-        judged = judged ∙ ap (λ (n : ℕ). nat_lt 0 n || bad) put.1;
-      },
-      Appends-trans a b c (scan_text e size items) said.0 put.2 said.2,
-      said.3 ∙ put.3,
-    )
+pub check_done : (e : Endian) (size : ℕ) (asked : Bool) (image : List ℕ) (a b c : Option (List ℕ)) (before mid now findings : ℕ) (bad found : Bool)
+    → PutsReport e size image (sink_change a b before mid) (Ok findings) → PutsVerdict e size image asked (sink_change b c mid now) (Ok bad)
+    → found ≡ nat_lt 0 findings || bad → PutsCheck e size image asked (sink_change a c before now) (Ok found)
+check_done e size asked image a b c before mid now findings bad found put said judged = (
+  scan_text e size image ++ said.0,
+  record {
+    verdict = said.0;
+    bad = bad;
+    mount = said.1;
+    said = refl;
+    judged = judged ∙ ap (λ (n : ℕ). nat_lt 0 n || bad) put.1;
+  },
+  Appends-trans a b c (scan_text e size image) said.0 put.2 said.2,
+  said.3 ∙ put.3,
+)
 
 -- the report went out, and the verdict did not, or a beginning of it
 verdict_ends : (e : Endian) (size : ℕ) (asked : Bool) (image : List ℕ) (a b c : Option (List ℕ)) (before mid now findings : ℕ) (f : ProgramFault)
@@ -201,32 +131,15 @@ verdict_ends e size asked image a b c before mid now findings (program.Data addr
 verdict_ends e size asked image a b c before mid now findings (program.TooLong addr) report put = absurd put
 verdict_ends e size asked image a b c before mid now findings (program.Clash addr other) report put = absurd put
 
-pub verdict_failed : (e : Endian) (size : ℕ) (asked : Bool) (items present again : List ℕ) (a b c : Option (List ℕ)) (before mid now findings : ℕ) (f : ProgramFault) (r : Result Bool ProgramFault)
-    → IsErrAnd r (λ x. x ≡ f) → present ≡ items → again ≡ items
-    → PutsReport e size present (sink_change a b before mid) (Ok findings) → PutsVerdict e size again asked (sink_change b c mid now) (Err f) → PutsCheck e size items asked (sink_change a c before now) r
-verdict_failed e size asked items present again a b c before mid now findings f (Ok x) is same same_again report put = absurd is
-verdict_failed e size asked items present again a b c before mid now findings f (Err x) is same same_again report put =
-    subst (λ (y : ProgramFault). PutsCheck e size items asked (sink_change a c before now) (Err y)) (sym is)
-    (verdict_ends e size asked items a b c before mid now findings f
-    (subst (λ (image : List ℕ). PutsReport e size image (sink_change a b before mid) (Ok findings)) same report)
-    (subst (λ (image : List ℕ). PutsVerdict e size image asked (sink_change b c mid now) (Err f)) same_again put))
+pub verdict_failed : (e : Endian) (size : ℕ) (asked : Bool) (image : List ℕ) (a b c : Option (List ℕ)) (before mid now findings : ℕ) (f : ProgramFault) (r : Result Bool ProgramFault)
+    → IsErrAnd r (λ x. x ≡ f) → PutsReport e size image (sink_change a b before mid) (Ok findings) → PutsVerdict e size image asked (sink_change b c mid now) (Err f)
+    → PutsCheck e size image asked (sink_change a c before now) r
+verdict_failed e size asked image a b c before mid now findings f (Ok x) is report put = absurd is
+verdict_failed e size asked image a b c before mid now findings f (Err x) is report put =
+    subst (λ (y : ProgramFault). PutsCheck e size image asked (sink_change a c before now) (Err y)) (sym is)
+    (verdict_ends e size asked image a b c before mid now findings f report put)
 
--- no verdict is a fault of loading
-pub verdict_is_read : {T : Type 0} (e : Endian) (size : ℕ) (asked : Bool) (image : List ℕ) (a b : Option (List ℕ)) (before now : ℕ) (f : ProgramFault) (r : Result T ProgramFault)
-    → IsErrAnd r (λ x. x ≡ f) → PutsVerdict e size image asked (sink_change a b before now) (Err f) → IsRead r
-verdict_is_read e size asked image a b before now f (Ok x) is put = absurd is
-verdict_is_read e size asked image a b before now f (Err x) is put =
-    subst (λ (y : ProgramFault). IsFaultOfLoad y → ⊥) (sym is) (by f put)
-  where
-    by : (g : ProgramFault) → PutsVerdict e size image asked (sink_change a b before now) (Err g) → IsFaultOfLoad g → ⊥
-    by (program.Load f) p is_load = p
-    by g p is_load = is_load
-
-pub not_of_load : {T : Type 0} (X : Type 0) (r : Result T ProgramFault) → IsRead r → IfErr r (λ x. IsFaultOfLoad x → X)
-not_of_load X (Ok x) read = tt
-not_of_load X (Err x) read = λ is_load. absurd (read is_load)
-
--- nor is it the size of a block
+-- no fault of a verdict is the size of a block
 pub verdict_has_size : (e : Endian) (size : ℕ) (asked : Bool) (image : List ℕ) (a b : Option (List ℕ)) (before now : ℕ) (f : ProgramFault) (r : Result Bool ProgramFault)
     → IsErrAnd r (λ x. x ≡ f) → IsTrue (is_block_size size) → PutsVerdict e size image asked (sink_change a b before now) (Err f)
     → (IsErrOf r (program.Scan scan.BlockSize) → IsFalse (is_block_size size)) × (IsFalse (is_block_size size) → IsErrOf r (program.Scan scan.BlockSize))
@@ -239,32 +152,20 @@ verdict_has_size e size asked image a b before now f (Err x) is sized put = (
 
 -- ---- `cat`
 
-pub file_put : (e : Endian) (size : ℕ) (path items present : List ℕ) (m : Mount) (a b : Option (List ℕ)) (before now : ℕ) (r : Result ℕ ProgramFault)
-    → present ≡ items → Answers e size present (Ok m) → PutsContent (content_of m.state path) (sink_change a b before now) r → AnswersNoted m r
-    → PutsFile e size items path (sink_change a b before now) r
-file_put e size path items present m a b before now r same answers put noted =
-    on_mounted e size items m a b before now (λ (x : Mount) (s : Result ℕ ProgramFault). PutsContent (content_of x.state path) (sink_change a b before now) s × AnswersNoted x s) r
-    (λ f none. none.0.0) (λ f none. none.0.0) (λ addr other none. none.0.0)
-    (subst (λ (image : List ℕ). Answers e size image (Ok m)) same answers) (put, noted)
+pub file_put : (e : Endian) (size : ℕ) (path image : List ℕ) (m : Mount) (a b : Option (List ℕ)) (before now : ℕ) (r : Result ℕ ProgramFault)
+    → Answers e size image (Ok m) → PutsContent (content_of m.state path) (sink_change a b before now) r → AnswersNoted m r → PutsFile e size image path (sink_change a b before now) r
+file_put e size path image m a b before now r answers put noted =
+    on_mounted e size image m a b before now (λ (x : Mount) (s : Result ℕ ProgramFault). PutsContent (content_of x.state path) (sink_change a b before now) s × AnswersNoted x s) r
+    (λ f none. none.0.0) (λ addr other none. none.0.0) answers (put, noted)
 
 -- a fault that is passed on
-pub content_failed : (X : Type 0) (e : Endian) (size : ℕ) (path items present : List ℕ) (m : Mount) (a b : Option (List ℕ)) (before now : ℕ) (f : ProgramFault) (r : Result ℕ ProgramFault)
-    → IsErrAnd r (λ x. x ≡ f) → present ≡ items → Answers e size present (Ok m) → PutsContent {T = X} (content_of m.state path) (sink_change a b before now) (Err f)
-    → PutsFile e size items path (sink_change a b before now) r
-content_failed X e size path items present m a b before now f (Ok x) is same answers put = absurd is
-content_failed X e size path items present m a b before now f (Err x) is same answers put =
-    subst (λ (y : ProgramFault). PutsFile e size items path (sink_change a b before now) (Err y)) (sym is)
-    (file_put e size path items present m a b before now (Err f) same answers put tt)
-
-pub content_is_read : (X : Type 0) {T : Type 0} (content : Result (List ℕ) ProgramFault) (a b : Option (List ℕ)) (before now : ℕ) (f : ProgramFault) (r : Result T ProgramFault)
-    → IsErrAnd r (λ x. x ≡ f) → PutsContent {T = X} content (sink_change a b before now) (Err f) → IsRead r
-content_is_read X content a b before now f (Ok x) is put = absurd is
-content_is_read X content a b before now f (Err x) is put =
-    subst (λ (y : ProgramFault). IsFaultOfLoad y → ⊥) (sym is) (by f put)
-  where
-    by : (g : ProgramFault) → PutsContent {T = X} content (sink_change a b before now) (Err g) → IsFaultOfLoad g → ⊥
-    by (program.Load f) p is_load = p.0
-    by g p is_load = is_load
+pub content_failed : (X : Type 0) (e : Endian) (size : ℕ) (path image : List ℕ) (m : Mount) (a b : Option (List ℕ)) (before now : ℕ) (f : ProgramFault) (r : Result ℕ ProgramFault)
+    → IsErrAnd r (λ x. x ≡ f) → Answers e size image (Ok m) → PutsContent {T = X} (content_of m.state path) (sink_change a b before now) (Err f)
+    → PutsFile e size image path (sink_change a b before now) r
+content_failed X e size path image m a b before now f (Ok x) is answers put = absurd is
+content_failed X e size path image m a b before now f (Err x) is answers put =
+    subst (λ (y : ProgramFault). PutsFile e size image path (sink_change a b before now) (Err y)) (sym is)
+    (file_put e size path image m a b before now (Err f) answers put tt)
 
 -- ---- `ls`
 
@@ -313,12 +214,7 @@ pub tree_done : (X : Type 0) (s : State) (path : Option (List ℕ)) (a b : Optio
 tree_done X s None a b before now x n put = put
 tree_done X s (Some path) a b before now x n put = (put.0, put.1, put.2)
 
--- no call fails by loading, or by a mount
-not_loading : (X : Type 0) (s : State) (path : Option (List ℕ)) (a b : Option (List ℕ)) (before now : ℕ) (f : LoadFault)
-    → PutsTreeAt {T = X} s path (sink_change a b before now) (Err (program.Load f)) → ⊥
-not_loading X s None a b before now f p = p
-not_loading X s (Some path) a b before now f p = p.2
-
+-- no call fails by a mount
 not_mounting : (X : Type 0) (s : State) (path : Option (List ℕ)) (a b : Option (List ℕ)) (before now : ℕ) (f : MountFault)
     → PutsTreeAt {T = X} s path (sink_change a b before now) (Err (program.Mount f)) → ⊥
 not_mounting X s None a b before now f p = p
@@ -329,30 +225,18 @@ not_clashing : (X : Type 0) (s : State) (path : Option (List ℕ)) (a b : Option
 not_clashing X s None a b before now addr other p = p
 not_clashing X s (Some path) a b before now addr other p = p.2
 
-pub tree_put : (e : Endian) (size : ℕ) (path : Option (List ℕ)) (items present : List ℕ) (m : Mount) (a b : Option (List ℕ)) (before now : ℕ) (r : Result ℕ ProgramFault)
-    → present ≡ items → Answers e size present (Ok m) → PutsTreeAt m.state path (sink_change a b before now) r → AnswersNoted m r
-    → PutsListing (list_request e size path) items (sink_change a b before now) r
-tree_put e size path items present m a b before now r same answers put noted =
-    on_mounted e size items m a b before now (λ (x : Mount) (s : Result ℕ ProgramFault). PutsTreeAt x.state path (sink_change a b before now) s × AnswersNoted x s) r
-    (λ f none. not_loading ℕ m.state path a b before now f none.0) (λ f none. not_mounting ℕ m.state path a b before now f none.0)
-    (λ addr other none. not_clashing ℕ m.state path a b before now addr other none.0)
-    (subst (λ (image : List ℕ). Answers e size image (Ok m)) same answers) (put, noted)
+pub tree_put : (e : Endian) (size : ℕ) (path : Option (List ℕ)) (image : List ℕ) (m : Mount) (a b : Option (List ℕ)) (before now : ℕ) (r : Result ℕ ProgramFault)
+    → Answers e size image (Ok m) → PutsTreeAt m.state path (sink_change a b before now) r → AnswersNoted m r → PutsListing (list_request e size path) image (sink_change a b before now) r
+tree_put e size path image m a b before now r answers put noted =
+    on_mounted e size image m a b before now (λ (x : Mount) (s : Result ℕ ProgramFault). PutsTreeAt x.state path (sink_change a b before now) s × AnswersNoted x s) r
+    (λ f none. not_mounting ℕ m.state path a b before now f none.0) (λ addr other none. not_clashing ℕ m.state path a b before now addr other none.0)
+    answers (put, noted)
 
 -- a fault that is passed on
-pub tree_failed : (X : Type 0) (e : Endian) (size : ℕ) (path : Option (List ℕ)) (items present : List ℕ) (m : Mount) (a b : Option (List ℕ)) (before now : ℕ) (f : ProgramFault) (r : Result ℕ ProgramFault)
-    → IsErrAnd r (λ x. x ≡ f) → present ≡ items → Answers e size present (Ok m) → PutsTreeAt {T = X} m.state path (sink_change a b before now) (Err f)
-    → PutsListing (list_request e size path) items (sink_change a b before now) r
-tree_failed X e size path items present m a b before now f (Ok x) is same answers put = absurd is
-tree_failed X e size path items present m a b before now f (Err x) is same answers put =
-    subst (λ (y : ProgramFault). PutsListing (list_request e size path) items (sink_change a b before now) (Err y)) (sym is)
-    (tree_put e size path items present m a b before now (Err f) same answers (passed_on X ℕ m.state path a b before now f put) tt)
-
-pub tree_is_read : (X : Type 0) {T : Type 0} (m : Mount) (path : Option (List ℕ)) (a b : Option (List ℕ)) (before now : ℕ) (f : ProgramFault) (r : Result T ProgramFault)
-    → IsErrAnd r (λ x. x ≡ f) → PutsTreeAt {T = X} m.state path (sink_change a b before now) (Err f) → IsRead r
-tree_is_read X m path a b before now f (Ok x) is put = absurd is
-tree_is_read X m path a b before now f (Err x) is put =
-    subst (λ (y : ProgramFault). IsFaultOfLoad y → ⊥) (sym is) (by f put)
-  where
-    by : (g : ProgramFault) → PutsTreeAt {T = X} m.state path (sink_change a b before now) (Err g) → IsFaultOfLoad g → ⊥
-    by (program.Load f) p is_load = not_loading X m.state path a b before now f p
-    by g p is_load = is_load
+pub tree_failed : (X : Type 0) (e : Endian) (size : ℕ) (path : Option (List ℕ)) (image : List ℕ) (m : Mount) (a b : Option (List ℕ)) (before now : ℕ) (f : ProgramFault) (r : Result ℕ ProgramFault)
+    → IsErrAnd r (λ x. x ≡ f) → Answers e size image (Ok m) → PutsTreeAt {T = X} m.state path (sink_change a b before now) (Err f)
+    → PutsListing (list_request e size path) image (sink_change a b before now) r
+tree_failed X e size path image m a b before now f (Ok x) is answers put = absurd is
+tree_failed X e size path image m a b before now f (Err x) is answers put =
+    subst (λ (y : ProgramFault). PutsListing (list_request e size path) image (sink_change a b before now) (Err y)) (sym is)
+    (tree_put e size path image m a b before now (Err f) answers (passed_on X ℕ m.state path a b before now f put) tt)

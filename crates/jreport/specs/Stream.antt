@@ -1,5 +1,5 @@
 -- What is put of a source that is read block by block.
-use Rattle.std.specs.Prelude.{◌≡◌, ℕ, ◌+◌, ◌-◌, ◌*◌, ◌≤◌, List, ◌++◌, drop, Option, None, Some, Result, Ok, Err, ⊤}
+use Rattle.std.specs.Prelude.{◌≡◌, ℕ, ◌+◌, ◌-◌, ◌*◌, ◌≤◌, List, ◌++◌, drop, Option, None, Some, Result, Ok, Err, IfSome, ⊤}
 use Rattle.std.specs.Io.KnownBytes.{Appends, IsAtEnd}
 use Rattle.flashbase.specs.Device.{PutsPart, next_count}
 use Rattle.flashbase.specs.Sinks.{SinkChange}
@@ -12,6 +12,10 @@ use Rattle.jscan.specs.declared.geometry.ScanFault.TheVariants as scan
 use Rattle.jreport.specs.Report.{lines_below, count_in_image, scan_text}
 use Rattle.jreport.specs.declared.faults.ProgramFault.{ProgramFault}
 use Rattle.jreport.specs.declared.faults.ProgramFault.TheVariants as program
+
+-- There is an image of which this holds. Where the source tells what it had left, it is that.
+abbrev pub OfSomeImage : Option (List ℕ) → (List ℕ → Type 0) → Type 0
+OfSomeImage known_bytes P = (image : List ℕ) × IfSome known_bytes (λ bytes. image ≡ bytes) × P image
 
 -- A call puts the report of an image that it reads block by block, and answers the number of
 -- findings. Where the image is not read on, the lines of whole blocks have gone out; where the sink

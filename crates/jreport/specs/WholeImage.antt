@@ -1,47 +1,23 @@
--- What is put of an image that is read as a whole.
-use Rattle.std.specs.Prelude.{◌≡◌, ◌≢◌, ◌⊎◌, ℕ, ◌%◌, ◌<◌, ◌≤◌, ◌||◌, Bool, nat_lt, List, ◌++◌, length, Option, Result, Ok, Err, IfSome, ⊤}
-use Rattle.std.specs.Io.KnownBytes.{Appends, IsAtEnd}
+-- What is put of an image in memory: by `check`, `cat` and `ls`.
+use Rattle.std.specs.Prelude.{◌≡◌, ◌⊎◌, ℕ, ◌||◌, Bool, nat_lt, List, ◌++◌, Option, Result, Ok, Err, ⊤}
+use Rattle.std.specs.Io.KnownBytes.{Appends}
 use Rattle.flashbase.specs.Device.{PutsPart, next_count}
 use Rattle.flashbase.specs.Sinks.{SinkChange}
-use Rattle.flashbase.specs.declared.source.LoadFault.TheVariants as load
 use Rattle.jnode.specs.declared.order.Endian.{Endian}
 use Rattle.jmount.specs.Mount.{Mount}
 use Rattle.jmount.specs.Mounts.{Answers}
 use Rattle.jmount.specs.declared.fault.MountFault.TheVariants as mount
 use Rattle.jscan.specs.Counts.{is_found}
-use Rattle.jscan.specs.Image.{greatest_image}
 use Rattle.jscan.specs.declared.geometry.ScanFault.TheVariants as scan
 use Rattle.jreport.specs.Content.{content_of, PutsContent}
 use Rattle.jreport.specs.Notes.{noted}
+use Rattle.jreport.specs.Puts.{IsScanFaultOf}
 use Rattle.jreport.specs.Refusal.{IsRefusalTold}
 use Rattle.jreport.specs.Report.{count_in_image, scan_text}
 use Rattle.jreport.specs.TreeText.{PutsTreeAt}
 use Rattle.jreport.specs.Verdict.{IsVerdict}
 use Rattle.jreport.specs.declared.faults.ProgramFault.{ProgramFault}
 use Rattle.jreport.specs.declared.faults.ProgramFault.TheVariants as program
-
--- ---- what is read
-
--- There is an image of which this holds. Where the source tells what it had left, it is that.
-abbrev pub OfSomeImage : Option (List ℕ) → (List ℕ → Type 0) → Type 0
-OfSomeImage known_bytes P = (image : List ℕ) × IfSome known_bytes (λ bytes. image ≡ bytes) × P image
-
--- A call reads all that a source has left, by the bytes that it tells and the count of its
--- failures. A fault of loading says why it did not; at any other answer the source is at its end,
--- and had no more left than the greatest image.
-abbrev pub ReadsWhole : {T : Type 0} → Option (List ℕ) → Option (List ℕ) → ℕ → ℕ
-    → Result T ProgramFault → Type 0
-ReadsWhole old new before now (Err (program.Load load.Device)) = now ≡ next_count before
-ReadsWhole old new before now (Err (program.Load load.TooLarge)) =
-    IfSome old (λ bytes. greatest_image < length bytes) × (now ≡ before)
-ReadsWhole old new before now (Err (program.Load load.OutOfMemory)) = now ≡ before
-ReadsWhole old new before now _ =
-    IsAtEnd new × IfSome old (λ bytes. length bytes ≤ greatest_image) × (now ≡ before)
-
--- the image was not read
-abbrev pub IsFaultOfLoad : ProgramFault → Type 0
-IsFaultOfLoad (program.Load fault) = Unit {0}
-IsFaultOfLoad _ = ⊥
 
 -- ---- `check`
 
@@ -62,22 +38,18 @@ PutsPartOfCheck e size image asked old new =
     ⊎ ((text : List ℕ) × (found : Bool) × IsCheck e size image asked text found
     × PutsPart old new text)
 
--- A call puts what `check` prints. Only where the sink is blamed did it fail, once. Memory is
--- wanting in the report only where the last block of the image has a missing tail, and then in the
--- mount, or for the entries that dangle in it, or for its shape.
+-- A call puts what `check` prints. Only where the sink is blamed did it fail, once. Nothing is put
+-- of an image that can't be scanned. Memory is wanting only behind the report: in the mount, or for
+-- the entries that dangle in it, or for its shape.
 abbrev pub PutsCheck : Endian → ℕ → List ℕ → Bool → SinkChange → Result Bool ProgramFault → Type 0
 PutsCheck e size image asked sink (Ok found) =
     (text : List ℕ) × IsCheck e size image asked text found × Appends sink.old sink.new text
     × (sink.now ≡ sink.before)
 PutsCheck e size image asked sink (Err program.Output) =
     PutsPartOfCheck e size image asked sink.old sink.new × (sink.now ≡ next_count sink.before)
-PutsCheck e size image asked sink (Err (program.Load fault)) =
-    (sink.new ≡ sink.old) × (sink.now ≡ sink.before)
-PutsCheck e size image asked sink (Err (program.Scan scan.BlockSize)) =
-    (sink.new ≡ sink.old) × (sink.now ≡ sink.before)
-PutsCheck e size image asked sink (Err (program.Scan scan.OutOfMemory)) =
-    (length image % size ≢ 0) × PutsPart sink.old sink.new (scan_text e size image)
-    × (sink.now ≡ sink.before)
+PutsCheck e size image asked sink (Err (program.Scan scan.OutOfMemory)) = ⊥
+PutsCheck e size image asked sink (Err (program.Scan fault)) =
+    IsScanFaultOf size image fault × (sink.new ≡ sink.old) × (sink.now ≡ sink.before)
 PutsCheck e size image asked sink (Err (program.Mount mount.OutOfMemory)) =
     Answers e size image (Err mount.OutOfMemory)
     × Appends sink.old sink.new (scan_text e size image) × (sink.now ≡ sink.before)
@@ -88,11 +60,9 @@ PutsCheck e size image asked sink (Err _) = ⊥
 
 -- ---- `cat` and `ls`
 
--- What a call does that mounts an image: nothing is put of one that was not read or does not mount.
+-- What a call does that mounts an image: nothing is put of one that does not mount.
 abbrev pub OnMount : {T : Type 0} → Endian → ℕ → List ℕ → SinkChange → (Mount → Type 0)
     → Result T ProgramFault → Type 0
-OnMount e size image sink puts (Err (program.Load fault)) =
-    (sink.new ≡ sink.old) × (sink.now ≡ sink.before)
 OnMount e size image sink puts (Err (program.Mount fault)) =
     IsRefusalTold e size image (program.Mount fault) × (sink.new ≡ sink.old)
     × (sink.now ≡ sink.before)

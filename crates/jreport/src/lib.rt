@@ -10,10 +10,10 @@
 //! its mount, `specs/TreeText.antt` what the listing is, `specs/Content.antt` which bytes a path
 //! names, `specs/Notes.antt` what is told of findings beside them, `specs/Refusal.antt` which fault
 //! says that an image does not mount, `specs/Faults.antt` how faults are spelled, and
-//! `specs/Advice.antt` what is noted after them. `specs/Puts.antt` (of an image in
-//! memory), `specs/Stream.antt` (block by block) and `specs/WholeImage.antt` (read as a whole) say
-//! what the calls do. `report_examples` and `fault_examples` have worked examples, and `tree_laws`
-//! laws of the listing.
+//! `specs/Advice.antt` what is noted after them. `specs/Puts.antt` (the report) and
+//! `specs/WholeImage.antt` (`check`, `cat` and `ls`) say what the calls do of an image in memory,
+//! `specs/Stream.antt` what they do of one that is read block by block. `report_examples` and
+//! `fault_examples` have worked examples, and `tree_laws` laws of the listing.
 #![tactic(auto)]
 
 mod advice;
@@ -59,4 +59,4 @@ pub use crate::stream::stream_lines;
 pub use crate::tree::{push_number, put_object, put_tail, write_mode};
 pub use crate::tree_walk::{put_subtree, tree_lines};
 pub use crate::verdict::verdict_lines;
-pub use crate::whole_image::{file_bytes, image_file, image_tree, put_check, put_list};
+pub use crate::whole_image::{image_check, image_file, image_tree};

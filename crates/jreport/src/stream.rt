@@ -5,9 +5,8 @@ ghost use Rattle.std.specs.Io.KnownBytes.{Appends};
 ghost use Rattle.flashbase.specs.Sinks.{change_of};
 ghost use Rattle.jscan.specs.Image.{greatest_image, is_block_size};
 ghost use Rattle.jscan.specs.Stream.{IsAtStart, failures_of, rest_of};
-ghost use Rattle.jreport.specs.WholeImage.{OfSomeImage};
 ghost use Rattle.jreport.specs.Report.{lines_below};
-ghost use Rattle.jreport.specs.Stream.{HandsBack, PutsStream, ReadsTo};
+ghost use Rattle.jreport.specs.Stream.{HandsBack, OfSomeImage, PutsStream, ReadsTo};
 
 use crate::blocks::{nothing, put_block, put_total};
 use crate::faults::ProgramFault;

@@ -9,7 +9,6 @@ use byteorder::LittleEndian;
 use flashbase::LoadFault;
 use jreport::{ProgramFault, stream_lines};
 use std::alloc::Global;
-use std::process::Abort;
 use std::test::Fail;
 use test_support::{Giver, MADE, Taker};
 
@@ -29,9 +28,8 @@ fn count_of_puts(
     is_silent: bool,
 ) -> Option<usize> {
     for calls in 0..100usize {
-        let mut source = Giver::failing(image, 1000, usize::MAX);
         let mut sink = Taker::failing(alloc, 40, calls, is_silent);
-        let answer = ask(alloc, call, &mut source, GEOMETRY, &mut sink);
+        let answer = ask(alloc, call, image, GEOMETRY, &mut sink);
         if answer.is_ok() {
             return if sink.took(0, text) {
                 Some(calls)
@@ -59,38 +57,15 @@ fn sinks_that_fail_once(rt: HostRuntime) -> Result<(), Fail> {
     Ok(())
 }
 
-/// Stops the test unless a source that fails at this call is told of, and nothing is put.
-fn is_told_of_source(rt: &impl Abort, alloc: Global, image: &[u8], call: Call, calls: usize) {
-    let mut source = Giver::failing(image, 100, calls);
-    let mut sink = Taker::new(alloc);
-    let answer = ask(alloc, call, &mut source, GEOMETRY, &mut sink);
-    equal(rt, answer, Err(ProgramFault::Load(LoadFault::Device)));
-    expect(rt, source.failures == 1 && sink.took(0, b""));
-}
-
-/// The image is 456 bytes long, which are given in five calls, and a sixth tells that there are no
-/// more.
 #[test]
-fn sources_that_fail_once(rt: HostRuntime) -> Result<(), Fail> {
-    let image = image_of(rt.alloc(), TREE)?;
-    for &call in calls() {
-        for calls in 0..6usize {
-            is_told_of_source(&rt, rt.alloc(), &image, call, calls);
-        }
-    }
-    Ok(())
-}
-
-#[test]
-fn devices_of_one_byte_a_call(rt: HostRuntime) -> Result<(), Fail> {
+fn sinks_of_one_byte_a_call(rt: HostRuntime) -> Result<(), Fail> {
     let image = image_of(rt.alloc(), TREE)?;
     for &call in calls() {
         let (want, text) = answer_and_text(rt.alloc(), call, &image, GEOMETRY);
-        let mut source = Giver::failing(&image, 1, usize::MAX);
         let mut sink = Taker::limited(rt.alloc(), 1, usize::MAX);
-        let answer = ask(rt.alloc(), call, &mut source, GEOMETRY, &mut sink);
+        let answer = ask(rt.alloc(), call, &image, GEOMETRY, &mut sink);
         equal(&rt, answer, want);
-        expect(&rt, sink.took(0, &text) && source.failures == 0);
+        expect(&rt, sink.took(0, &text));
     }
     Ok(())
 }

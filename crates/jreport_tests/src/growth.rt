@@ -27,12 +27,11 @@ fn fault(
     image: &[u8],
     (call, found, text): (&Call, u64, &[u8]),
 ) -> Option<ProgramFault<'static>> {
-    let mut source = Giver::failing(image, 100, usize::MAX);
     let mut sink = Matcher {
         rest: text,
         failures: 0,
     };
-    match ask(alloc, *call, &mut source, GEOMETRY, &mut sink) {
+    match ask(alloc, *call, image, GEOMETRY, &mut sink) {
         Ok(answer) if answer == found && sink.rest.is_empty() => None,
         Ok(_) => Some(ProgramFault::Output),
         Err(fault) => Some(fault),
@@ -49,11 +48,9 @@ fn refused_growth_of_whole_calls(rt: HostRuntime) {
     for &row in whole() {
         match fault(rt.alloc(), &image, row) {
             None => (),
-            Some(
-                ProgramFault::OutOfMemory
-                | ProgramFault::Load(LoadFault::OutOfMemory)
-                | ProgramFault::Mount(MountFault::OutOfMemory),
-            ) => equal(&rt, fault(rt.alloc(), &image, row), None),
+            Some(ProgramFault::OutOfMemory | ProgramFault::Mount(MountFault::OutOfMemory)) => {
+                equal(&rt, fault(rt.alloc(), &image, row), None)
+            }
             Some(other) => equal(&rt, Some(other), None),
         }
     }

@@ -1,5 +1,4 @@
-//! Images that are read as a whole: what `check`, `cat` and `ls` write of them, and what they
-//! answer.
+//! Images in memory: what `check`, `cat` and `ls` write of them, and what they answer.
 
 use crate::checks::{equal, expect};
 use crate::images::{
@@ -7,12 +6,11 @@ use crate::images::{
     ONE_BLOCK, OTHER_ORDER, Raw, TREE, image_of, raw_image,
 };
 use byteorder::LittleEndian;
-use flashbase::{FromReader, FromWriter, Sink, Source};
+use flashbase::{FromWriter, Sink};
 use jline::put_escaped;
 use jmount::{FindFault, MountFault, mount};
 use jreport::{
-    Found, ProgramFault, content, file_bytes, found_in, image_file, image_tree, put_check,
-    put_list, put_note,
+    Found, ProgramFault, content, found_in, image_check, image_file, image_tree, put_note,
 };
 use jscan::{GREATEST_IMAGE, Geometry};
 use std::alloc::Global;
@@ -83,7 +81,7 @@ fn names_that_are_long(rt: HostRuntime) -> Result<(), Fail> {
     Ok(())
 }
 
-/// What is asked of an image that is read as a whole.
+/// What is asked of an image.
 #[derive(Clone, Copy)]
 pub(crate) enum Call {
     Check,
@@ -99,25 +97,21 @@ pub(crate) fn calls() -> &'static [Call] {
 }
 
 /// The answer of a call: how much it found.
-pub(crate) fn ask<S: Source, T: Sink>(
+pub(crate) fn ask<T: Sink>(
     alloc: Global,
     call: Call,
-    source: &mut S,
+    image: &[u8],
     geometry: Geometry,
     sink: &mut T,
 ) -> Result<u64, ProgramFault<'static>> {
     match call {
         Call::Check => {
-            let found = put_check::<LittleEndian, S, T>(alloc, source, geometry, false, sink)?;
+            let found = image_check::<LittleEndian, T>(alloc, image, geometry, false, sink)?;
             Ok(u64::from(found))
         }
-        Call::Content(path) => {
-            file_bytes::<LittleEndian, S, T>(alloc, source, geometry, path, sink)
-        }
-        Call::Listing => put_list::<LittleEndian, S, T>(alloc, source, geometry, None, sink),
-        Call::Part(path) => {
-            put_list::<LittleEndian, S, T>(alloc, source, geometry, Some(path), sink)
-        }
+        Call::Content(path) => image_file::<LittleEndian, T>(alloc, image, geometry, path, sink),
+        Call::Listing => image_tree::<LittleEndian, T>(alloc, image, geometry, None, sink),
+        Call::Part(path) => image_tree::<LittleEndian, T>(alloc, image, geometry, Some(path), sink),
     }
 }
 
@@ -128,29 +122,8 @@ pub(crate) fn answer_and_text(
     image: &[u8],
     geometry: Geometry,
 ) -> (Result<u64, ProgramFault<'static>>, Vec<u8>) {
-    let mut source = FromReader::new(image);
     let mut sink = FromWriter::new(Vec::new(alloc));
-    let answer = ask(alloc, call, &mut source, geometry, &mut sink);
-    (answer, sink.into_writer())
-}
-
-/// The same of an image that is in memory, of which `check` reads none.
-fn image_answer_and_text(
-    alloc: Global,
-    call: Call,
-    image: &[u8],
-) -> (Result<u64, ProgramFault<'static>>, Vec<u8>) {
-    let mut sink = FromWriter::new(Vec::new(alloc));
-    let answer = match call {
-        Call::Check => return answer_and_text(alloc, call, image, GEOMETRY),
-        Call::Content(path) => {
-            image_file::<LittleEndian, _>(alloc, image, GEOMETRY, path, &mut sink)
-        }
-        Call::Listing => image_tree::<LittleEndian, _>(alloc, image, GEOMETRY, None, &mut sink),
-        Call::Part(path) => {
-            image_tree::<LittleEndian, _>(alloc, image, GEOMETRY, Some(path), &mut sink)
-        }
-    };
+    let answer = ask(alloc, call, image, geometry, &mut sink);
     (answer, sink.into_writer())
 }
 
@@ -259,8 +232,7 @@ fn worked() -> &'static [Row] {
     ]
 }
 
-/// Stops the test unless a call has this answer, and puts this, whether the image is read or is in
-/// memory.
+/// Stops the test unless a call has this answer, and puts this.
 fn is_answered(
     rt: &impl Abort,
     alloc: Global,
@@ -270,9 +242,6 @@ fn is_answered(
     text: &[u8],
 ) {
     let (answer, put) = answer_and_text(alloc, call, image, GEOMETRY);
-    equal(rt, answer, want);
-    equal(rt, put.as_slice(), text);
-    let (answer, put) = image_answer_and_text(alloc, call, image);
     equal(rt, answer, want);
     equal(rt, put.as_slice(), text);
 }

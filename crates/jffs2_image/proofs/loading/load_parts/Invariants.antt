@@ -1,6 +1,6 @@
 use Rattle.std.proofs.Common.{◌≡◌, ℕ, List}
 use Rattle.jffs2_image.proofs.HostLemmas.{IsReading}
-use Rattle.jffs2_image.proofs.writing.load_parts.Given as goal
+use Rattle.jffs2_image.proofs.loading.load_parts.Given as goal
 
 abbrev pub invariant-loop-line : goal.invariant-loop-line
 invariant-loop-line g l = record {
