@@ -1,4 +1,4 @@
-use Rattle.std.proofs.Common.{◌≡◌, ◌∙◌, Err, ap}
+use Rattle.std.proofs.Common.{◌≡◌, ℕ, Err, ap}
 use Rattle.jffs2_image.proofs.LoadingLemmas.{given, large_fault, load_counts, load_reason, too_long}
 use Rattle.jffs2_image.specs.declared.loading.FileFault.TheVariants as file
 use Rattle.jffs2_image.proofs.loading.load_opened.Goals as goal
@@ -12,7 +12,7 @@ returns-in-Err-clause-large g c = λ told gives is.
     too_long told _ gives (c.in-Err.ensures.too_large (ap Err (large_fault c.in-Err.fault _ c.fault_of_load.result c.fault_of_load.ensures large)))
 
 pub returns-in-Err-clause-count : goal.returns-in-Err-clause-count
-returns-in-Err-clause-count g c = load_counts _ _ _ _ _ c.in-Err.fault _ c.fault_of_load.result c.fault_of_load.ensures c.close.ensures.count c.in-Err.ensures.count
+returns-in-Err-clause-count g c = load_counts ℕ ℕ _ _ _ c.in-Err.fault _ c.fault_of_load.result c.fault_of_load.ensures c.close.ensures.count c.in-Err.ensures.count
 
 pub returns-in-Err-clause-reason : goal.returns-in-Err-clause-reason
 returns-in-Err-clause-reason g c = load_reason c.in-Err.fault _ _ c.fault_of_load.result c.fault_of_load.ensures c.reason.ensures

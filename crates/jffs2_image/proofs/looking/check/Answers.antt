@@ -1,6 +1,7 @@
-use Rattle.std.proofs.Common.{ℕ, Err, None, ap, rules}
+use Rattle.std.proofs.Common.{ℕ, Err, None, ap, rules, subst}
 use Rattle.std.specs.Prelude.{IsTrue}
 use Rattle.jscan.specs.Image.{is_block_size}
+use Rattle.jffs2_image.specs.Host.{CountsFile}
 use Rattle.jffs2_image.proofs.LoadingLemmas.{told_reads, told_unread}
 use Rattle.jffs2_image.proofs.LookingLemmas.{check_put, check_reads, check_unopened, check_unread, check_unsized}
 use Rattle.jffs2_image.specs.declared.loading.FileFault.TheVariants as file
@@ -26,7 +27,7 @@ returns-in-Err-load_opened-clause-meets g c =
 
 pub returns-in-Err-load_opened-clause-host : goal.returns-in-Err-load_opened-clause-host
 returns-in-Err-load_opened-clause-host g c =
-    told_reads _ ℕ c.args.image.now _ _ _ c.in-Err-load_opened.fault c.told_of-in-Err-load_opened.result c.told_of-in-Err-load_opened.ensures (rw c.in-Ok.ensures.counting at c.in-Err-load_opened.ensures.count)
+    told_reads ℕ ℕ c.args.image.now _ _ _ c.in-Err-load_opened.fault c.told_of-in-Err-load_opened.result c.told_of-in-Err-load_opened.ensures (subst (λ (n : ℕ). CountsFile {T = ℕ} n (g.L.Loader.failures c.load_opened.new.loader) (Err c.in-Err-load_opened.fault)) c.in-Ok.ensures.counting c.in-Err-load_opened.ensures.count)
     (λ is. c.in-Err-load_opened.ensures.large _ c.in-Ok.ensures.opened (ap Err is))
 
 pub returns-clause-meets : goal.returns-clause-meets
