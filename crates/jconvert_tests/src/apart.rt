@@ -25,99 +25,113 @@ const CD: Node<'static> = Node::Inode(2, FILE, b"cd");
 
 const EF: Node<'static> = Node::Inode(2, FILE, b"ef");
 
-/// Nodes, those that stay, and those that are left out: each one's address, and the highest of one
-/// that clashes with it.
+/// A node that is left out: its address, and that of the highest one that clashes with it.
+struct Left(u32, u32);
+
+/// Nodes, those that stay, and those that are left out.
 struct Row {
     nodes: &'static [Node<'static>],
     stay: &'static [Node<'static>],
-    left: &'static [(u32, u32)],
+    left: &'static [Left],
 }
 
-const ROWS: [Row; 11] = [
-    // None clash: another directory, another name, an entry beside an inode node.
-    Row {
-        nodes: &[
-            AB,
-            Node::Entry(1, 2, b"a"),
-            Node::Entry(1, 3, b"b"),
-            Node::Entry(2, 3, b"a"),
-        ],
-        stay: &[
-            AB,
-            Node::Entry(1, 2, b"a"),
-            Node::Entry(1, 3, b"b"),
-            Node::Entry(2, 3, b"a"),
-        ],
-        left: &[],
-    },
-    // Twins stay both.
-    Row {
-        nodes: &[AB, AB],
-        stay: &[AB, AB],
-        left: &[],
-    },
-    // The higher one stays, whichever it is.
-    Row {
-        nodes: &[AB, CD],
-        stay: &[CD],
-        left: &[(0, 72)],
-    },
-    Row {
-        nodes: &[CD, AB],
-        stay: &[AB],
-        left: &[(0, 72)],
-    },
-    // Entries by their numbers.
-    Row {
-        nodes: &[Node::Entry(1, 2, b"a"), Node::Entry(1, 3, b"a")],
-        stay: &[Node::Entry(1, 3, b"a")],
-        left: &[(0, 44)],
-    },
-    Row {
-        nodes: &[Node::Entry(1, 3, b"a"), AB, Node::Entry(1, 2, b"a"), CD],
-        stay: &[Node::Entry(1, 2, b"a"), CD],
-        left: &[(0, 116), (44, 160)],
-    },
-    // Three.
-    Row {
-        nodes: &[AB, CD, EF],
-        stay: &[EF],
-        left: &[(0, 144), (72, 144)],
-    },
-    // The first says what the last says, and clashes with the one between.
-    Row {
-        nodes: &[AB, CD, AB],
-        stay: &[AB],
-        left: &[(0, 72), (72, 144)],
-    },
-    Row {
-        nodes: &[AB, AB, CD],
-        stay: &[CD],
-        left: &[(0, 144), (72, 144)],
-    },
-    Row {
-        nodes: &[AB, CD, CD],
-        stay: &[CD, CD],
-        left: &[(0, 144)],
-    },
-    // A clash of times alone.
-    Row {
-        nodes: &[
-            Node::Owned(2, FILE, b"ab", 5, 6, 9),
-            Node::Entry(1, 2, b"a"),
-            AB,
-        ],
-        stay: &[Node::Entry(1, 2, b"a"), AB],
-        left: &[(0, 116)],
-    },
-];
+/// None clash: another directory, another name, an entry beside an inode node, or twins, which stay
+/// both.
+fn without_clashes() -> &'static [Row] {
+    &[
+        Row {
+            nodes: &[
+                AB,
+                Node::Entry(1, 2, b"a"),
+                Node::Entry(1, 3, b"b"),
+                Node::Entry(2, 3, b"a"),
+            ],
+            stay: &[
+                AB,
+                Node::Entry(1, 2, b"a"),
+                Node::Entry(1, 3, b"b"),
+                Node::Entry(2, 3, b"a"),
+            ],
+            left: &[],
+        },
+        Row {
+            nodes: &[AB, AB],
+            stay: &[AB, AB],
+            left: &[],
+        },
+    ]
+}
 
-fn are_left(left: &[LeftOut], wanted: &[(u32, u32)]) -> bool {
+/// The higher one stays, whichever it is. Entries clash by their numbers.
+fn pairs() -> &'static [Row] {
+    &[
+        Row {
+            nodes: &[AB, CD],
+            stay: &[CD],
+            left: &[Left(0, 72)],
+        },
+        Row {
+            nodes: &[CD, AB],
+            stay: &[AB],
+            left: &[Left(0, 72)],
+        },
+        Row {
+            nodes: &[Node::Entry(1, 2, b"a"), Node::Entry(1, 3, b"a")],
+            stay: &[Node::Entry(1, 3, b"a")],
+            left: &[Left(0, 44)],
+        },
+        Row {
+            nodes: &[Node::Entry(1, 3, b"a"), AB, Node::Entry(1, 2, b"a"), CD],
+            stay: &[Node::Entry(1, 2, b"a"), CD],
+            left: &[Left(0, 116), Left(44, 160)],
+        },
+    ]
+}
+
+/// Three that clash, and two by their times alone.
+fn three() -> &'static [Row] {
+    &[
+        Row {
+            nodes: &[AB, CD, EF],
+            stay: &[EF],
+            left: &[Left(0, 144), Left(72, 144)],
+        },
+        // The first says what the last says, and clashes with the one between.
+        Row {
+            nodes: &[AB, CD, AB],
+            stay: &[AB],
+            left: &[Left(0, 72), Left(72, 144)],
+        },
+        Row {
+            nodes: &[AB, AB, CD],
+            stay: &[CD],
+            left: &[Left(0, 144), Left(72, 144)],
+        },
+        Row {
+            nodes: &[AB, CD, CD],
+            stay: &[CD, CD],
+            left: &[Left(0, 144)],
+        },
+        // A clash of times alone.
+        Row {
+            nodes: &[
+                Node::Owned(2, FILE, b"ab", 5, 6, 9),
+                Node::Entry(1, 2, b"a"),
+                AB,
+            ],
+            stay: &[Node::Entry(1, 2, b"a"), AB],
+            left: &[Left(0, 116)],
+        },
+    ]
+}
+
+fn are_left(left: &[LeftOut], wanted: &[Left]) -> bool {
     if left.len() != wanted.len() {
         return false;
     }
     for i in 0..left.len() {
-        if (left[i].addr, left[i].by) != wanted[i] {
+        let Left(addr, by) = wanted[i];
+        if left[i].addr != addr || left[i].by != by {
             return false;
         }
     }
@@ -144,11 +158,18 @@ fn is_parted<E: Order>(rt: &impl Abort, alloc: Global, row: &Row) -> Result<(), 
     Ok(())
 }
 
+fn are_parted(rt: &impl Abort, alloc: Global, rows: &[Row]) -> Result<(), Fail> {
+    for row in rows {
+        is_parted::<LittleEndian>(rt, alloc, row)?;
+        is_parted::<BigEndian>(rt, alloc, row)?;
+    }
+    Ok(())
+}
+
 #[test]
 fn nodes_that_clash_are_left_out(rt: HostRuntime) -> Result<(), Fail> {
-    for row in &ROWS {
-        is_parted::<LittleEndian>(&rt, rt.alloc(), row)?;
-        is_parted::<BigEndian>(&rt, rt.alloc(), row)?;
+    for rows in [without_clashes(), pairs(), three()] {
+        are_parted(&rt, rt.alloc(), rows)?;
     }
     Ok(())
 }
@@ -187,7 +208,7 @@ fn calls_one_after_another(rt: HostRuntime) -> Result<(), Fail> {
     let Ok(parted) = part::<LittleEndian>(alloc, &image, BLOCKS_OF_8_KIB, &judged.held) else {
         panic!(rt; "not parted");
     };
-    expect(&rt, are_left(&parted.left, &[(0, 72)]));
+    expect(&rt, are_left(&parted.left, &[Left(0, 72)]));
     for node in &parted.stay {
         expect(&rt, matches!(node, NodeRef::Inode(inode) if inode.uid == 5));
     }
@@ -197,17 +218,22 @@ fn calls_one_after_another(rt: HostRuntime) -> Result<(), Fail> {
     Ok(())
 }
 
+/// Images, their block sizes, and their faults.
+fn refused() -> &'static [(Image, u32, ConvertFault)] {
+    &[
+        (Image::NoContent, 8192, ConvertFault::Data { addr: 12 }),
+        (Image::Little, 4096, ConvertFault::Geometry),
+        (Image::Little, 8190, ConvertFault::BlockSize),
+    ]
+}
+
 /// What `decompress` refuses is refused before a byte is put.
 #[test]
 fn refusals_come_first(rt: HostRuntime) {
-    for (image, block, wanted) in [
-        (no_content(), 8192, ConvertFault::Data { addr: 12 }),
-        (little_image(), 4096, ConvertFault::Geometry),
-        (little_image(), 8190, ConvertFault::BlockSize),
-    ] {
+    for &(image, block, wanted) in refused() {
         let sink = Taker::new(rt.alloc());
         let geometry = Geometry { block };
-        match decompress_apart::<LittleEndian, Taker>(rt.alloc(), image, geometry, sink) {
+        match decompress_apart::<LittleEndian, Taker>(rt.alloc(), image.bytes(), geometry, sink) {
             Err((fault, Some(back))) => {
                 expect_at(&rt, fault == wanted, block);
                 expect(&rt, back.took(0, &[]));

@@ -52,21 +52,26 @@ const ATTRIBUTES: Attributes = Attributes {
     mtime: 8,
 };
 
+const SAME: &[u8] = &[0x61; 200];
+
 /// Of 200 equal bytes a regular file's alone are compressed, and a few are not, since that is no
-/// shorter.
+/// shorter: nodes, how many change, and how many bytes go out.
+fn nodes() -> &'static [(&'static Node<'static>, u64, u64)] {
+    &[
+        (&Node::Inode(2, FILE, SAME), 1, 92),
+        (&Node::Inode(2, 0o100_755, SAME), 1, 92),
+        (&Node::Inode(2, SYMLINK, SAME), 0, 280),
+        (&Node::Inode(2, 0o020_644, SAME), 0, 280),
+        (&Node::Inode(2, FILE, b"abcdefghij"), 0, 92),
+        (&Node::Hole(2, 200), 0, 80),
+        (&Node::Entry(1, 2, SAME), 0, 252),
+    ]
+}
+
 #[test]
 fn what_is_compressed(rt: HostRuntime) -> Result<(), Fail> {
-    let same = &[0x61; 200];
-    for (node, changed, bytes) in [
-        (Node::Inode(2, FILE, same), 1, 92),
-        (Node::Inode(2, 0o100_755, same), 1, 92),
-        (Node::Inode(2, SYMLINK, same), 0, 280),
-        (Node::Inode(2, 0o020_644, same), 0, 280),
-        (Node::Inode(2, FILE, b"abcdefghij"), 0, 92),
-        (Node::Hole(2, 200), 0, 80),
-        (Node::Entry(1, 2, &[0x61; 200]), 0, 252),
-    ] {
-        let image = image_of_nodes::<LittleEndian>(rt.alloc(), &[node], ATTRIBUTES)?;
+    for &(node, changed, bytes) in nodes() {
+        let image = image_of_nodes::<LittleEndian>(rt.alloc(), &[*node], ATTRIBUTES)?;
         let out = is_given_back::<LittleEndian>(&rt, rt.alloc(), &image, changed, 1);
         equal(&rt, out, bytes);
     }
@@ -95,19 +100,28 @@ fn is_refused(
     Ok(())
 }
 
+/// Images, their block sizes, and the texts of their faults.
+fn refused() -> &'static [(Image, u32, &'static str)] {
+    &[
+        (Image::Little, 4095, "M1 BlockSize"),
+        (Image::Little, 8192, "M4 Compressed at 000000e0 compr 6"),
+        (Image::NoContent, 8192, "M4 Compressed at 0000000c compr 2"),
+        (
+            Image::UnreadMethod,
+            8192,
+            "M4 Compressed at 0000000c compr 5",
+        ),
+        (Image::ReadOnly, 8192, "S3 ReadOnly"),
+        (Image::ReadOnly, 4096, "S3 ReadOnly"),
+        (Image::LittleExpanded, 4096, "S7 Geometry"),
+    ]
+}
+
 /// A compressed node is refused, whatever its method and its data.
 #[test]
 fn images_are_not_compressed(rt: HostRuntime) -> Result<(), Fail> {
-    for (image, block, text) in [
-        (little_image(), 4095, "M1 BlockSize"),
-        (little_image(), 8192, "M4 Compressed at 000000e0 compr 6"),
-        (no_content(), 8192, "M4 Compressed at 0000000c compr 2"),
-        (unread_method(), 8192, "M4 Compressed at 0000000c compr 5"),
-        (read_only(), 8192, "S3 ReadOnly"),
-        (read_only(), 4096, "S3 ReadOnly"),
-        (little_expanded(), 4096, "S7 Geometry"),
-    ] {
-        is_refused(&rt, rt.alloc(), image, block, text)?;
+    for &(image, block, text) in refused() {
+        is_refused(&rt, rt.alloc(), image.bytes(), block, text)?;
     }
     Ok(())
 }

@@ -99,11 +99,9 @@ fn is_put_again(rt: &impl Abort, alloc: Global, most: usize, held: usize) {
     expect(rt, sink.took(0, little_expanded()));
 }
 
-/// The same goes out, however much is held of what the data stand for: 60, 20, 20, 0, 20 and 1
-/// bytes.
-#[test]
-fn contents_that_are_held(rt: HostRuntime) {
-    for (most, held) in [
+/// How much may be held, and how much is.
+fn holdings() -> &'static [(usize, usize)] {
+    &[
         (0, 0),
         (59, 0),
         (60, 60),
@@ -111,7 +109,14 @@ fn contents_that_are_held(rt: HostRuntime) {
         (100, 100),
         (120, 120),
         (1000, 121),
-    ] {
+    ]
+}
+
+/// The same goes out, however much is held of what the data stand for: 60, 20, 20, 0, 20 and 1
+/// bytes.
+#[test]
+fn contents_that_are_held(rt: HostRuntime) {
+    for &(most, held) in holdings() {
         is_put_again(&rt, rt.alloc(), most, held);
     }
 }

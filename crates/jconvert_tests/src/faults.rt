@@ -32,19 +32,28 @@ fn is_refused(
     Ok(())
 }
 
+/// Images, their block sizes, and the texts of their faults.
+fn refused() -> &'static [(Image, u32, &'static str)] {
+    &[
+        (Image::Little, 4095, "M1 BlockSize"),
+        (Image::NoContent, 8192, "Z1 Data at 0000000c"),
+        (
+            Image::UnreadMethod,
+            8192,
+            "M4 Compressed at 0000000c compr 5",
+        ),
+        (Image::TooLong, 8192, "Z2 TooLong at 0000000c"),
+        (Image::Incompatible, 8192, "Z1 Data at 0000000c"),
+        (Image::ReadOnly, 8192, "S3 ReadOnly"),
+        (Image::ReadOnly, 4096, "S3 ReadOnly"),
+        (Image::Little, 4096, "S7 Geometry"),
+    ]
+}
+
 #[test]
 fn images_are_refused(rt: HostRuntime) -> Result<(), Fail> {
-    for (image, block, text) in [
-        (little_image(), 4095, "M1 BlockSize"),
-        (no_content(), 8192, "Z1 Data at 0000000c"),
-        (unread_method(), 8192, "M4 Compressed at 0000000c compr 5"),
-        (too_long(), 8192, "Z2 TooLong at 0000000c"),
-        (incompatible(), 8192, "Z1 Data at 0000000c"),
-        (read_only(), 8192, "S3 ReadOnly"),
-        (read_only(), 4096, "S3 ReadOnly"),
-        (little_image(), 4096, "S7 Geometry"),
-    ] {
-        is_refused(&rt, rt.alloc(), image, block, text)?;
+    for &(image, block, text) in refused() {
+        is_refused(&rt, rt.alloc(), image.bytes(), block, text)?;
     }
     Ok(())
 }

@@ -1,5 +1,31 @@
 //! Images and what they are decompressed to, made by Python's `struct` and `zlib`.
 
+/// What a row names an image by.
+#[derive(Clone, Copy)]
+pub(crate) enum Image {
+    Little,
+    LittleExpanded,
+    NoContent,
+    UnreadMethod,
+    TooLong,
+    Incompatible,
+    ReadOnly,
+}
+
+impl Image {
+    pub(crate) fn bytes(self) -> &'static [u8] {
+        match self {
+            Image::Little => little_image(),
+            Image::LittleExpanded => little_expanded(),
+            Image::NoContent => no_content(),
+            Image::UnreadMethod => unread_method(),
+            Image::TooLong => too_long(),
+            Image::Incompatible => incompatible(),
+            Image::ReadOnly => read_only(),
+        }
+    }
+}
+
 /// An image with nodes of each method, among others.
 pub(crate) fn little_image() -> &'static [u8] {
     b"\x85\x19\x03\x20\x0c\x00\x00\x00\xb1\xb0\x1e\xe4\x85\x19\x01\xe0\x29\x00\x00\x00\x6d\xa6\x2f\

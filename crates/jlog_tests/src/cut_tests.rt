@@ -12,6 +12,7 @@ use jnode::{Damage, Order};
 use jscan::{Finding, FindingKind, Geometry, Page};
 use jsteps::{Op, Text};
 use std::alloc::Global;
+use std::process::Abort;
 use std::test::Fail;
 use test_operations::{By, op_of, ops_of};
 
@@ -67,9 +68,10 @@ const FILE: u32 = 0o100644;
 
 const DIRECTORY: u32 = 0o040755;
 
-fn cases() -> &'static [Case] {
+/// The last byte is that of erased flash, and zeros fill the gap before it. A node whose last bytes
+/// are those of erased flash is whole before they are written.
+fn cut_files() -> &'static [Case] {
     &[
-        // The last byte is that of erased flash, and zeros fill the gap before it.
         Case {
             about: "a file that is cut and written past its end",
             flash: ONE,
@@ -92,7 +94,27 @@ fn cases() -> &'static [Case] {
             whole: &[80, 121, 202, 272, 340, 408],
             len: 412,
         },
-        // Both names are there once the new one is whole.
+        Case {
+            about: "a file that ends in erased bytes",
+            flash: ONE,
+            goes_on: false,
+            in_turn: false,
+            lines: &["create /a 644", "erase /a 0 3"],
+            steps: &[
+                Change::Make(FILE, 0, 1),
+                Change::Name(b"a", 2),
+                Change::Put(0, 0, b"\xFF\xFF\xFF", 2),
+            ],
+            whole: &[80, 121, 192],
+            len: 196,
+        },
+    ]
+}
+
+/// Both names are there once the new one is whole. A node of the root stands between two of its
+/// names.
+fn directories() -> &'static [Case] {
+    &[
         Case {
             about: "a directory that is renamed",
             flash: ONE,
@@ -108,71 +130,6 @@ fn cases() -> &'static [Case] {
             whole: &[80, 121, 165, 209],
             len: 212,
         },
-        // Its name stands for the whole old file up to the node that sets it, and for the whole new
-        // one from there on.
-        Case {
-            about: "a file that is replaced",
-            flash: ONE,
-            goes_on: false,
-            in_turn: false,
-            lines: &[
-                "create /a 644",
-                "text /a 0 0123456789",
-                "create /b 644",
-                "text /b 0 12",
-                "replace /b /a",
-            ],
-            steps: &[
-                Change::Make(FILE, 0, 1),
-                Change::Name(b"a", 2),
-                Change::Put(0, 0, b"0123456789", 2),
-                Change::Make(FILE, 0, 3),
-                Change::Name(b"b", 3),
-                Change::Put(1, 0, b"12", 4),
-                Change::Name(b"a", 3),
-                Change::Clear(b"b"),
-            ],
-            whole: &[80, 121, 202, 272, 313, 386, 429, 473],
-            len: 476,
-        },
-        // No name stands for a part of the bytes.
-        Case {
-            about: "files with bytes that are there whole or not at all",
-            flash: ONE,
-            goes_on: false,
-            in_turn: false,
-            lines: &[
-                "create /a 644",
-                "file /b 644 4100",
-                "replace /b /a",
-                "file /e 644 0",
-            ],
-            steps: &[
-                Change::Make(FILE, 0, 1),
-                Change::Name(b"a", 2),
-                Change::Make(FILE, 4096, 2),
-                Change::Fill(1, 4096, 4, 2),
-                Change::Name(b"b", 3),
-                Change::Name(b"a", 3),
-                Change::Clear(b"b"),
-                Change::Make(FILE, 0, 4),
-                Change::Name(b"e", 4),
-            ],
-            whole: &[80, 121, 4288, 4360, 4401, 4445, 4489, 4560, 4601],
-            len: 4604,
-        },
-        // The root's first inode node.
-        Case {
-            about: "a root that gets attributes",
-            flash: ONE,
-            goes_on: false,
-            in_turn: false,
-            lines: &["attr / 700"],
-            steps: &[Change::Root(0o700, 1)],
-            whole: &[80],
-            len: 80,
-        },
-        // A node of the root between two of its names.
         Case {
             about: "a root with names",
             flash: ONE,
@@ -189,7 +146,81 @@ fn cases() -> &'static [Case] {
             whole: &[80, 121, 192, 260, 301],
             len: 304,
         },
-        // It keeps its bytes.
+    ]
+}
+
+/// Its name stands for the whole old file up to the node that sets it, and for the whole new one
+/// from there on.
+fn replaced() -> &'static [Case] {
+    &[Case {
+        about: "a file that is replaced",
+        flash: ONE,
+        goes_on: false,
+        in_turn: false,
+        lines: &[
+            "create /a 644",
+            "text /a 0 0123456789",
+            "create /b 644",
+            "text /b 0 12",
+            "replace /b /a",
+        ],
+        steps: &[
+            Change::Make(FILE, 0, 1),
+            Change::Name(b"a", 2),
+            Change::Put(0, 0, b"0123456789", 2),
+            Change::Make(FILE, 0, 3),
+            Change::Name(b"b", 3),
+            Change::Put(1, 0, b"12", 4),
+            Change::Name(b"a", 3),
+            Change::Clear(b"b"),
+        ],
+        whole: &[80, 121, 202, 272, 313, 386, 429, 473],
+        len: 476,
+    }]
+}
+
+/// No name stands for a part of the bytes.
+fn whole_files() -> &'static [Case] {
+    &[Case {
+        about: "files with bytes that are there whole or not at all",
+        flash: ONE,
+        goes_on: false,
+        in_turn: false,
+        lines: &[
+            "create /a 644",
+            "file /b 644 4100",
+            "replace /b /a",
+            "file /e 644 0",
+        ],
+        steps: &[
+            Change::Make(FILE, 0, 1),
+            Change::Name(b"a", 2),
+            Change::Make(FILE, 4096, 2),
+            Change::Fill(1, 4096, 4, 2),
+            Change::Name(b"b", 3),
+            Change::Name(b"a", 3),
+            Change::Clear(b"b"),
+            Change::Make(FILE, 0, 4),
+            Change::Name(b"e", 4),
+        ],
+        whole: &[80, 121, 4288, 4360, 4401, 4445, 4489, 4560, 4601],
+        len: 4604,
+    }]
+}
+
+/// The root's first inode node, and one of a file, which keeps its bytes.
+fn attributes() -> &'static [Case] {
+    &[
+        Case {
+            about: "a root that gets attributes",
+            flash: ONE,
+            goes_on: false,
+            in_turn: false,
+            lines: &["attr / 700"],
+            steps: &[Change::Root(0o700, 1)],
+            whole: &[80],
+            len: 80,
+        },
         Case {
             about: "a file that gets attributes",
             flash: ONE,
@@ -205,7 +236,12 @@ fn cases() -> &'static [Case] {
             whole: &[80, 121, 202, 272],
             len: 272,
         },
-        // Writing goes on in the next block.
+    ]
+}
+
+/// Writing goes on in the next block. Where a later call stops, what the earlier ones put stands.
+fn going_on() -> &'static [Case] {
+    &[
         Case {
             about: "a base that was cut",
             flash: TWO,
@@ -216,7 +252,6 @@ fn cases() -> &'static [Case] {
             whole: &[80, 121],
             len: 124,
         },
-        // Where a later call stops, what the earlier ones put stands.
         Case {
             about: "a session of three calls",
             flash: TWO,
@@ -242,8 +277,13 @@ fn cases() -> &'static [Case] {
             whole: &[80, 121, 202, 272, 340, 408, 480, 521],
             len: 524,
         },
-        // Two nodes of data, each in its block: some 100,000 mounts, which take a second as LLVM
-        // builds them and many minutes by `rt try`.
+    ]
+}
+
+/// Two nodes of data, each in its block: some 100,000 mounts, which take a second as LLVM builds them
+/// and many minutes by `rt try`. By pages of 16,384, the second write lies in two pages.
+fn in_parts() -> &'static [Case] {
+    &[
         Case {
             about: "a file over two blocks",
             flash: TWO,
@@ -258,36 +298,6 @@ fn cases() -> &'static [Case] {
             ],
             whole: &[80, 121, 4288, 12368],
             len: 12368,
-        },
-        // The first piece is two nodes, since its length would spell the magic; the second write
-        // lies in two pages. A new file has the same pieces.
-        Case {
-            about: "a file by pages of 8192",
-            flash: LARGE,
-            goes_on: false,
-            in_turn: false,
-            lines: &[
-                "create /a 644",
-                "write /a 0 6465",
-                "write /a 8000 500",
-                "file /b 644 6465",
-            ],
-            steps: &[
-                Change::Make(FILE, 0, 1),
-                Change::Name(b"a", 2),
-                Change::Fill(0, 0, 4096, 2),
-                Change::Fill(0, 4096, 2369, 2),
-                Change::Zero(0, 8000, 3),
-                Change::Fill(0, 8000, 192, 3),
-                Change::Fill(0, 8192, 308, 3),
-                Change::Make(FILE, 4096, 4),
-                Change::Fill(1, 4096, 2369, 4),
-                Change::Name(b"b", 3),
-            ],
-            whole: &[
-                80, 121, 4288, 6725, 6796, 7056, 7432, 11_596, 14_033, 14_077,
-            ],
-            len: 14_080,
         },
         Case {
             about: "a file by pages of 16384",
@@ -309,22 +319,40 @@ fn cases() -> &'static [Case] {
             whole: &[80, 121, 16_576, 16_648, 16_720],
             len: 16_720,
         },
-        // A node whose last bytes are those of erased flash is whole before they are written.
-        Case {
-            about: "a file that ends in erased bytes",
-            flash: ONE,
-            goes_on: false,
-            in_turn: false,
-            lines: &["create /a 644", "erase /a 0 3"],
-            steps: &[
-                Change::Make(FILE, 0, 1),
-                Change::Name(b"a", 2),
-                Change::Put(0, 0, b"\xFF\xFF\xFF", 2),
-            ],
-            whole: &[80, 121, 192],
-            len: 196,
-        },
     ]
+}
+
+/// The first piece is two nodes, since its length would spell the magic; the second write lies in
+/// two pages. A new file has the same pieces.
+fn by_pages() -> &'static [Case] {
+    &[Case {
+        about: "a file by pages of 8192",
+        flash: LARGE,
+        goes_on: false,
+        in_turn: false,
+        lines: &[
+            "create /a 644",
+            "write /a 0 6465",
+            "write /a 8000 500",
+            "file /b 644 6465",
+        ],
+        steps: &[
+            Change::Make(FILE, 0, 1),
+            Change::Name(b"a", 2),
+            Change::Fill(0, 0, 4096, 2),
+            Change::Fill(0, 4096, 2369, 2),
+            Change::Zero(0, 8000, 3),
+            Change::Fill(0, 8000, 192, 3),
+            Change::Fill(0, 8192, 308, 3),
+            Change::Make(FILE, 4096, 4),
+            Change::Fill(1, 4096, 2369, 4),
+            Change::Name(b"b", 3),
+        ],
+        whole: &[
+            80, 121, 4288, 6725, 6796, 7056, 7432, 11_596, 14_033, 14_077,
+        ],
+        len: 14_080,
+    }]
 }
 
 /// The operations of lines, asked for at the times 1, 2 and so on.
@@ -452,12 +480,28 @@ fn survives<E: Order>(alloc: Global, case: &Case) -> Result<bool, Fail> {
     Ok(is_long && first_wrong::<E>(alloc, case, &log, &states)?.is_none())
 }
 
+fn all_survive(rt: &impl Abort, alloc: Global, cases: &[Case]) -> Result<(), Fail> {
+    for case in cases {
+        let little = survives::<LittleEndian>(alloc, case)?;
+        let big = survives::<BigEndian>(alloc, case)?;
+        expect_at(rt, little && big, case.about);
+    }
+    Ok(())
+}
+
 #[test]
 fn what_is_left_after_each_byte(rt: HostRuntime) -> Result<(), Fail> {
-    for case in cases() {
-        let little = survives::<LittleEndian>(rt.alloc(), case)?;
-        let big = survives::<BigEndian>(rt.alloc(), case)?;
-        expect_at(&rt, little && big, case.about);
+    for cases in [
+        cut_files(),
+        directories(),
+        replaced(),
+        whole_files(),
+        attributes(),
+        going_on(),
+        in_parts(),
+        by_pages(),
+    ] {
+        all_survive(&rt, rt.alloc(), cases)?;
     }
     Ok(())
 }

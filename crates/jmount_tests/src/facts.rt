@@ -7,17 +7,29 @@ use jscan::Geometry;
 use std::alloc::Global;
 use std::test::Fail;
 
+/// An object and its kind.
+#[derive(Clone, Copy)]
+pub struct OfKind(pub u32, pub Kind);
+
+/// A name of a directory, and the number that it stands for.
+#[derive(Clone, Copy)]
+pub struct Named(pub &'static [u8], pub u32);
+
+/// A directory, a name in it, and the number that it stands for.
+#[derive(Clone, Copy)]
+pub struct Live(pub u32, pub &'static [u8], pub u32);
+
 /// A call on a mounted image, and its answer.
 #[derive(Clone, Copy)]
 pub enum Fact {
     Find(&'static [u8], Result<u32, FindFault>),
     Object(u32, Option<Object>),
     /// All objects, by number and kind.
-    Objects(&'static [(u32, Kind)]),
+    Objects(&'static [OfKind]),
     /// The names of a directory.
-    Entries(u32, &'static [(&'static [u8], u32)]),
-    Names(&'static [(u32, &'static [u8], u32)]),
-    Dangling(&'static [(u32, &'static [u8], u32)]),
+    Entries(u32, &'static [Named]),
+    Names(&'static [Live]),
+    Dangling(&'static [Live]),
     /// What reading from an offset into a slice of so many bytes puts at its front.
     Bytes(u32, u64, usize, &'static [u8]),
     /// Where the zeros of an object end that no node has, from an offset on.
@@ -62,9 +74,9 @@ fn holds(alloc: Global, mounted: &Mounted<'_>, fact: Fact) -> bool {
     }
 }
 
-fn are_objects(mounted: &Mounted<'_>, wanted: &[(u32, Kind)]) -> bool {
+fn are_objects(mounted: &Mounted<'_>, wanted: &[OfKind]) -> bool {
     let mut objects = mounted.objects();
-    for &(ino, kind) in wanted {
+    for &OfKind(ino, kind) in wanted {
         let next = objects.next();
         let object = mounted.object(ino);
         if next != object.map(|object| (ino, object))
@@ -76,31 +88,37 @@ fn are_objects(mounted: &Mounted<'_>, wanted: &[(u32, Kind)]) -> bool {
     objects.next().is_none()
 }
 
-fn are_entries(mounted: &Mounted<'_>, dir: u32, wanted: &[(&[u8], u32)]) -> bool {
+fn are_entries(mounted: &Mounted<'_>, dir: u32, wanted: &[Named]) -> bool {
     let mut entries = mounted.entries(dir);
-    for &entry in wanted {
-        if entries.next() != Some(entry) {
+    for &Named(name, ino) in wanted {
+        if entries.next() != Some((name, ino)) {
             return false;
         }
     }
     entries.next().is_none()
 }
 
-fn are_names(mounted: &Mounted<'_>, wanted: &[(u32, &[u8], u32)]) -> bool {
+fn are_names(mounted: &Mounted<'_>, wanted: &[Live]) -> bool {
     let mut names = mounted.names();
-    for &name in wanted {
-        if names.next() != Some(name) {
+    for &Live(dir, name, ino) in wanted {
+        if names.next() != Some((dir, name, ino)) {
             return false;
         }
     }
     names.next().is_none()
 }
 
-fn are_dangling(alloc: Global, mounted: &Mounted<'_>, wanted: &[(u32, &[u8], u32)]) -> bool {
-    match mounted.dangling(alloc) {
-        Ok(names) => names.as_slice() == wanted,
-        Err(_) => false,
+fn are_dangling(alloc: Global, mounted: &Mounted<'_>, wanted: &[Live]) -> bool {
+    let Ok(names) = mounted.dangling(alloc) else {
+        return false;
+    };
+    let mut left = names.iter();
+    for &Live(dir, name, ino) in wanted {
+        if left.next() != Some(&(dir, name, ino)) {
+            return false;
+        }
     }
+    left.next().is_none()
 }
 
 /// Reads into a slice of at most 128 bytes. What is not read stays as it was.

@@ -1,10 +1,12 @@
 //! Small images, and what they mount as.
 
-use crate::checks::equal_at;
-use crate::facts::{Fact, first_wrong};
+use crate::checks::{equal, equal_at};
+use crate::facts::{Fact, Live, Named, OfKind, first_wrong};
 use crate::images::{DIRECTORY, FILE, Item, Version};
 use byteorder::{BigEndian, LittleEndian};
 use jmount::{FindFault, Kind, Object};
+use std::alloc::Global;
+use std::process::Abort;
 use std::test::Fail;
 use test_support::READ_ONLY;
 
@@ -41,130 +43,161 @@ const ROOT_OF_VERSION_0: Object = Object {
     ctime: 9,
 };
 
-/// Images that mount as the same in either order.
-const IMAGES: [(&[Item], &[Fact]); 8] = [
-    // No bytes at all.
-    (
-        &[],
-        &[
-            Fact::Find(b"/", Ok(1)),
-            Fact::Object(1, Some(DEFAULT_ROOT)),
-            Fact::Objects(&[(1, Kind::Directory)]),
-            Fact::Names(&[]),
-            Fact::Next(2),
-            Fact::Top(1, 0),
-            Fact::Findings(0),
-            Fact::ReadOnly(false),
-        ],
-    ),
-    // An erased block.
-    (
-        &[Item::Run(4096, 0xFF)],
-        &[
-            Fact::Find(b"/", Ok(1)),
-            Fact::Object(1, Some(DEFAULT_ROOT)),
-            Fact::Objects(&[(1, Kind::Directory)]),
-            Fact::Names(&[]),
-            Fact::Next(2),
-            Fact::Top(1, 0),
-            Fact::Findings(0),
-            Fact::ReadOnly(false),
-        ],
-    ),
-    // Written, cut, and written after the end: what was cut does not come back.
-    (
-        &[
-            Item::Marker,
-            Item::Data(Version(2, 1, FILE, 0), 0, b""),
-            Item::Data(
-                Version(2, 2, FILE, 10),
-                0,
-                b"\x01\x02\x03\x04\x05\x06\x07\x08\x09\x0a",
-            ),
-            Item::Data(Version(2, 3, FILE, 4), 0, b""),
-            Item::Zeros(Version(2, 4, FILE, 8), 4, 4),
-            Item::Data(Version(2, 5, FILE, 9), 8, b"\xFF"),
-            Item::Entry(1, 1, 2, b"a"),
-        ],
-        &[
-            Fact::Bytes(2, 0, 32, b"\x01\x02\x03\x04\0\0\0\0\xFF"),
-            Fact::HoleEnd(2, 3, 3),
-            Fact::HoleEnd(2, 4, 8),
-            Fact::HoleEnd(2, 8, 8),
-            Fact::HoleEnd(2, 9, 9),
-            Fact::HoleEnd(1, 4, 4),
-            Fact::HoleEnd(3, 5, 5),
-            Fact::Find(b"/a", Ok(2)),
-            Fact::Object(2, Some(CUT_AND_WRITTEN)),
-            Fact::Entries(1, &[(b"a", 2)]),
-            Fact::Top(2, 5),
-            Fact::Top(1, 1),
-            Fact::Next(3),
-        ],
-    ),
-    // Versions decide, and not addresses.
-    (
-        &[
-            Item::Marker,
-            Item::Data(Version(2, 3, FILE, 6), 4, b"EF"),
-            Item::Data(Version(2, 1, FILE, 9), 0, b"abcdefghi"),
-            Item::Data(Version(2, 2, FILE, 3), 1, b"BC"),
-        ],
-        &[Fact::Bytes(2, 0, 32, b"aBCdEF")],
-    ),
-    // Of a size that no node reaches, and with a gap between its nodes.
-    (
-        &[
-            Item::Marker,
-            Item::Data(Version(2, 1, FILE, 9), 2, b"c"),
-            Item::Data(Version(2, 2, FILE, 0x9000_0000), 5, b"f"),
-        ],
-        &[
-            Fact::HoleEnd(2, 0, 2),
-            Fact::HoleEnd(2, 2, 2),
-            Fact::HoleEnd(2, 3, 5),
-            Fact::HoleEnd(2, 6, 0x9000_0000),
-        ],
-    ),
-    // Twins that are equal are one node.
-    (
-        &[
-            Item::Marker,
-            Item::Data(Version(2, 1, FILE, 0), 0, b""),
-            Item::Data(Version(2, 1, FILE, 0), 0, b""),
-        ],
-        &[Fact::Objects(&[(1, Kind::Directory), (2, Kind::Regular)])],
-    ),
-    // Names that stand for nothing: one whose object is missing, and one that was removed.
-    (
-        &[
-            Item::Marker,
-            Item::Entry(1, 1, 57, b"q"),
-            Item::Entry(1, 1, 2, b"r"),
-            Item::Entry(1, 2, 0, b"r"),
-            Item::Data(Version(2, 1, FILE, 0), 0, b""),
-        ],
-        &[
-            Fact::Find(b"/q", Err(FindFault::NotFound)),
-            Fact::Find(b"/r", Err(FindFault::NotFound)),
-            Fact::Next(58),
-            Fact::Top(1, 2),
-            Fact::Dangling(&[(1, b"q", 57)]),
-        ],
-    ),
-    // A root of version 0.
-    (
-        &[Item::Marker, Item::Data(Version(1, 0, 0o040700, 0), 0, b"")],
-        &[Fact::Object(1, Some(ROOT_OF_VERSION_0)), Fact::Top(1, 0)],
-    ),
-];
+/// What is there before a node is written.
+fn unwritten() -> &'static [Fact] {
+    &[
+        Fact::Find(b"/", Ok(1)),
+        Fact::Object(1, Some(DEFAULT_ROOT)),
+        Fact::Objects(&[OfKind(1, Kind::Directory)]),
+        Fact::Names(&[]),
+        Fact::Next(2),
+        Fact::Top(1, 0),
+        Fact::Findings(0),
+        Fact::ReadOnly(false),
+    ]
+}
+
+/// Written, cut, and written after the end: what was cut does not come back.
+fn cut() -> &'static [Item] {
+    &[
+        Item::Marker,
+        Item::Data(Version(2, 1, FILE, 0), 0, b""),
+        Item::Data(
+            Version(2, 2, FILE, 10),
+            0,
+            b"\x01\x02\x03\x04\x05\x06\x07\x08\x09\x0a",
+        ),
+        Item::Data(Version(2, 3, FILE, 4), 0, b""),
+        Item::Zeros(Version(2, 4, FILE, 8), 4, 4),
+        Item::Data(Version(2, 5, FILE, 9), 8, b"\xFF"),
+        Item::Entry(1, 1, 2, b"a"),
+    ]
+}
+
+fn of_cut() -> &'static [Fact] {
+    &[
+        Fact::Bytes(2, 0, 32, b"\x01\x02\x03\x04\0\0\0\0\xFF"),
+        Fact::HoleEnd(2, 3, 3),
+        Fact::HoleEnd(2, 4, 8),
+        Fact::HoleEnd(2, 8, 8),
+        Fact::HoleEnd(2, 9, 9),
+        Fact::HoleEnd(1, 4, 4),
+        Fact::HoleEnd(3, 5, 5),
+        Fact::Find(b"/a", Ok(2)),
+        Fact::Object(2, Some(CUT_AND_WRITTEN)),
+        Fact::Entries(1, &[Named(b"a", 2)]),
+        Fact::Top(2, 5),
+        Fact::Top(1, 1),
+        Fact::Next(3),
+    ]
+}
+
+/// Versions decide, and not addresses.
+fn out_of_order() -> &'static [Item] {
+    &[
+        Item::Marker,
+        Item::Data(Version(2, 3, FILE, 6), 4, b"EF"),
+        Item::Data(Version(2, 1, FILE, 9), 0, b"abcdefghi"),
+        Item::Data(Version(2, 2, FILE, 3), 1, b"BC"),
+    ]
+}
+
+fn of_out_of_order() -> &'static [Fact] {
+    &[Fact::Bytes(2, 0, 32, b"aBCdEF")]
+}
+
+/// Of a size that no node reaches, and with a gap between its nodes.
+fn gaps() -> &'static [Item] {
+    &[
+        Item::Marker,
+        Item::Data(Version(2, 1, FILE, 9), 2, b"c"),
+        Item::Data(Version(2, 2, FILE, 0x9000_0000), 5, b"f"),
+    ]
+}
+
+fn of_gaps() -> &'static [Fact] {
+    &[
+        Fact::HoleEnd(2, 0, 2),
+        Fact::HoleEnd(2, 2, 2),
+        Fact::HoleEnd(2, 3, 5),
+        Fact::HoleEnd(2, 6, 0x9000_0000),
+    ]
+}
+
+/// Twins that are equal are one node.
+fn twins() -> &'static [Item] {
+    &[
+        Item::Marker,
+        Item::Data(Version(2, 1, FILE, 0), 0, b""),
+        Item::Data(Version(2, 1, FILE, 0), 0, b""),
+    ]
+}
+
+fn of_twins() -> &'static [Fact] {
+    &[Fact::Objects(&[OfKind(1, Kind::Directory), OfKind(2, Kind::Regular)])]
+}
+
+/// Names that stand for nothing: one whose object is missing, and one that was removed.
+fn dangling() -> &'static [Item] {
+    &[
+        Item::Marker,
+        Item::Entry(1, 1, 57, b"q"),
+        Item::Entry(1, 1, 2, b"r"),
+        Item::Entry(1, 2, 0, b"r"),
+        Item::Data(Version(2, 1, FILE, 0), 0, b""),
+    ]
+}
+
+fn of_dangling() -> &'static [Fact] {
+    &[
+        Fact::Find(b"/q", Err(FindFault::NotFound)),
+        Fact::Find(b"/r", Err(FindFault::NotFound)),
+        Fact::Next(58),
+        Fact::Top(1, 2),
+        Fact::Dangling(&[Live(1, b"q", 57)]),
+    ]
+}
+
+/// A root of version 0.
+fn root() -> &'static [Item] {
+    &[Item::Marker, Item::Data(Version(1, 0, 0o040700, 0), 0, b"")]
+}
+
+fn of_root() -> &'static [Fact] {
+    &[Fact::Object(1, Some(ROOT_OF_VERSION_0)), Fact::Top(1, 0)]
+}
+
+fn mounts_in_either_order(
+    rt: &impl Abort,
+    alloc: Global,
+    about: &str,
+    items: &[Item],
+    facts: &[Fact],
+) -> Result<(), Fail> {
+    let little = first_wrong::<LittleEndian>(alloc, items, facts)?;
+    let big = first_wrong::<BigEndian>(alloc, items, facts)?;
+    equal_at(rt, (little, big), (None, None), about);
+    Ok(())
+}
 
 #[test]
 fn images_mount_in_either_order(rt: HostRuntime) -> Result<(), Fail> {
-    for (index, (items, facts)) in IMAGES.iter().enumerate() {
-        let little = first_wrong::<LittleEndian>(rt.alloc(), items, facts)?;
-        let big = first_wrong::<BigEndian>(rt.alloc(), items, facts)?;
-        equal_at(&rt, (little, big), (None, None), index);
+    let erased: &[Item] = &[Item::Run(4096, 0xFF)];
+    for (about, items, facts) in [
+        ("no bytes at all", [].as_slice(), unwritten()),
+        ("an erased block", erased, unwritten()),
+        ("written, cut, and written after the end", cut(), of_cut()),
+        (
+            "versions decide, and not addresses",
+            out_of_order(),
+            of_out_of_order(),
+        ),
+        ("a size that no node reaches, and a gap", gaps(), of_gaps()),
+        ("twins that are equal", twins(), of_twins()),
+        ("names that stand for nothing", dangling(), of_dangling()),
+        ("a root of version 0", root(), of_root()),
+    ] {
+        mounts_in_either_order(&rt, rt.alloc(), about, items, facts)?;
     }
     Ok(())
 }
@@ -184,46 +217,50 @@ const OTHERS: [u8; 148] = [
     0x61, 0xff, 0xff, 0xff,
 ];
 
-/// Images with bytes of little order.
-const LITTLE_IMAGES: [(&[Item], &[Fact]); 2] = [
-    // What is no node changes nothing: the name of the first entry has another first byte, and
-    // zeros are dirt.
-    (
-        &[
-            Item::Marker,
-            Item::Data(Version(2, 1, FILE, 0), 0, b""),
-            Item::Entry(1, 1, 2, b"a"),
-            Item::Turned(12 + 68 + 40, b'b'),
-            Item::Raw(&READ_ONLY),
-            Item::Run(4, 0),
-            Item::Marker,
-            Item::Entry(1, 3, 2, b"c"),
-        ],
-        &[
-            Fact::ReadOnly(true),
-            Fact::Findings(3),
-            Fact::Find(b"/a", Err(FindFault::NotFound)),
-            Fact::Find(b"/c", Ok(2)),
-        ],
-    ),
-    // What is skipped or damaged makes nothing: found are the attribute and the damaged node.
-    (
-        &[Item::Raw(&OTHERS)],
-        &[
-            Fact::Findings(2),
-            Fact::ReadOnly(false),
-            Fact::Names(&[]),
-            Fact::Object(2, None),
-            Fact::Next(2),
-        ],
-    ),
-];
+/// The name of the first entry has another first byte, and zeros are dirt.
+fn dirt() -> &'static [Item] {
+    &[
+        Item::Marker,
+        Item::Data(Version(2, 1, FILE, 0), 0, b""),
+        Item::Entry(1, 1, 2, b"a"),
+        Item::Turned(12 + 68 + 40, b'b'),
+        Item::Raw(&READ_ONLY),
+        Item::Run(4, 0),
+        Item::Marker,
+        Item::Entry(1, 3, 2, b"c"),
+    ]
+}
+
+fn of_dirt() -> &'static [Fact] {
+    &[
+        Fact::ReadOnly(true),
+        Fact::Findings(3),
+        Fact::Find(b"/a", Err(FindFault::NotFound)),
+        Fact::Find(b"/c", Ok(2)),
+    ]
+}
+
+/// Found are the attribute and the damaged node.
+fn of_others() -> &'static [Fact] {
+    &[
+        Fact::Findings(2),
+        Fact::ReadOnly(false),
+        Fact::Names(&[]),
+        Fact::Object(2, None),
+        Fact::Next(2),
+    ]
+}
 
 #[test]
 fn what_is_no_node_makes_nothing(rt: HostRuntime) -> Result<(), Fail> {
-    for (index, (items, facts)) in LITTLE_IMAGES.iter().enumerate() {
-        let wrong = first_wrong::<LittleEndian>(rt.alloc(), items, facts)?;
-        equal_at(&rt, wrong, None, index);
-    }
+    let wrong = first_wrong::<LittleEndian>(rt.alloc(), dirt(), of_dirt())?;
+    equal(&rt, wrong, None);
+    Ok(())
+}
+
+#[test]
+fn what_is_skipped_or_damaged_makes_nothing(rt: HostRuntime) -> Result<(), Fail> {
+    let wrong = first_wrong::<LittleEndian>(rt.alloc(), &[Item::Raw(&OTHERS)], of_others())?;
+    equal(&rt, wrong, None);
     Ok(())
 }

@@ -5,6 +5,8 @@ use crate::images::{DIRECTORY, FILE, Item, Version, image_of};
 use byteorder::LittleEndian;
 use jmount::{MountFault, mount};
 use jscan::Geometry;
+use std::alloc::Global;
+use std::process::Abort;
 use std::test::Fail;
 
 /// A header of the unknown type 0xe0f7, which may not be skipped.
@@ -26,115 +28,153 @@ const MADE: Item = Item::Data(Version(2, 1, FILE, 0), 0, b"");
 /// Contradicts it.
 const MADE_ELSE: Item = Item::Data(Version(2, 1, 0o100600, 0), 0, b"");
 
-/// Images after a clean marker, with their block sizes.
-const IMAGES: [(u32, &[Item], Option<MountFault>); 12] = [
-    // Nodes of one version clash where they differ: in the mode, in the data, in the number that a
-    // name stands for.
-    (
-        4096,
-        &[Item::Marker, MADE, MADE_ELSE],
-        Some(MountFault::Clash { addr: 0x50 }),
-    ),
-    (
-        4096,
-        &[
-            Item::Marker,
-            Item::Data(Version(2, 2, FILE, 2), 0, b"ab"),
-            Item::Data(Version(2, 2, FILE, 2), 0, b"ac"),
-        ],
-        Some(MountFault::Clash { addr: 0x54 }),
-    ),
-    (
-        4096,
-        &[
-            Item::Marker,
-            Item::Entry(1, 1, 2, b"q"),
-            Item::Entry(1, 1, 0, b"q"),
-        ],
-        Some(MountFault::Clash { addr: 0x38 }),
-    ),
-    (
-        4096,
-        &[
-            Item::Marker,
-            Item::Entry(1, 1, 2, b"q"),
-            Item::Entry(1, 1, 3, b"r"),
-            Item::Data(Version(1, 1, DIRECTORY, 0), 0, b""),
-        ],
-        None,
-    ),
-    // So it is where names come in no order.
-    (
-        4096,
-        &[
-            Item::Marker,
-            Item::Entry(1, 1, 2, b"q"),
-            Item::Entry(1, 1, 0, b"q"),
-            Item::Entry(1, 2, 3, b"a"),
-        ],
-        Some(MountFault::Clash { addr: 0x38 }),
-    ),
-    (
-        4096,
-        &[
-            Item::Marker,
-            Item::Entry(1, 1, 2, b"q"),
-            Item::Entry(1, 2, 3, b"a"),
-            MADE,
-            MADE_ELSE,
-        ],
-        Some(MountFault::Clash { addr: 0xA8 }),
-    ),
-    (
-        4096,
-        &[
-            Item::Marker,
-            Item::Entry(1, 1, 2, b"q"),
-            Item::Entry(1, 2, 3, b"a"),
-            MADE,
-            MADE_ELSE,
-            Item::Entry(1, 1, 0, b"q"),
-        ],
-        Some(MountFault::Clash { addr: 0xA8 }),
-    ),
-    // The fault of least address is answered.
-    (
-        4096,
-        &[Item::Marker, MADE, INCOMPATIBLE, Item::Marker, MADE_ELSE],
-        Some(MountFault::Incompatible {
-            addr: 0x50,
-            nodetype: 0xE0F7,
-        }),
-    ),
-    (
-        4096,
-        &[Item::Marker, MADE, MADE_ELSE, INCOMPATIBLE],
-        Some(MountFault::Clash { addr: 0x50 }),
-    ),
-    (
-        4096,
-        &[Item::Marker, COMPRESSED, INCOMPATIBLE],
-        Some(MountFault::Compressed { addr: 12, compr: 7 }),
-    ),
-    // The root is a directory, and the block size is judged first.
-    (
-        4096,
-        &[Item::Marker, Item::Data(Version(1, 1, FILE, 0), 0, b"")],
-        Some(MountFault::RootKind),
-    ),
-    (
-        4095,
-        &[Item::Marker, Item::Data(Version(1, 1, FILE, 0), 0, b"")],
-        Some(MountFault::BlockSize),
-    ),
-];
+/// What an image is, its block size, its items, and why it does not mount.
+type Image = (&'static str, u32, &'static [Item], Option<MountFault>);
+
+/// Nodes of one version clash where they differ.
+fn clashes() -> &'static [Image] {
+    &[
+        (
+            "in the mode",
+            4096,
+            &[Item::Marker, MADE, MADE_ELSE],
+            Some(MountFault::Clash { addr: 0x50 }),
+        ),
+        (
+            "in the data",
+            4096,
+            &[
+                Item::Marker,
+                Item::Data(Version(2, 2, FILE, 2), 0, b"ab"),
+                Item::Data(Version(2, 2, FILE, 2), 0, b"ac"),
+            ],
+            Some(MountFault::Clash { addr: 0x54 }),
+        ),
+        (
+            "in the number that a name stands for",
+            4096,
+            &[
+                Item::Marker,
+                Item::Entry(1, 1, 2, b"q"),
+                Item::Entry(1, 1, 0, b"q"),
+            ],
+            Some(MountFault::Clash { addr: 0x38 }),
+        ),
+    ]
+}
+
+/// So it is where names come in no order.
+fn names_in_no_order() -> &'static [Image] {
+    &[
+        (
+            "entries clash",
+            4096,
+            &[
+                Item::Marker,
+                Item::Entry(1, 1, 2, b"q"),
+                Item::Entry(1, 1, 0, b"q"),
+                Item::Entry(1, 2, 3, b"a"),
+            ],
+            Some(MountFault::Clash { addr: 0x38 }),
+        ),
+        (
+            "inode nodes clash",
+            4096,
+            &[
+                Item::Marker,
+                Item::Entry(1, 1, 2, b"q"),
+                Item::Entry(1, 2, 3, b"a"),
+                MADE,
+                MADE_ELSE,
+            ],
+            Some(MountFault::Clash { addr: 0xA8 }),
+        ),
+        (
+            "both clash, the inode nodes first",
+            4096,
+            &[
+                Item::Marker,
+                Item::Entry(1, 1, 2, b"q"),
+                Item::Entry(1, 2, 3, b"a"),
+                MADE,
+                MADE_ELSE,
+                Item::Entry(1, 1, 0, b"q"),
+            ],
+            Some(MountFault::Clash { addr: 0xA8 }),
+        ),
+    ]
+}
+
+/// The fault of least address is answered.
+fn first_faults() -> &'static [Image] {
+    &[
+        (
+            "a node that may not be skipped before one that clashes",
+            4096,
+            &[Item::Marker, MADE, INCOMPATIBLE, Item::Marker, MADE_ELSE],
+            Some(MountFault::Incompatible {
+                addr: 0x50,
+                nodetype: 0xE0F7,
+            }),
+        ),
+        (
+            "a node that clashes before one that may not be skipped",
+            4096,
+            &[Item::Marker, MADE, MADE_ELSE, INCOMPATIBLE],
+            Some(MountFault::Clash { addr: 0x50 }),
+        ),
+        (
+            "a compressed node before one that may not be skipped",
+            4096,
+            &[Item::Marker, COMPRESSED, INCOMPATIBLE],
+            Some(MountFault::Compressed { addr: 12, compr: 7 }),
+        ),
+    ]
+}
+
+/// The root is a directory, and the block size is judged first. Other names, and an inode node, of
+/// one version do not clash.
+fn others() -> &'static [Image] {
+    &[
+        (
+            "two names and an inode node of one version",
+            4096,
+            &[
+                Item::Marker,
+                Item::Entry(1, 1, 2, b"q"),
+                Item::Entry(1, 1, 3, b"r"),
+                Item::Data(Version(1, 1, DIRECTORY, 0), 0, b""),
+            ],
+            None,
+        ),
+        (
+            "a root that is a file",
+            4096,
+            &[Item::Marker, Item::Data(Version(1, 1, FILE, 0), 0, b"")],
+            Some(MountFault::RootKind),
+        ),
+        (
+            "the same in blocks of no size that is readable",
+            4095,
+            &[Item::Marker, Item::Data(Version(1, 1, FILE, 0), 0, b"")],
+            Some(MountFault::BlockSize),
+        ),
+    ]
+}
+
+fn are_refused(rt: &impl Abort, alloc: Global, images: &[Image]) -> Result<(), Fail> {
+    for &(about, block, items, wanted) in images {
+        let image = image_of::<LittleEndian>(alloc, items)?;
+        let fault = mount::<LittleEndian>(alloc, &image, Geometry { block }).err();
+        equal_at(rt, fault, wanted, about);
+    }
+    Ok(())
+}
 
 #[test]
 fn the_fault_of_least_address_is_answered(rt: HostRuntime) -> Result<(), Fail> {
-    for (index, &(block, items, wanted)) in IMAGES.iter().enumerate() {
-        let image = image_of::<LittleEndian>(rt.alloc(), items)?;
-        let fault = mount::<LittleEndian>(rt.alloc(), &image, Geometry { block }).err();
-        equal_at(&rt, fault, wanted, index);
+    for images in [clashes(), names_in_no_order(), first_faults(), others()] {
+        are_refused(&rt, rt.alloc(), images)?;
     }
     Ok(())
 }
