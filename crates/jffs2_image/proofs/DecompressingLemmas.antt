@@ -1,26 +1,21 @@
 -- What commands do of images that are decompressed.
-use Rattle.std.proofs.Common.{◌≡◌, ℕ, Bool, true, false, List, Option, Some, None, Result, Ok, Err, inl, inr, refl, sym, ap, ◌∙◌, subst}
-use Rattle.std.specs.Prelude.{IfOk, IsErrOf}
+use Rattle.std.proofs.Common.{◌≡◌, ℕ, Bool, true, false, List, Option, Result, Ok, Err, inl, inr, refl, sym, ap, ◌∙◌, subst}
+use Rattle.std.specs.Prelude.{IsErrOf}
 use Rattle.flashbase.specs.declared.source.LoadFault.TheVariants as load
 use Rattle.jnode.specs.declared.order.Endian.{Endian}
 use Rattle.jscan.specs.declared.geometry.ScanFault.TheVariants as scan
-use Rattle.jscan.specs.declared.page.Page.{Page}
 use Rattle.jlog.specs.declared.fault.SessionFault.TheVariants as session
 use Rattle.jconvert.specs.Converting.{Converts}
 use Rattle.jexpand.specs.declared.fault.ConvertFault.{ConvertFault}
 use Rattle.jexpand.specs.declared.fault.ConvertFault.TheVariants as convert
-use Rattle.jcommand.specs.Parsed.{ListParsed, CatParsed, AppendParsed, DecompressParsed}
+use Rattle.jcommand.specs.Parsed.{DecompressParsed}
 use Rattle.jcommand.specs.declared.parsed.Options.{Options}
-use Rattle.jreport.specs.FoundIn.{found_in}
-use Rattle.jreport.specs.Paths.{path_of}
-use Rattle.jreport.specs.WholeImage.{PutsFile, PutsListing, list_request}
 use Rattle.jreport.specs.declared.faults.ProgramFault.{ProgramFault}
 use Rattle.jreport.specs.declared.faults.ProgramFault.TheVariants as program
 use Rattle.jffs2_image.specs.Decompressing.{DecompressesFile, IsNotConverted, IsNotWritten, fault_of_conversion, with_findings}
 use Rattle.jffs2_image.specs.Host.{AreLoaded, Blames, BlamesDecompress, IsReadFault, IsRefusedBefore, ReadsFile}
-use Rattle.jffs2_image.specs.Runs.{Meets, RunsListed}
-use Rattle.jffs2_image.specs.Writes.{Held, IsNotedIn, IsUnreadFile, image_form}
-use Rattle.jffs2_image.proofs.WritingLemmas.{not_scanned}
+use Rattle.jffs2_image.specs.Runs.{Meets}
+use Rattle.jffs2_image.specs.Writes.{Held, IsUnreadFile}
 use Rattle.jreport.proofs.SinkLemmas.{sink_change}
 
 -- ---- faults of a conversion
