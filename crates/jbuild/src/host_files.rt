@@ -81,7 +81,7 @@ impl HostFiles {
             result }
         ensures count { CountsLoad (S.failures source.old) (S.failures source.new) result }
     {
-        ready(alloc, &mut self.bytes, &mut self.piece)?;
+        ready(alloc, &mut self.piece)?;
         let start = self.bytes.len();
         read_behind(&mut self.bytes, source, &mut self.piece, limit)?;
         let length = self.bytes.len() - start;

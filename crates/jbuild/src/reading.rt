@@ -5,14 +5,10 @@ ghost use Rattle.flashbase.specs.Device.{CountsLoad};
 ghost use Rattle.jbuild.specs.HostFiles.{ReadsBehind, ReadsMore};
 
 use flashbase::{LoadFault, Source};
-use jscan::GREATEST_IMAGE;
 use std::alloc::{AllocError, Global};
 
 /// How many bytes a source is asked for at once.
 const PIECE: usize = 65_536;
-
-/// Room for the bytes of all files of a flash. The host gives memory for those that are put there.
-const ROOM: usize = GREATEST_IMAGE;
 
 fn zeros(alloc: Global) -> Result<Vec<u8>, AllocError>
     ensures { IfOk result (λ zeros. vec_len zeros ≡ 65536) }
@@ -20,19 +16,12 @@ fn zeros(alloc: Global) -> Result<Vec<u8>, AllocError>
     vec![in alloc; 0u8; PIECE]
 }
 
-/// Makes the piece that sources are read through, and room for their bytes, unless they are made.
-/// Where there is no such room the bytes take more as they come.
-pub(crate) fn ready(
-    alloc: Global,
-    bytes: &mut Vec<u8>,
-    piece: &mut Vec<u8>,
-) -> Result<(), AllocError>
-    ensures piece { OnOk result (0 < vec_len piece.new) }
-    ensures bytes { bytes.new.items ≡ bytes.old.items }
+/// Makes the piece that sources are read through, unless it is made.
+pub(crate) fn ready(alloc: Global, piece: &mut Vec<u8>) -> Result<(), AllocError>
+    ensures { OnOk result (0 < vec_len piece.new) }
 {
     if piece.is_empty() {
         *piece = zeros(alloc)?;
-        let _ = bytes.try_reserve_exact(ROOM);
     }
     Ok(())
 }
