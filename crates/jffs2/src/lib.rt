@@ -15,13 +15,15 @@
 //! | know which nodes clash, where a mount says so | [`clash_below`]: the other one |
 //! | know what is damaged | [`Mounted::findings`], [`Mounted::dangling`], [`Mounted::shape`] |
 //! | print what the damage of an image costs | [`put_damage`], of a [`Mounted`] |
-//! | print what `ls`, `cat` and `check` print | [`tree_lines`], [`put_subtree`], [`content`], [`scan_lines`], [`verdict_lines`] |
+//! | print what `ls` and `cat` print | [`tree_lines`], [`put_subtree`], [`content`] |
+//! | print what `check` prints | [`scan_lines`], then [`verdict_lines`] |
 //! | see each node, with its address | [`scan`], or [`Sightings`] one by one |
 //! | see an image that is larger than memory | [`scan_stream`], [`stream_lines`] |
 //! | write to an image | [`Session::resume`], then [`Session::run`] with a list of [`Op`] |
 //! | put the old image and new operations out as one | [`emit`], which gives an [`Emitted`] |
 //! | judge once where writing goes on | [`Start::of`], for [`Session::begin`] and [`emit_from`] |
-//! | read an image with compressed data | [`decompressed`], then [`mount`]; [`decompress`] writes it |
+//! | read an image with compressed data | [`decompressed`], then [`mount`] |
+//! | write such an image with plain data | [`decompress`] |
 //! | write an image with compressed data | [`compress`], of one that is not |
 //! | read operations from a text | [`listing`], then [`operations`] |
 //! | know whether a power cut inside a node would be seen | [`weak_cut`] |
