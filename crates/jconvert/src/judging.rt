@@ -17,7 +17,7 @@ use crate::holding::Held;
 use flashbase::pad4;
 use jexpand::{ConvertFault, expanded_len};
 use jlog::place_of;
-use jnode::{Order, Seen};
+use jnode::{MARKER_LEN, Order, Seen};
 use jscan::{GREATEST_IMAGE, Geometry, ScanFault, Sightings};
 use std::alloc::Global;
 
@@ -26,9 +26,6 @@ const LEAST_WRITTEN: u32 = 8192;
 
 /// How much of what is decompressed to judge an image `decompress` holds, in bytes.
 pub const HELD_MOST: usize = 28 << 20;
-
-/// The bytes of a clean marker.
-const MARKER_LEN: u64 = 12;
 
 /// What is counted of the nodes of an image.
 #[derive(Clone, Copy)]
@@ -226,7 +223,7 @@ pub fn judge<E: Order>(
             let blocks = u64::from(greatest_blocks(geometry));
             Err(ConvertFault::Full {
                 needed: tally.needed,
-                free: blocks * u64::from(geometry.block) - MARKER_LEN * blocks,
+                free: blocks * u64::from(geometry.block) - MARKER_LEN as u64 * blocks,
             })
         }
     }

@@ -6,10 +6,9 @@ ghost use Rattle.jnode.specs.Order.{number_at};
 ghost use Rattle.jdamage.specs.Fields.{loss_at, node_front, stretch_at, stretch_of};
 
 use flashbase::Part;
-use jnode::{InodeNode, Order};
+use jnode::{INODE_LEN, InodeNode, Order};
 
-/// Where the fields of an inode node and of an entry node are, and how many bytes an inode node has
-/// in front of its data (Linux, include/uapi/linux/jffs2.h).
+/// Where the fields of an inode node and of an entry node are (Linux, include/uapi/linux/jffs2.h).
 const FIRST: usize = 12;
 
 const VERSION: usize = 16;
@@ -19,8 +18,6 @@ const ENTRY_INO: usize = 20;
 const OFFSET: usize = 44;
 
 const DSIZE: usize = 52;
-
-const FRONT_LEN: usize = 68;
 
 /// A version of an object, and the range of its bytes that a node is for.
 #[derive(Clone, Copy)]
@@ -41,20 +38,20 @@ pub(crate) struct Loss {
 
 /// The bytes in front of the data of the node at an address.
 #[tactic(auto, unfolding(crate::specs::Fields::node_front))]
-fn node_front(image: &[u8], addr: u32) -> [u8; FRONT_LEN]
+fn node_front(image: &[u8], addr: u32) -> [u8; INODE_LEN]
     requires { length image.now ≤ greatest_image }
     ensures { result ≡ node_front image.now addr }
 {
     let from = (addr as usize).min(image.len());
-    let mut front = [0; FRONT_LEN];
-    Part::new(&image[from..], FRONT_LEN)
-        .slice(0, FRONT_LEN)
+    let mut front = [0; INODE_LEN];
+    Part::new(&image[from..], INODE_LEN)
+        .slice(0, INODE_LEN)
         .copy_to(&mut front);
     front
 }
 
 /// The number at a place of a node.
-fn field<E: Order>(front: &[u8; FRONT_LEN], place: usize) -> u32
+fn field<E: Order>(front: &[u8; INODE_LEN], place: usize) -> u32
     requires { place + 4 ≤ 68 }
     ensures { result ≡ number_at E.order 4 place front.now }
 {

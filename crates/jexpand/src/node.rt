@@ -15,16 +15,11 @@ use crate::fault::ConvertFault;
 use flashbase::Part;
 use jcompr::{DataFault, Method};
 use jnode::{
-    CompressedNode, Dirent, Fill, INODE_LEN, InodeNode, NodeRef, Order, Seen, compressed_fields,
-    write_entry, write_inode,
+    CompressedNode, Dirent, ENTRY_LEN, Fill, INODE_LEN, InodeNode, MARKER_LEN, NodeRef, Order,
+    Seen, compressed_fields, write_entry, write_inode,
 };
 use jscan::{Geometry, block_at};
 use std::alloc::Global;
-
-/// The lengths of a clean marker, and of an entry without its name.
-const MARKER_LEN: u32 = 12;
-
-const ENTRY_LEN: u32 = 40;
 
 /// The node at an address where a compressed one is sighted.
 fn compressed_node<'a, E: Order>(
@@ -56,7 +51,7 @@ fn placed_len(
     ensures len { IfOk result (λ found. found ≡ Some (front + len)) }
     ensures err { IfErr result (λ fault. too_long geometry.block addr (front + len) ≡ Some fault) }
 {
-    let room = geometry.block - MARKER_LEN - front;
+    let room = geometry.block - MARKER_LEN as u32 - front;
     if len <= room as usize {
         Ok(Some(front + len as u32))
     } else {
@@ -123,7 +118,7 @@ pub fn expanded_len<E: Order>(
 {
     content.clear();
     match seen {
-        Seen::Entry(entry) => placed_len(geometry, addr, ENTRY_LEN, entry.name.len()),
+        Seen::Entry(entry) => placed_len(geometry, addr, ENTRY_LEN as u32, entry.name.len()),
         Seen::Inode(inode) => placed_len(geometry, addr, INODE_LEN as u32, stored_len(&inode.fill)),
         Seen::Compressed { .. } => {
             let node = compressed_node::<E>(image, geometry, addr);

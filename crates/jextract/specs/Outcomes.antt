@@ -3,7 +3,7 @@ use Rattle.std.specs.Prelude.{min, count_by, ◌^◌, ◌-◌, ◌≡◌, ℕ, �
 use Rattle.std.specs.List.{list_all}
 use Rattle.std.specs.Option.{option_or}
 use Rattle.std.specs.Str.{is_utf8}
-use Rattle.jmount.specs.Tree.{State, object, is_directory, entries_in}
+use Rattle.jmount.specs.Tree.{State, greatest_target, object, is_directory, entries_in}
 use Rattle.jmount.specs.Shown.{readable, shown}
 use Rattle.jmount.specs.declared.object.Kind.{Kind}
 use Rattle.jmount.specs.declared.object.Kind.TheVariants as kind
@@ -53,7 +53,7 @@ pub data Plan : Type 0 where
 
 -- a target that a symlink of the host may have: text of 1 to 4,095 bytes, none of them zero
 abbrev pub is_target : List ℕ → Bool
-is_target target = nat_lt 0 (length target) && nat_le (length target) 4095 && is_utf8 target
+is_target target = nat_lt 0 (length target) && nat_le (length target) greatest_target && is_utf8 target
     && list_all (λ b. not (b == 0)) target
 
 abbrev pub plan_symlink : List ℕ → Attributes → Plan

@@ -13,12 +13,9 @@ use crate::contents::put_contents;
 use crate::folder::{Attributes, Folder, FolderFault, Owner};
 use crate::paths::host_path;
 use crate::reason::Reason;
-use jmount::{Kind, Mounted, Object};
+use jmount::{GREATEST_TARGET, Kind, Mounted, Object};
 use std::alloc::{AllocError, AllocFailed, Global};
 use std::collections::BTreeMap;
-
-/// No host takes a longer target.
-const GREATEST_TARGET: usize = 4095;
 
 /// Why an object is not made.
 #[derive(Clone, Copy, Debug, PartialEq, Eq)]

@@ -1,6 +1,7 @@
 -- Why a path is left out: each reason is right by what is known of what the host tells.
 use Rattle.std.specs.Prelude.{◌≡◌, ◌≢◌, ◌≤◌, ◌<◌, ◌^◌, ◌⊎◌, ◌∷◌, ℕ, false, List, [], length, All, Contains, Bool, IfSome, Option, None, Some, ⊤, pos}
 use Rattle.jmount.specs.Find.{is_name}
+use Rattle.jmount.specs.Tree.{greatest_target}
 use Rattle.jfolder.specs.Complete.{IsNamed, LeftOut, child, item_paths}
 use Rattle.jfolder.specs.Known.{Known, MayAnswer, Named, inside, named_of}
 use Rattle.jfolder.specs.Objects.{IsWide, kind_bits, kind_number}
@@ -98,7 +99,7 @@ IsFileWhy known path size why = IsRefusal ((size ≤ 268435456)
 -- the target is not known, or none that an image can have
 abbrev pub IsTargetWhy : Known → List ℕ → Reason → Type 0
 IsTargetWhy known path reason.Target = IfSome (known.target path)
-    (λ told. 0 < length told → length told ≤ 4095 → All (λ b. b ≢ 0) told → ⊥)
+    (λ told. 0 < length told → length told ≤ greatest_target → All (λ b. b ≢ 0) told → ⊥)
 IsTargetWhy known path why = IsRefusal (known.target path ≡ None) why
 
 -- the numbers of a device are too large

@@ -3,6 +3,7 @@
 use Rattle.std.specs.Prelude.{◌≡◌, ◌≢◌, ◌≤◌, ◌<◌, ◌⊎◌, ℕ, List, [], ◌∷◌, ◌++◌, length, All, Contains, ⊤, IsTrue}
 use Rattle.std.specs.String.{string_bytes}
 use Rattle.jmount.specs.Find.{IsPath, path_text}
+use Rattle.jmount.specs.Tree.{greatest_target}
 use Rattle.jfolder.specs.Order.{is_before}
 use Rattle.jfolder.specs.declared.tree.Item.{Item}
 use Rattle.jfolder.specs.declared.tree.What.{What}
@@ -27,7 +28,7 @@ LinksBack before _ = Unit {0}
 -- bytes, and without a zero byte
 abbrev pub HasTarget : What → Type 0
 HasTarget (what.Symlink target) = (0 < length (string_bytes target))
-    × (length (string_bytes target) ≤ 4095) × All (λ b. b ≢ 0) (string_bytes target)
+    × (length (string_bytes target) ≤ greatest_target) × All (λ b. b ≢ 0) (string_bytes target)
 HasTarget _ = Unit {0}
 
 -- an item may follow these

@@ -15,14 +15,12 @@ use crate::fault::FolderFault;
 use crate::host::{HostFolder, Looked, Names};
 use crate::reason::Reason;
 use crate::tree::{Attributes, What};
+use jmount::GREATEST_TARGET;
 use jsteps::DeviceKind;
 use std::alloc::{AllocError, AllocFailed};
 
 /// The most bytes of a regular file: `build` takes no file of more.
 const MAX_SIZE: u64 = 268_435_456;
-
-/// The most bytes of a symlink's target.
-const MAX_TARGET: usize = 4095;
 
 /// An owner and a group.
 #[derive(Clone, Copy)]
@@ -213,7 +211,7 @@ fn target_of<F: HostFolder>(folder: &mut F, path: &str) -> Result<String, Skip>
 {
     let target = folder.target(path)?;
     let bytes = target.as_bytes();
-    if bytes.is_empty() || bytes.len() > MAX_TARGET || bytes.iter().any(|byte| *byte == 0) {
+    if bytes.is_empty() || bytes.len() > GREATEST_TARGET || bytes.iter().any(|byte| *byte == 0) {
         return Err(Skip::LeftOut(Reason::Target));
     }
     Ok(target)

@@ -7,7 +7,7 @@ ghost use Rattle.jlog.specs.Places.{is_writable_flash, fit, last_end_within, lea
 ghost use Rattle.jlog.specs.Running.{written, CanWriteAll, CanWriteIn};
 
 use crate::node::node_len;
-use crate::place::{MARKER_LEN, place_of};
+use crate::place::place_of;
 use flashbase::pad4;
 use jnode::Order;
 use jscan::GREATEST_IMAGE;
@@ -106,5 +106,5 @@ pub fn free(block: u32, blocks: u32, cursor: u32) -> u64
 {
     let begun = cursor.div_ceil(block);
     let left = u64::from(blocks) * u64::from(block) - u64::from(cursor);
-    left - u64::from(MARKER_LEN) * u64::from(blocks - begun)
+    left - MARKER_LEN as u64 * u64::from(blocks - begun)
 }

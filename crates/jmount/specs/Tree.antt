@@ -84,6 +84,11 @@ regular_bits = 8
 abbrev pub symlink_bits : ℕ
 symlink_bits = 10
 
+-- the greatest length of a symlink's target (Linux, include/uapi/linux/limits.h: PATH_MAX less the
+-- zero byte)
+abbrev pub greatest_target : ℕ
+greatest_target = 4095
+
 abbrev pub has_bits : {B : Type 0} → ℕ → Option (ObjectOf B) → Bool
 has_bits bits None = false
 has_bits bits (Some o) = type_bits o.mode == bits

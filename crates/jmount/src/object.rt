@@ -14,6 +14,10 @@ pub enum Kind {
     Other,
 }
 
+/// The greatest length of a symlink's target: a path of Linux without its zero byte (Linux,
+/// include/uapi/linux/limits.h: `PATH_MAX`).
+pub const GREATEST_TARGET: usize = 4095;
+
 /// An object: its kind, its whole mode, its owners, its size in bytes, and its times in seconds.
 #[derive(Clone, Copy, Debug, PartialEq, Eq)]
 pub struct Object {

@@ -8,12 +8,20 @@ ghost use Rattle.jmount.specs.Stored.{stored_object};
 use crate::object::{Kind, Object};
 use crate::stored::Stored;
 
-// Bits 12 to 15 of a mode (Linux, include/uapi/linux/stat.h).
-const DIRECTORY: u32 = 4;
+/// Bits 12 to 15 of a FIFO's mode (Linux, include/uapi/linux/stat.h).
+pub const FIFO_BITS: u32 = 1;
 
-const REGULAR: u32 = 8;
+/// Those of a directory's.
+pub const DIRECTORY_BITS: u32 = 4;
 
-const SYMLINK: u32 = 10;
+/// Those of a regular file's.
+pub const REGULAR_BITS: u32 = 8;
+
+/// Those of a symlink's.
+pub const SYMLINK_BITS: u32 = 10;
+
+/// Those of a socket's.
+pub const SOCKET_BITS: u32 = 12;
 
 /// An object as callers see it.
 pub fn shown(stored: &Stored<'_>) -> Object
@@ -36,13 +44,13 @@ pub fn kind_of(mode: u32) -> Kind
     ensures { result ≡ kind_of (type_bits mode) }
 {
     match type_bits(mode) {
-        1 => Kind::Fifo,
+        FIFO_BITS => Kind::Fifo,
         2 => Kind::CharacterDevice,
-        DIRECTORY => Kind::Directory,
+        DIRECTORY_BITS => Kind::Directory,
         6 => Kind::BlockDevice,
-        REGULAR => Kind::Regular,
-        SYMLINK => Kind::Symlink,
-        12 => Kind::Socket,
+        REGULAR_BITS => Kind::Regular,
+        SYMLINK_BITS => Kind::Symlink,
+        SOCKET_BITS => Kind::Socket,
         _ => Kind::Other,
     }
 }
@@ -51,14 +59,14 @@ pub fn kind_of(mode: u32) -> Kind
 pub fn is_directory(mode: u32) -> bool
     ensures { result ≡ (type_bits mode == directory_bits) }
 {
-    type_bits(mode) == DIRECTORY
+    type_bits(mode) == DIRECTORY_BITS
 }
 
 /// Whether a mode says that an object has bytes: that it is a regular file or a symlink.
 pub fn has_bytes(mode: u32) -> bool
     ensures { result ≡ (type_bits mode == regular_bits || type_bits mode == symlink_bits) }
 {
-    matches!(type_bits(mode), REGULAR | SYMLINK)
+    matches!(type_bits(mode), REGULAR_BITS | SYMLINK_BITS)
 }
 
 /// Bits 12 to 15 of a mode, which say the kind of an object (Linux, include/uapi/linux/stat.h).

@@ -82,6 +82,12 @@ pub(crate) mod inode {
     pub(crate) const COVERED: usize = 60;
 }
 
+/// The length of a clean marker, which is a header alone.
+pub const MARKER_LEN: usize = header::LEN;
+
+/// The length of an entry node without its name.
+pub const ENTRY_LEN: usize = entry::LEN;
+
 /// The length of an inode node without its data.
 pub const INODE_LEN: usize = inode::LEN;
 

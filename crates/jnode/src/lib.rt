@@ -33,7 +33,7 @@ mod writing;
 
 pub use crate::compressed::{compressed_at, compressed_fields, write_compressed};
 pub use crate::header::{Header, header_at, header_in};
-pub use crate::layout::INODE_LEN;
+pub use crate::layout::{ENTRY_LEN, INODE_LEN, MARKER_LEN};
 pub use crate::node::{CompressedNode, Damage, Dirent, Fill, InodeNode, NodeRef, Seen};
 pub use crate::order::{Endian, Order};
 pub use crate::reading::{read_node, read_part};

@@ -4,7 +4,7 @@ use Rattle.std.specs.List.{flat_map}
 use Rattle.std.specs.Io.KnownBytes.{Appends}
 use Rattle.flashbase.specs.Device.{PutsPart, next_count}
 use Rattle.flashbase.specs.Sinks.{SinkChange}
-use Rattle.jmount.specs.Tree.{State, object, is_there, is_directory, entries_in}
+use Rattle.jmount.specs.Tree.{State, greatest_target, object, is_there, is_directory, entries_in}
 use Rattle.jmount.specs.Find.{find, path_names}
 use Rattle.jmount.specs.Shown.{readable, shown}
 use Rattle.jmount.specs.declared.object.Kind.{Kind}
@@ -42,7 +42,7 @@ object_start i o = kind_letter o.kind ++ codes " " ++ permissions o.mode ++ code
 -- where a symlink leads
 unfoldable pub target_shown : List ℕ → List ℕ
 target_shown target =
-    if nat_lt 4095 (length target) then codes " -> (long)" else codes " -> " ++ escaped target
+    if nat_lt greatest_target (length target) then codes " -> (long)" else codes " -> " ++ escaped target
 
 -- what follows the path: of a symlink where it leads, and of a directory that was met before that
 -- it was

@@ -8,10 +8,7 @@ ghost use Rattle.jreport.specs.TreeText.{kind_letter, permissions, object_start,
 
 use flashbase::{DeviceFault, Sink};
 use jline::{LineBuffer, MAX_LINE, put_escaped, put_path, put_text};
-use jmount::{Kind, Mounted, Object};
-
-/// A symlink with more bytes is shown as a long one.
-const GREATEST_TARGET: usize = 4095;
+use jmount::{GREATEST_TARGET, Kind, Mounted, Object};
 
 /// The letter of a kind.
 fn letter(kind: Kind) -> &'static [u8]

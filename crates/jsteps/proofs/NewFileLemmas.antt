@@ -15,7 +15,7 @@ use Rattle.jsteps.specs.Planning.{first_len, write_steps, bytes_steps, steps_of}
 use Rattle.jsteps.specs.Refusals.{is_bad_path, is_exhausted, is_long, is_past, greatest_size, planned_by}
 use Rattle.jsteps.specs.Site.{IsSiteOf}
 use Rattle.jsteps.specs.Tests.{first_refusal, full_by, listed, tests_of, file_tests}
-use Rattle.jsteps.specs.Where.{above, number_there, number_or_none, parent, last_name}
+use Rattle.jsteps.specs.Where.{above, number_there, end_or_zero, parent, last_name}
 use Rattle.jsteps.specs.declared.fault.OpFault.{OpFault}
 use Rattle.jsteps.specs.declared.op.Op.TheVariants as op
 use Rattle.jsteps.specs.declared.refusal.Tests.{Tests}
@@ -121,15 +121,15 @@ new_file_from page x time path mode uid gid bytes site large bad has e f =
     }
 
 -- its steps, by where the path leads
-pub new_file_steps : (page : ℕ) (x : Indexed) (time : ℕ) (path : List ℕ) (mode uid gid : ℕ) (bytes : List ℕ) (site : Site) (dir : ℕ) → IsSiteOf x.tree path site → dir ≡ number_or_none site.above
+pub new_file_steps : (page : ℕ) (x : Indexed) (time : ℕ) (path : List ℕ) (mode uid gid : ℕ) (bytes : List ℕ) (site : Site) (dir : ℕ) → IsSiteOf x.tree path site → dir ≡ end_or_zero site.above
     → steps_of page x.tree (op.File time path mode uid gid bytes) ≡ bytes_steps page x.tree.next time (0o100000 + mode) uid gid bytes ++ step.SetName time dir site.last.now x.tree.next ∷ []
 new_file_steps page x time path mode uid gid bytes site dir has e =
-    let same : parent x.tree path ≡ dir = ap number_or_none (sym has.above) ∙ sym e in
+    let same : parent x.tree path ≡ dir = ap end_or_zero (sym has.above) ∙ sym e in
     ap (λ p. bytes_steps page x.tree.next time (0o100000 + mode) uid gid bytes ++ step.SetName time p (last_name path) x.tree.next ∷ []) same
     ∙ ap (λ l. bytes_steps page x.tree.next time (0o100000 + mode) uid gid bytes ++ step.SetName time dir l x.tree.next ∷ []) (sym has.last)
 
 -- and whether versions are left
-pub new_file_spent : (page : ℕ) (x : Indexed) (time : ℕ) (path : List ℕ) (mode uid gid : ℕ) (bytes : List ℕ) (site : Site) (dir : ℕ) → IsPage page → IsSiteOf x.tree path site → dir ≡ number_or_none site.above
+pub new_file_spent : (page : ℕ) (x : Indexed) (time : ℕ) (path : List ℕ) (mode uid gid : ℕ) (bytes : List ℕ) (site : Site) (dir : ℕ) → IsPage page → IsSiteOf x.tree path site → dir ≡ end_or_zero site.above
     → dir ≤ 0xFFFFFFFF → length bytes ≤ 2147483647 → full_by x dir ≡ is_exhausted page x (op.File time path mode uid gid bytes)
 new_file_spent page x time path mode uid gid bytes site dir is_page has e le within =
     sym

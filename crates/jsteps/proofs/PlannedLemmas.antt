@@ -15,7 +15,7 @@ use Rattle.jsteps.specs.Planning.{steps_of, make_steps}
 use Rattle.jsteps.specs.Refusals.{paths, has_bad_path, is_bad_path, is_long, meets_nothing, meets_other, is_exhausted, is_past, is_bad_target, planned_by}
 use Rattle.jsteps.specs.Site.{IsSiteOf}
 use Rattle.jsteps.specs.Tests.{GivesPlan, listed, first_refusal, made_plan, full_by, spent_by, into_itself_at, tests_of, plan_from, made_tests, removed_tests, named_tests, unnamed_at, missing_at, new_of}
-use Rattle.jsteps.specs.Where.{above, number_there, number_or_none, parent, last_name, number_or_zero, object_named}
+use Rattle.jsteps.specs.Where.{above, number_there, end_or_zero, parent, last_name, number_or_zero, object_named}
 use Rattle.jsteps.specs.Device.{device_mode}
 use Rattle.jsteps.specs.declared.device.DeviceKind.{DeviceKind}
 use Rattle.jsteps.specs.declared.fault.OpFault.{OpFault}
@@ -104,10 +104,10 @@ bad_plan page x o e = planned_from page x o ∙ from_bad (has_bad_path o) (tests
 pub good_both : (old new : List ℕ) → is_bad_path old ≡ false → is_bad_path new ≡ false → (is_bad_path old || (is_bad_path new || false)) ≡ false
 good_both old new e f = ap (λ b. b || (is_bad_path new || false)) e ∙ ap (λ b. b || false) f
 
-pub removed_from : (page : ℕ) (x : Indexed) (time : ℕ) (path : List ℕ) (site : Site) (dir : ℕ) → IsSiteOf x.tree path site → dir ≡ number_or_none site.above → dir ≤ 0xFFFFFFFF
+pub removed_from : (page : ℕ) (x : Indexed) (time : ℕ) (path : List ℕ) (site : Site) (dir : ℕ) → IsSiteOf x.tree path site → dir ≡ end_or_zero site.above → dir ≤ 0xFFFFFFFF
     → IsFrom (planned_by page x (op.Remove time path)) (removed_tests x.tree site.is_long site.above site.number) (nat_lt 0xFFFFFFFF (top_at x.tops dir + 1)) (step.ClearName time dir site.last.now ∷ [])
 removed_from page x time path site dir has e le =
-    let same : parent x.tree path ≡ dir = ap number_or_none (sym has.above) ∙ sym e in
+    let same : parent x.tree path ≡ dir = ap end_or_zero (sym has.above) ∙ sym e in
     record {
       is = planned_from page x (op.Remove time path)
           ∙ plan_same (list_any is_bad_path (paths (op.Remove time path))) false (tests_of x.tree (op.Remove time path)) (removed_tests x.tree site.is_long site.above site.number)
@@ -153,10 +153,10 @@ rename_same : (t : Outline) (old new : List ℕ) (time : ℕ)
 rename_same t old new time = simp (or_none) refl
 
 pub link_from : (page : ℕ) (x : Indexed) (time : ℕ) (old new : List ℕ) (from to : Site) (kind : Bool) (dir ino : ℕ) → IsSiteOf x.tree old from → IsSiteOf x.tree new to
-    → kind ≡ has_bits directory_bits (option_and_then (object x.tree) from.number) → dir ≡ number_or_none to.above → dir ≤ 0xFFFFFFFF → ino ≡ unwrap_or from.number 0
+    → kind ≡ has_bits directory_bits (option_and_then (object x.tree) from.number) → dir ≡ end_or_zero to.above → dir ≤ 0xFFFFFFFF → ino ≡ unwrap_or from.number 0
     → IsFrom (planned_by page x (op.Link time old new)) (named_tests x.tree from to kind false) (nat_lt 0xFFFFFFFF (top_at x.tops dir + 1)) (step.SetName time dir to.last.now ino ∷ [])
 link_from page x time old new from to kind dir ino is_from is_to kind_is e le ino_is =
-    let same : parent x.tree new ≡ dir = ap number_or_none (sym is_to.above) ∙ sym e in
+    let same : parent x.tree new ≡ dir = ap end_or_zero (sym is_to.above) ∙ sym e in
     let same_ino : number_or_zero x.tree old ≡ ino = ap (λ (n : Option ℕ). unwrap_or n 0) (sym is_from.number) ∙ sym ino_is in
     let bits : has_bits directory_bits (object_named x.tree old) ≡ kind = ap (λ (n : Option ℕ). has_bits directory_bits (option_and_then (object x.tree) n)) (sym is_from.number) ∙ sym kind_is in
     record {
@@ -196,11 +196,11 @@ full_is x time p mode uid gid name target le =
     ∙ ap (λ b. not b && nat_lt 0xFFFFFFFF (top_at x.tops p + 1)) (unsigned_tied p x.tree.next))
 
 pub made_from : (x : Indexed) (time : ℕ) (path : List ℕ) (kind mode uid gid : ℕ) (target : List ℕ) (link : Bool) (site : Site) (dir whole next : ℕ) → IsSiteOf x.tree path site
-    → dir ≡ number_or_none site.above → dir ≤ 0xFFFFFFFF → whole ≡ kind + mode → next ≡ x.tree.next
+    → dir ≡ end_or_zero site.above → dir ≤ 0xFFFFFFFF → whole ≡ kind + mode → next ≡ x.tree.next
     → IsFrom (made_plan x time path (new_of kind mode uid gid target) link) (made_tests x.tree site.is_long site.above site.number (nat_lt 0o7777 mode) link) (full_by x dir)
     (step.MakeObject time whole uid gid target ∷ step.SetName time dir site.last.now next ∷ [])
 made_from x time path kind mode uid gid target link site dir whole next has e le whole_is next_is =
-    let same : parent x.tree path ≡ dir = ap number_or_none (sym has.above) ∙ sym e in
+    let same : parent x.tree path ≡ dir = ap end_or_zero (sym has.above) ∙ sym e in
     record {
       is = plan_same (is_bad_path path) false (made_tests x.tree (is_long path) (above x.tree path) (number_there x.tree path) (nat_lt 0o7777 mode) link)
           (made_tests x.tree site.is_long site.above site.number (nat_lt 0o7777 mode) link)
@@ -271,12 +271,12 @@ renamed_spent x dir left le le_2 =
     ∙ next_of (left == dir) (get x.tops left) (top_at x.tops dir) (λ e. ap (top_at x.tops) (sym (eqb-true left dir e))))
 
 pub rename_from : (page : ℕ) (x : Indexed) (time : ℕ) (old new : List ℕ) (from to : Site) (into : Bool) (dir left ino : ℕ) → IsSiteOf x.tree old from → IsSiteOf x.tree new to
-    → into ≡ into_itself_at x.tree from.number new → dir ≡ number_or_none to.above → dir ≤ 0xFFFFFFFF → left ≡ number_or_none from.above → left ≤ 0xFFFFFFFF → ino ≡ unwrap_or from.number 0
+    → into ≡ into_itself_at x.tree from.number new → dir ≡ end_or_zero to.above → dir ≤ 0xFFFFFFFF → left ≡ end_or_zero from.above → left ≤ 0xFFFFFFFF → ino ≡ unwrap_or from.number 0
     → IsFrom (planned_by page x (op.Rename time old new)) (named_tests x.tree from to false into) (spent_by x dir left)
     (step.SetName time dir to.last.now ino ∷ step.ClearName time left from.last.now ∷ [])
 rename_from page x time old new from to into dir left ino is_from is_to into_is e le e_left le_left ino_is =
-    let same : parent x.tree new ≡ dir = ap number_or_none (sym is_to.above) ∙ sym e in
-    let same_left : parent x.tree old ≡ left = ap number_or_none (sym is_from.above) ∙ sym e_left in
+    let same : parent x.tree new ≡ dir = ap end_or_zero (sym is_to.above) ∙ sym e in
+    let same_left : parent x.tree old ≡ left = ap end_or_zero (sym is_from.above) ∙ sym e_left in
     let same_ino : number_or_zero x.tree old ≡ ino = ap (λ (n : Option ℕ). unwrap_or n 0) (sym is_from.number) ∙ sym ino_is in
     let same_into : into_itself_at x.tree (number_there x.tree old) new ≡ into = ap (λ (n : Option ℕ). into_itself_at x.tree n new) (sym is_from.number) ∙ sym into_is in
     record {

@@ -9,7 +9,7 @@ use Rattle.jsteps.specs.Planning.{move_steps, steps_of}
 use Rattle.jsteps.specs.Refusals.{paths, is_bad_path, is_long, is_exhausted, is_past, planned_by, meets_nothing, meets_other}
 use Rattle.jsteps.specs.Site.{IsSiteOf}
 use Rattle.jsteps.specs.Tests.{spent_by, tests_of, replaced_tests, missing_at}
-use Rattle.jsteps.specs.Where.{above, number_there, number_or_none, parent, last_name, number_or_zero, is_one_entry}
+use Rattle.jsteps.specs.Where.{above, number_there, end_or_zero, parent, last_name, number_or_zero, is_one_entry}
 use Rattle.jsteps.specs.declared.fault.OpFault.{OpFault}
 use Rattle.jsteps.specs.declared.op.Op.TheVariants as op
 use Rattle.jsteps.specs.declared.refusal.Tests.{Tests}
@@ -50,21 +50,21 @@ replaced_sites t old new from to is_from is_to =
 
 -- whether both lead to one entry
 one_entry : (t : Outline) (old new : List ℕ) (from to : Site) (one : Bool) → IsSiteOf t old from → IsSiteOf t new to
-    → one ≡ ((number_or_none from.above == number_or_none to.above) && bytes_eq from.last.now to.last.now) → is_one_entry t old new ≡ one
+    → one ≡ ((end_or_zero from.above == end_or_zero to.above) && bytes_eq from.last.now to.last.now) → is_one_entry t old new ≡ one
 one_entry t old new from to one is_from is_to e =
-    ap (λ p. (number_or_none p == parent t new) && bytes_eq (last_name old) (last_name new)) (sym is_from.above)
-    ∙ ap (λ p. (number_or_none from.above == number_or_none p) && bytes_eq (last_name old) (last_name new)) (sym is_to.above)
-    ∙ ap (λ l. (number_or_none from.above == number_or_none to.above) && bytes_eq l (last_name new)) (sym is_from.last)
-    ∙ ap (λ l. (number_or_none from.above == number_or_none to.above) && bytes_eq from.last.now l) (sym is_to.last)
+    ap (λ p. (end_or_zero p == parent t new) && bytes_eq (last_name old) (last_name new)) (sym is_from.above)
+    ∙ ap (λ p. (end_or_zero from.above == end_or_zero p) && bytes_eq (last_name old) (last_name new)) (sym is_to.above)
+    ∙ ap (λ l. (end_or_zero from.above == end_or_zero to.above) && bytes_eq l (last_name new)) (sym is_from.last)
+    ∙ ap (λ l. (end_or_zero from.above == end_or_zero to.above) && bytes_eq from.last.now l) (sym is_to.last)
     ∙ sym e
 
 -- the steps of both names
 moved : (t : Outline) (time : ℕ) (old new : List ℕ) (from to : Site) (dir left ino : ℕ) → IsSiteOf t old from → IsSiteOf t new to
-    → dir ≡ number_or_none to.above → left ≡ number_or_none from.above → ino ≡ unwrap_or from.number 0
+    → dir ≡ end_or_zero to.above → left ≡ end_or_zero from.above → ino ≡ unwrap_or from.number 0
     → move_steps t time old new ≡ step.SetName time dir to.last.now ino ∷ step.ClearName time left from.last.now ∷ []
 moved t time old new from to dir left ino is_from is_to e e_left ino_is =
-    ap (λ p. step.SetName time p (last_name new) (number_or_zero t old) ∷ step.ClearName time (parent t old) (last_name old) ∷ []) (ap number_or_none (sym is_to.above) ∙ sym e)
-    ∙ ap (λ p. step.SetName time dir (last_name new) (number_or_zero t old) ∷ step.ClearName time p (last_name old) ∷ []) (ap number_or_none (sym is_from.above) ∙ sym e_left)
+    ap (λ p. step.SetName time p (last_name new) (number_or_zero t old) ∷ step.ClearName time (parent t old) (last_name old) ∷ []) (ap end_or_zero (sym is_to.above) ∙ sym e)
+    ∙ ap (λ p. step.SetName time dir (last_name new) (number_or_zero t old) ∷ step.ClearName time p (last_name old) ∷ []) (ap end_or_zero (sym is_from.above) ∙ sym e_left)
     ∙ ap (λ l. step.SetName time dir l (number_or_zero t old) ∷ step.ClearName time left (last_name old) ∷ []) (sym is_to.last)
     ∙ ap (λ l. step.SetName time dir to.last.now (number_or_zero t old) ∷ step.ClearName time left l ∷ []) (sym is_from.last)
     ∙ ap (λ i. step.SetName time dir to.last.now i ∷ step.ClearName time left from.last.now ∷ []) (ap (λ (n : Option ℕ). unwrap_or n 0) (sym is_from.number) ∙ sym ino_is)
@@ -76,8 +76,8 @@ unless_one x time dir left ino name last true le le_left = refl
 unless_one x time dir left ino name last false le le_left = renamed_spent x dir left le le_left
 
 pub replace_from : (page : ℕ) (x : Indexed) (time : ℕ) (old new : List ℕ) (from to : Site) (one : Bool) (dir left ino : ℕ) → IsSiteOf x.tree old from → IsSiteOf x.tree new to
-    → one ≡ ((number_or_none from.above == number_or_none to.above) && bytes_eq from.last.now to.last.now)
-    → dir ≡ number_or_none to.above → dir ≤ 0xFFFFFFFF → left ≡ number_or_none from.above → left ≤ 0xFFFFFFFF → ino ≡ unwrap_or from.number 0
+    → one ≡ ((end_or_zero from.above == end_or_zero to.above) && bytes_eq from.last.now to.last.now)
+    → dir ≡ end_or_zero to.above → dir ≤ 0xFFFFFFFF → left ≡ end_or_zero from.above → left ≤ 0xFFFFFFFF → ino ≡ unwrap_or from.number 0
     → IsFrom (planned_by page x (op.Replace time old new)) (replaced_tests x.tree from to) (cond one false (spent_by x dir left))
     (cond one [] (step.SetName time dir to.last.now ino ∷ step.ClearName time left from.last.now ∷ []))
 replace_from page x time old new from to one dir left ino is_from is_to one_is e le e_left le_left ino_is =

@@ -11,7 +11,7 @@ use Rattle.jsteps.specs.Device.{device_mode}
 use Rattle.jsteps.specs.Steps.{own_bytes, bytes, sizes, do_step, after, renamed}
 use Rattle.jsteps.specs.Nodes.{Indexed}
 use Rattle.jsteps.specs.Planning.{size_named, first_len, write_steps, make_steps, move_steps, steps_of}
-use Rattle.jsteps.specs.Where.{names_above, last_name, above, number_or_none, parent, ends_in_directory, named_there, number_there, number_or_zero, number_reached, object_named, is_one_entry, met}
+use Rattle.jsteps.specs.Where.{names_above, last_name, above, end_or_zero, parent, ends_in_directory, named_there, number_there, number_or_zero, number_reached, object_named, is_one_entry, met}
 use Rattle.jsteps.specs.Laws.{IsConsistent}
 use Rattle.jmount.specs.Shape.{HasShape}
 use Rattle.jsteps.specs.ShapeLaws as law
@@ -36,7 +36,7 @@ record IsAbove (t : Outline) (path : List ℕ) : Type 0 where
 above_is : (t : Outline) (path : List ℕ) → ends_in_directory t (above t path) ≡ true → IsAbove t path
 above_is t path h = let both = by_result (above t path) h in record { ends = both.0; directory = both.1 }
   where
-    by_result : (r : Result ℕ FindFault) → ends_in_directory t r ≡ true → (r ≡ Ok (number_or_none r)) × (is_directory t (number_or_none r) ≡ true)
+    by_result : (r : Result ℕ FindFault) → ends_in_directory t r ≡ true → (r ≡ Ok (end_or_zero r)) × (is_directory t (end_or_zero r) ≡ true)
     by_result (Ok i) h = (refl, h)
     by_result (Err f) h = absurd (false≢true h)
 

@@ -14,7 +14,7 @@ use Rattle.jmount.proofs.PathNameLemmas.{path_names_exactly}
 use Rattle.jsteps.specs.Nodes.{Indexed}
 use Rattle.jsteps.specs.Laws.{IsConsistent}
 use Rattle.jsteps.specs.Refusals.{is_bad_path, is_long, meets_nothing, meets_other}
-use Rattle.jsteps.specs.Where.{last_of, names_on_path, names_above, last_name, above, number_or_none, parent, ends_in_directory, named_there, number_there, number_or_zero, object_named, is_missing, number_reached, object_reached, is_unreached, met}
+use Rattle.jsteps.specs.Where.{last_of, names_on_path, names_above, last_name, above, end_or_zero, parent, ends_in_directory, named_there, number_there, number_or_zero, object_named, is_missing, number_reached, object_reached, is_unreached, met}
 use Rattle.jsteps.proofs.IndexLemmas.{with_some}
 
 -- ---- names
@@ -99,7 +99,7 @@ bits_there bits None h = absurd (false≢true h)
 bits_there bits (Some o) h = refl
 
 parent_facts : (t : Outline) (r : Result ℕ FindFault) → IsWalk r → meets_nothing r ≡ false → meets_other t r ≡ false
-    → IsParent t (number_or_none r) × (ends_in_directory t r ≡ true)
+    → IsParent t (end_or_zero r) × (ends_in_directory t r ≡ true)
 unfolding IsWalk
 parent_facts t (Ok i) is found directory =
     let there : is_directory t i ≡ true = not-false (is_directory t i) directory in

@@ -3,6 +3,7 @@
 ghost use Rattle.std.specs.Prelude.{◌≡◌, ◌==◌, ◌||◌, ◌&&◌, ◌≤◌, ◌+◌, ◌++◌, ℕ, nat_lt, length, [], ◌∷◌, IfOk, IfErr, IsTrue, Ok, Err, ◌≢◌};
 ghost use Rattle.std.specs.List.{list_any};
 ghost use Rattle.jmount.specs.Shown.{top_at};
+ghost use Rattle.jmount.specs.Tree.{greatest_target};
 ghost use Rattle.jscan.specs.Pages.{IsPage, page_size};
 ghost use Rattle.jsteps.specs.Families.{makes_empty, makes_special, is_of_bytes};
 ghost use Rattle.jsteps.specs.Planning.{most_steps, bytes_steps};
@@ -23,9 +24,9 @@ use crate::refusal::{
 };
 use crate::site::{end_of, is_one_entry, look_up, look_up_both, meets_above, reach};
 use crate::step::Step;
-use crate::stored::DIRECTORY;
 use crate::text::Text;
 use flashbase::Part;
+use jmount::{DIRECTORY_BITS, GREATEST_TARGET};
 use jscan::Page;
 use std::alloc::{AllocError, Global};
 
@@ -205,7 +206,7 @@ fn link<'a>(
     let Some((from, to)) = look_up_both(alloc, index, old, new)? else {
         return Err(OpFault::BadPath);
     };
-    let is_directory = index.has_bits(from.number, DIRECTORY);
+    let is_directory = index.has_bits(from.number, DIRECTORY_BITS);
     let ino = from.number.unwrap_or(0);
     let directory = end_of(to.above);
     if let Some(fault) = tests_of_name(index, &from, &to, is_directory, false).first() {
@@ -234,7 +235,7 @@ fn is_into_itself(
 ) -> Result<bool, AllocError>
     ensures { IfOk result (λ is_into. is_into ≡ into_itself_at index.now.tree number new.now) }
 {
-    if index.has_bits(number, DIRECTORY) {
+    if index.has_bits(number, DIRECTORY_BITS) {
         return meets_above(alloc, index, new, number.unwrap_or(0));
     }
     Ok(false)
@@ -341,41 +342,23 @@ fn is_full(index: &Index, directory: u32) -> bool
     next > u32::MAX as u64 || u64::from(directory) != next && is_spent(index, directory, 1)
 }
 
-/// A new directory.
-fn mkdir<'a>(
+/// A new object that has no data, of a kind that these mode bits say.
+fn make_plain<'a>(
     alloc: Global,
     index: &Index,
     time: u32,
     path: &'a [u8],
+    kind: u32,
     mode: u32,
     uid: u16,
     gid: u16,
 ) -> Result<Vec<Step<'a>>, OpFault>
-    ensures { (page : ℕ)
-        → GivesPlan result (planned_by page index.now (op.Mkdir time path.now mode uid gid)) }
+    requires { kind ≤ 0o170000 }
+    ensures { GivesPlan result (made_plan index.now time path.now (new_of kind mode uid gid []) false) }
 {
     let target = b"".as_slice();
     make(
-        alloc, index, time, path, 0o040000, mode, uid, gid, target, false,
-    )
-}
-
-/// A new file.
-fn create<'a>(
-    alloc: Global,
-    index: &Index,
-    time: u32,
-    path: &'a [u8],
-    mode: u32,
-    uid: u16,
-    gid: u16,
-) -> Result<Vec<Step<'a>>, OpFault>
-    ensures { (page : ℕ)
-        → GivesPlan result (planned_by page index.now (op.Create time path.now mode uid gid)) }
-{
-    let target = b"".as_slice();
-    make(
-        alloc, index, time, path, 0o100000, mode, uid, gid, target, false,
+        alloc, index, time, path, kind, mode, uid, gid, target, false,
     )
 }
 
@@ -467,50 +450,12 @@ fn device<'a>(
     )
 }
 
-/// A new FIFO.
-fn fifo<'a>(
-    alloc: Global,
-    index: &Index,
-    time: u32,
-    path: &'a [u8],
-    mode: u32,
-    uid: u16,
-    gid: u16,
-) -> Result<Vec<Step<'a>>, OpFault>
-    ensures { (page : ℕ)
-        → GivesPlan result (planned_by page index.now (op.Fifo time path.now mode uid gid)) }
-{
-    let target = b"".as_slice();
-    make(
-        alloc, index, time, path, 0o010000, mode, uid, gid, target, false,
-    )
-}
-
-/// A new socket.
-fn socket<'a>(
-    alloc: Global,
-    index: &Index,
-    time: u32,
-    path: &'a [u8],
-    mode: u32,
-    uid: u16,
-    gid: u16,
-) -> Result<Vec<Step<'a>>, OpFault>
-    ensures { (page : ℕ)
-        → GivesPlan result (planned_by page index.now (op.Socket time path.now mode uid gid)) }
-{
-    let target = b"".as_slice();
-    make(
-        alloc, index, time, path, 0o140000, mode, uid, gid, target, false,
-    )
-}
-
 /// Whether a symlink may not have this target.
 fn is_bad_target(target: &[u8]) -> bool
-    ensures { result ≡ ((length target.now == 0) || nat_lt 4095 (length target.now)
+    ensures { result ≡ ((length target.now == 0) || nat_lt greatest_target (length target.now)
         || list_any (λ b. b == 0) target.now) }
 {
-    target.is_empty() || target.len() > 4095 || target.contains(&0)
+    target.is_empty() || target.len() > GREATEST_TARGET || target.contains(&0)
 }
 
 /// A new symlink.
@@ -577,28 +522,64 @@ fn plan_empty<'a>(alloc: Global, index: &Index, op: &'a Op<'_>) -> Result<Vec<St
             mode,
             uid,
             gid,
-        } => mkdir(alloc, index, *time, path.as_slice(), *mode, *uid, *gid),
+        } => make_plain(
+            alloc,
+            index,
+            *time,
+            path.as_slice(),
+            0o040000,
+            *mode,
+            *uid,
+            *gid,
+        ),
         Op::Create {
             time,
             path,
             mode,
             uid,
             gid,
-        } => create(alloc, index, *time, path.as_slice(), *mode, *uid, *gid),
+        } => make_plain(
+            alloc,
+            index,
+            *time,
+            path.as_slice(),
+            0o100000,
+            *mode,
+            *uid,
+            *gid,
+        ),
         Op::Fifo {
             time,
             path,
             mode,
             uid,
             gid,
-        } => fifo(alloc, index, *time, path.as_slice(), *mode, *uid, *gid),
+        } => make_plain(
+            alloc,
+            index,
+            *time,
+            path.as_slice(),
+            0o010000,
+            *mode,
+            *uid,
+            *gid,
+        ),
         Op::Socket {
             time,
             path,
             mode,
             uid,
             gid,
-        } => socket(alloc, index, *time, path.as_slice(), *mode, *uid, *gid),
+        } => make_plain(
+            alloc,
+            index,
+            *time,
+            path.as_slice(),
+            0o140000,
+            *mode,
+            *uid,
+            *gid,
+        ),
         _ => unreachable!(),
     }
 }

@@ -12,9 +12,6 @@ use jmount::{Object, kind_of};
 use std::alloc::AllocError;
 use std::collections::BTreeMap;
 
-/// Bits 12 to 15 of a directory's mode.
-pub const DIRECTORY: u32 = 4;
-
 /// An object without its bytes: its attributes, its size, and the greatest version of its number.
 #[derive(Clone, Copy)]
 pub struct Stored {

@@ -9,7 +9,7 @@ use Rattle.jmount.specs.declared.fault.FindFault.{FindFault}
 use Rattle.jsteps.specs.Nodes.{Indexed}
 use Rattle.jsteps.specs.Planning.{make_steps, steps_of}
 use Rattle.jsteps.specs.Refusals.{paths, has_bad_path, is_bad_path, is_long, is_not_found, meets_nothing, meets_other, is_taken, is_wrong_kind, is_not_empty, is_into_itself, is_too_large, is_bad_mode, is_bad_target, is_exhausted, greatest_size, refusals, unless_refused, planned_by}
-use Rattle.jsteps.specs.Where.{above, is_missing, ends_in_directory, last_name, number_there, number_or_none}
+use Rattle.jsteps.specs.Where.{above, is_missing, ends_in_directory, last_name, number_there, end_or_zero}
 use Rattle.jsteps.specs.declared.fault.OpFault.{OpFault}
 use Rattle.jsteps.specs.declared.device.DeviceKind.{DeviceKind}
 use Rattle.jsteps.specs.declared.op.Op.{Op}
@@ -169,7 +169,7 @@ symlink_free page x time path target uid gid dir name p none some few all = reco
 pub make_steps_are : (t : Outline) (time : ℕ) (path : List ℕ) (mode uid gid : ℕ) (bytes : List ℕ) (dir : ℕ) (name : List ℕ) → IsPlaced t path dir name
     → make_steps t time path mode uid gid bytes ≡ step.MakeObject time mode uid gid bytes ∷ step.SetName time dir name t.next ∷ []
 make_steps_are t time path mode uid gid bytes dir name p =
-    ap (λ (r : Result ℕ FindFault). step.MakeObject time mode uid gid bytes ∷ step.SetName time (number_or_none r) (last_name path) t.next ∷ []) p.above_is
+    ap (λ (r : Result ℕ FindFault). step.MakeObject time mode uid gid bytes ∷ step.SetName time (end_or_zero r) (last_name path) t.next ∷ []) p.above_is
     ∙ ap (λ n. step.MakeObject time mode uid gid bytes ∷ step.SetName time dir n t.next ∷ []) p.last
 
 -- ---- a further name of a regular file that is there

@@ -10,7 +10,7 @@ use Rattle.jsteps.specs.Nodes.{Indexed}
 use Rattle.jscan.specs.Pages.{IsPage}
 use Rattle.jsteps.specs.Planning.{steps_of}
 use Rattle.jsteps.specs.Refusals.{is_exhausted}
-use Rattle.jsteps.specs.Where.{last_name, number_or_none, number_or_zero}
+use Rattle.jsteps.specs.Where.{last_name, end_or_zero, number_or_zero}
 use Rattle.jsteps.specs.declared.op.Op.TheVariants as op
 use Rattle.jsteps.specs.declared.step.Step.TheVariants as step
 use Rattle.jtree.proofs.AcceptLemmas.{IsFile, accept, link_free}
@@ -54,7 +54,7 @@ link_reaches page n x s time old new f m root made is_page at stands t a now nam
     let steps = step.SetName time a.dir a.name ino ∷ [] in
     let number : number_or_zero x.tree old ≡ ino = ap (λ (o : Option ℕ). unwrap_or o 0) (p.number ∙ file.number) in
     let all : steps_of page x.tree (op.Link time old new) ≡ steps =
-    ap (λ (r : Result ℕ FindFault). step.SetName time (number_or_none r) (last_name new) (number_or_zero x.tree old) ∷ []) q.above_is
+    ap (λ (r : Result ℕ FindFault). step.SetName time (end_or_zero r) (last_name new) (number_or_zero x.tree old) ∷ []) q.above_is
     ∙ ap (λ name. step.SetName time a.dir name (number_or_zero x.tree old) ∷ []) q.last
     ∙ ap (λ i. step.SetName time a.dir a.name i ∷ []) number in
     let room : is_exhausted page x (op.Link time old new) ≡ false =

@@ -17,7 +17,7 @@ use Rattle.jsteps.specs.Planning.{bytes_steps, first_len, page_puts, piece_puts,
 use Rattle.jsteps.specs.Refusals.{is_exhausted, is_past}
 use Rattle.jsteps.specs.Laws.{OpFits}
 use Rattle.jsteps.specs.Steps.{bytes, do_step, after, is_device, own_bytes}
-use Rattle.jsteps.specs.Where.{last_name, number_or_none}
+use Rattle.jsteps.specs.Where.{last_name, end_or_zero}
 use Rattle.jsteps.specs.declared.op.Op.{Op}
 use Rattle.jsteps.specs.declared.op.Op.TheVariants as op
 use Rattle.jsteps.specs.declared.step.Step.{Step}
@@ -194,7 +194,7 @@ file_reaches page n x s time path mode uid gid all bits way name dir root made i
     let set = step.SetName time dir name s.next in
     let steps = bytes_steps page s.next time whole uid gid all ++ set ∷ [] in
     let are : steps_of page x.tree o ≡ steps =
-    ap (λ (r : Result ℕ FindFault). bytes_steps page x.tree.next time whole uid gid all ++ step.SetName time (number_or_none r) (last_name path) x.tree.next ∷ []) p.above_is
+    ap (λ (r : Result ℕ FindFault). bytes_steps page x.tree.next time whole uid gid all ++ step.SetName time (end_or_zero r) (last_name path) x.tree.next ∷ []) p.above_is
     ∙ ap (λ l. bytes_steps page x.tree.next time whole uid gid all ++ step.SetName time dir l x.tree.next ∷ []) p.last
     ∙ ap (λ i. bytes_steps page i time whole uid gid all ++ step.SetName time dir name i ∷ []) (at_next n x s at) in
     let most : x.tree.next ≤ n + 2 = at.counted.next in

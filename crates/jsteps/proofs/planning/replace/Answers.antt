@@ -1,7 +1,7 @@
 use Rattle.std.proofs.Common.{◌∙◌, arith, ap, ◌≤◌, [], ◌∷◌, refl, false}
 use Rattle.std.specs.Prelude.{◌&&◌, ◌==◌, bytes_eq}
 use Rattle.jsteps.specs.Site.{IsSiteOf}
-use Rattle.jsteps.specs.Where.{number_or_none}
+use Rattle.jsteps.specs.Where.{end_or_zero}
 use Rattle.jsteps.specs.declared.op.Op.TheVariants as op
 use Rattle.jsteps.specs.declared.step.Step.TheVariants as step
 use Rattle.jsteps.proofs.PlannedLemmas.{bad_of_both, good_of_both, bad_plan, answer_refused, answer_spent, answer_none}
@@ -20,7 +20,7 @@ returns-in-Some-first c = λ page h.
     let le : c.end_of-directory.result ≤ 0xFFFFFFFF = omega arith in
     let le_left : c.end_of-left.result ≤ 0xFFFFFFFF = omega arith in
     answer_refused (replace_from page c.args.index.now c.args.time c.args.old.now c.args.new.now c.in-Some.from c.in-Some.to
-    ((number_or_none c.in-Some.from.above == number_or_none c.in-Some.to.above) && bytes_eq c.in-Some.from.last.now c.in-Some.to.last.now) c.end_of-directory.result c.end_of-left.result c.unwrap_or-ino.result sites.0 sites.1
+    ((end_or_zero c.in-Some.from.above == end_or_zero c.in-Some.to.above) && bytes_eq c.in-Some.from.last.now c.in-Some.to.last.now) c.end_of-directory.result c.end_of-left.result c.unwrap_or-ino.result sites.0 sites.1
     refl c.end_of-directory.ensures le c.end_of-left.ensures le_left c.unwrap_or-ino.ensures)
     c.tests_of_replaced.result c.first.result c.in-Some-first.fault c.tests_of_replaced.ensures c.first.ensures c.in-Some-first.is
 
