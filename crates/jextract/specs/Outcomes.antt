@@ -53,8 +53,8 @@ pub data Plan : Type 0 where
 
 -- a target that a symlink of the host may have: text of 1 to 4,095 bytes, none of them zero
 abbrev pub is_target : List ℕ → Bool
-is_target target = nat_lt 0 (length target) && nat_le (length target) greatest_target && is_utf8 target
-    && list_all (λ b. not (b == 0)) target
+is_target target = nat_lt 0 (length target) && nat_le (length target) greatest_target
+    && is_utf8 target && list_all (λ b. not (b == 0)) target
 
 abbrev pub plan_symlink : List ℕ → Attributes → Plan
 plan_symlink target attributes =

@@ -42,7 +42,8 @@ object_start i o = kind_letter o.kind ++ codes " " ++ permissions o.mode ++ code
 -- where a symlink leads
 unfoldable pub target_shown : List ℕ → List ℕ
 target_shown target =
-    if nat_lt greatest_target (length target) then codes " -> (long)" else codes " -> " ++ escaped target
+    if nat_lt greatest_target (length target) then codes " -> (long)"
+    else codes " -> " ++ escaped target
 
 -- what follows the path: of a symlink where it leads, and of a directory that was met before that
 -- it was

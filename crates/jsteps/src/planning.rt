@@ -354,7 +354,8 @@ fn make_plain<'a>(
     gid: u16,
 ) -> Result<Vec<Step<'a>>, OpFault>
     requires { kind ≤ 0o170000 }
-    ensures { GivesPlan result (made_plan index.now time path.now (new_of kind mode uid gid []) false) }
+    ensures { GivesPlan result
+        (made_plan index.now time path.now (new_of kind mode uid gid []) false) }
 {
     let target = b"".as_slice();
     make(
