@@ -66,7 +66,7 @@ abbrev pub with_findings : ℕ → Result ℕ ProgramFault → Result ℕ Progra
 with_findings n (Ok _) = Ok n
 with_findings n (Err fault) = Err fault
 
--- the same, where there is one
+-- the answer, with that number of findings where one is given
 abbrev pub answer_noting : Option ℕ → Result ℕ ProgramFault → Result ℕ ProgramFault
 answer_noting None answer = answer
 answer_noting (Some n) answer = with_findings n answer
