@@ -1,6 +1,6 @@
 //! The steps of an operation.
 
-ghost use Rattle.std.specs.Prelude.{◌≡◌, ◌==◌, ◌||◌, ◌&&◌, ◌≤◌, ◌+◌, ◌++◌, ℕ, nat_lt, length, [], ◌∷◌, IfOk, IfErr, IsTrue, Ok, Err, ◌≢◌};
+ghost use Rattle.std.specs.Prelude.{◌≡◌, ◌==◌, ◌||◌, ◌&&◌, ◌≤◌, ◌+◌, ◌++◌, ℕ, false, nat_lt, length, [], ◌∷◌, IfOk, IfErr, IsTrue, Ok, Err, ◌≢◌};
 ghost use Rattle.std.specs.List.{list_any};
 ghost use Rattle.jmount.specs.Shown.{top_at};
 ghost use Rattle.jmount.specs.Tree.{greatest_target};
