@@ -27,6 +27,7 @@ mod shape;
 mod shown;
 mod sorting;
 mod stored;
+mod stored_tree;
 mod storing;
 mod versions;
 mod walk;

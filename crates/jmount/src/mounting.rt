@@ -63,7 +63,7 @@ pub fn mount_scanned<'a>(
     }
     let objects = inodes.into_objects()?;
     let next = u64::from(greatest) + 1;
-    let mounted = Mounted::new(image, objects, names, next, findings, read_only);
+    let mounted = Mounted::new(alloc, image, objects, names, next, findings, read_only)?;
     if !mounted.is_directory(ROOT) {
         return Err(MountFault::RootKind);
     }

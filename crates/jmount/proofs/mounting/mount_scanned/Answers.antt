@@ -39,7 +39,7 @@ returns-then-not-is_directory c = λ e size scan.
       number = ap (λ (n : ℕ). n + 1) (c.from-next.ensures ∙ c.in_ok-names.ensures.greatest ∙ ap (λ (ns : List (ℕ × NodeRef)). greatest_number (without_addresses ns)) scan.nodes);
     } in
     not_a_directory e size c.args.image.now c.in_ok-names.field-0.names c.in_ok-names.field-0.inodes c.in_ok-objects.objects (c.from-next.result + 1) keeps
-    c.new-mounted.result c.args.partial.findings.items c.args.partial.read_only c.is_directory.result c.new-mounted.ensures c.is_directory.ensures c.if-not-is_directory.true
+    c.in_ok-mounted.mounted c.args.partial.findings.items c.args.partial.read_only c.is_directory.result c.in_ok-mounted.ensures c.is_directory.ensures c.if-not-is_directory.true
 
 pub returns : goal.returns
 returns c = λ e size scan.
@@ -55,4 +55,4 @@ returns c = λ e size scan.
     let found : c.args.partial.findings.items ≡ findings e size c.args.image.now = scan.findings c.in_default.is in
     let forbids : c.args.partial.read_only ≡ is_read_only e size c.args.image.now = scan.read_only c.in_default.is in
     mounted e size c.args.image.now c.in_ok-names.field-0.names c.in_ok-names.field-0.inodes c.in_ok-objects.objects (c.from-next.result + 1) keeps
-    c.new-mounted.result c.args.partial.findings.items c.args.partial.read_only c.is_directory.result c.new-mounted.ensures found forbids c.is_directory.ensures c.if-not-is_directory.false
+    c.in_ok-mounted.mounted c.args.partial.findings.items c.args.partial.read_only c.is_directory.result c.in_ok-mounted.ensures found forbids c.is_directory.ensures c.if-not-is_directory.false
