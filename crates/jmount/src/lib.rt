@@ -11,6 +11,7 @@
 #![tactic(auto)]
 
 mod collecting;
+mod directories;
 pub mod examples;
 mod fault;
 mod inodes;

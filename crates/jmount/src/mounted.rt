@@ -7,6 +7,7 @@ ghost use Rattle.jmount.specs.Find as walk;
 ghost use Rattle.jmount.specs.Shape.{HasShape};
 ghost use Rattle.jmount.specs.Shown.{shown, objects_in, readable, top_at};
 
+use crate::directories::directory_kept;
 use crate::fault::FindFault;
 use crate::object::Object;
 use crate::path;
@@ -62,7 +63,9 @@ impl<'a> Model for Mounted<'a> {
 impl<'a> Mounted<'a> {
     ghost use Rattle.std.specs.Ordering.{nat_cmp};
     ghost use Rattle.std.specs.BTreeMap.{IsOrdered};
+    ghost use Rattle.jname.specs.Live.{all_names};
     ghost use Rattle.jmount.specs.Stored.{stored_state, stored_tops};
+    ghost use Rattle.jmount.specs.Kept.{HasDirectories};
 
     /// A mounted image of its parts. What is found out of them takes memory for the directories,
     /// and gives it back.
@@ -75,7 +78,8 @@ impl<'a> Mounted<'a> {
         findings: Vec<Finding>,
         read_only: bool,
     ) -> Result<Mounted<'a>, AllocError>
-        requires { IsOrdered nat_cmp objects }
+        requires ordered { IsOrdered nat_cmp objects }
+        requires directories { HasDirectories objects (all_names names) }
         ensures { IfOk result (λ mounted. mounted ≡ record {
           image = image.now;
           state = stored_state objects.entry names.entry next;
@@ -207,6 +211,15 @@ impl<'a> Mounted<'a> {
         ensures { result ≡ tree.all_entries self.now.state }
     {
         self.tree().names()
+    }
+
+    /// The directory of the first name, in order of the directory's number and then in byte order,
+    /// that stands for a number whose object is there. It was found out at the mount: takes O(log
+    /// n) and no memory.
+    pub fn first_directory(&self, ino: u32) -> Option<u32>
+        ensures { result ≡ tree.first_directory self.now.state ino }
+    {
+        directory_kept(self.objects.get(&ino)?)
     }
 
     /// All objects, the root among them, each with its number, in ascending order of number.
