@@ -17,6 +17,7 @@ pub mod FaultLemmas
 pub mod CollectedLemmas
 pub mod StoredLemmas
 pub mod StoringLemmas
+pub mod KeptLemmas
 pub mod PieceLemmas
 pub mod ReadLemmas
 pub mod TopLemmas

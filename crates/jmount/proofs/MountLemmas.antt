@@ -1,5 +1,5 @@
 -- What a mount answers, of what was collected.
-use Rattle.std.proofs.Common.{◌≡◌, ℕ, ◌+◌, ◌<◌, ◌≤◌, ◌^◌, Bool, true, false, List, length, get_or, All, None, Some, Err, refl, ap, sym, ◌∙◌, subst, arith, IsFalse}
+use Rattle.std.proofs.Common.{◌≡◌, ◌≢◌, ℕ, ◌+◌, ◌<◌, ◌≤◌, ◌^◌, Bool, true, false, List, length, get_or, All, None, Some, Err, refl, ap, sym, ◌∙◌, subst, arith, IsFalse}
 use Rattle.std.specs.Prelude.{Contains}
 use Rattle.std.specs.Ordering.{nat_cmp}
 use Rattle.std.specs.BTreeMap.{IsOrdered}
@@ -10,7 +10,7 @@ use Rattle.jnode.specs.declared.node.InodeNode.{InodeNode}
 use Rattle.jnode.specs.declared.node.Fill.{Fill}
 use Rattle.jnode.specs.declared.node.Fill.TheVariants as fill
 use Rattle.jnode.specs.declared.node.NodeRef.{NodeRef}
-use Rattle.jnode.specs.declared.node.NodeRef.TheVariants.{Inode}
+use Rattle.jnode.specs.declared.node.NodeRef.TheVariants.{Entry, Inode}
 use Rattle.jnode.specs.Writing.{IsWritable, IsWritableInode, HoldsRange}
 use Rattle.jfrag.specs.Pieces.{end_of, body_len}
 use Rattle.flashbase.proofs.MemberLemmas.{Contains-map_from}
@@ -28,7 +28,7 @@ use Rattle.jmount.specs.Stored.{ObjectsByNumber, stored_state, stored_tops}
 use Rattle.jmount.specs.Collected.{Collected, StopsCollecting, without_addresses, greatest_number, refusal_fault}
 use Rattle.jmount.specs.declared.fault.MountFault.{MountFault}
 use Rattle.jmount.specs.declared.fault.MountFault.TheVariants as fault
-use Rattle.jmount.proofs.ClashLemmas.{from_inodes}
+use Rattle.jmount.proofs.ClashLemmas.{from_entries, from_inodes}
 use Rattle.jmount.proofs.FaultLemmas.{Ascends, ascends_from_splits, first_clash_answers, nodes_are_all}
 use Rattle.jmount.proofs.CollectedLemmas.{collected_refusal_answers, collected_is_sound, collected_all_nodes}
 use Rattle.jmount.proofs.StoredStateLemmas.{HasEach, state_stored, tops_stored}
@@ -72,6 +72,23 @@ pub nodes_end : (e : Endian) (size : ℕ) (image : List ℕ) (names : List Diren
     → Collected names inode_list (nodes_before_refusal e size image) → All (λ node. end_of (piece_of node) < 2 ^ 32) inode_list
 nodes_end e size image names inode_list scannable none collected k d l =
     node_end e size image names inode_list scannable (collected_all_nodes e size image names inode_list none collected) (get_or inode_list k d) (Contains-get_or inode_list k d l)
+
+-- ---- each entry has a directory
+
+entry_parent : (e : Endian) (size : ℕ) (image : List ℕ) (names : List Dirent) (inode_list : List InodeNode) → IsScannable size image → Collected names inode_list (nodes e size image)
+    → (entry : Dirent) → Contains names entry → entry.pino ≢ 0
+entry_parent e size image names inode_list scannable collected entry h zero =
+    let there : Contains (without_addresses (nodes e size image)) (Entry entry) = from_entries (without_addresses (nodes e size image)) entry ((collected.same_entries entry).0 h) in
+    let found = Contains-map_from (λ (n : ℕ × NodeRef). n.1) (nodes e size image) (Entry entry) there in
+    let writable : IsWritable (Entry entry) = subst (λ (n : NodeRef). IsWritable n) found.2 (nodes_writable e size image found.0 scannable.0 found.1) in
+    let parent : 1 ≤ entry.pino = writable.parent in
+    let none : entry.pino ≡ 0 = zero in
+    absurd (omega arith)
+
+pub entries_have_parents : (e : Endian) (size : ℕ) (image : List ℕ) (names : List Dirent) (inode_list : List InodeNode) → IsScannable size image → first_refused e size image ≡ None
+    → Collected names inode_list (nodes_before_refusal e size image) → (entry : Dirent) → Contains names entry → entry.pino ≢ 0
+entries_have_parents e size image names inode_list scannable none collected =
+    entry_parent e size image names inode_list scannable (collected_all_nodes e size image names inode_list none collected)
 
 -- ---- the file system
 

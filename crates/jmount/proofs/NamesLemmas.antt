@@ -7,7 +7,7 @@ use Rattle.std.proofs.lemmas.Slice.Eq.{bytes_eq-Decides}
 use Rattle.flashbase.specs.Lists.{newest}
 use Rattle.flashbase.proofs.ListLemmas.{newest_is_newest, newest_of_none}
 use Rattle.jnode.specs.declared.node.Dirent.{Dirent}
-use Rattle.jname.specs.Live.{Key, is_at, ino_if_any}
+use Rattle.jname.specs.Live.{Key, is_at, ino_if_any, live}
 use Rattle.jname.proofs.LiveLemmas.{key_at}
 use Rattle.flashbase.proofs.MemberLemmas.{Contains-none, Contains-filter, Contains-filter_from}
 use Rattle.jmount.specs.StateOf.{entries}
@@ -52,6 +52,10 @@ by_newest given key i None none e = absurd (false≢true (ap is_some e))
 by_newest given key i (Some entry) is e =
     let number = number_unless_0 i entry.ino (entry.ino == 0) refl e in
     (number.0, (entry, is_newest given key entry is, number.1))
+
+pub live_is_of_newest : (given : List Dirent) (key : Key) (i : ℕ) → live given key ≡ Some i → (i ≢ 0) × ((entry : Dirent) × IsNewestEntry given key.0 key.1 entry × (entry.ino ≡ i))
+unfolding newest_at
+live_is_of_newest given key i e = by_newest given key i (newest_at given key) refl e
 
 pub name_is_of_newest : law.NameIsOfNewest
 unfolding newest_at

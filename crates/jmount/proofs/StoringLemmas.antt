@@ -79,7 +79,7 @@ latest_is versions keyed = latest_from versions keyed (latest (nodes_in versions
 abbrev Objects : Type 0
 Objects = BTreeMap ℕ Stored
 
-replaced_at : (old new : Objects) (k : ℕ) (stored : Stored) → Updates nat_cmp old new k (Some stored) → (i : ℕ) → get nat_cmp new i ≡ (if k == i then Some stored else get nat_cmp old i)
+pub replaced_at : (old new : Objects) (k : ℕ) (stored : Stored) → Updates nat_cmp old new k (Some stored) → (i : ℕ) → get nat_cmp new i ≡ (if k == i then Some stored else get nat_cmp old i)
 replaced_at old new k stored u i = u.0 i ∙ ap (λ (b : Bool). if b then Some stored else get nat_cmp old i) (unsigned_tied k i)
 
 made_of : Option Versions → Option VersionedObject

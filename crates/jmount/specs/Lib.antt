@@ -6,6 +6,7 @@ pub mod CollectedEntries
 pub mod Examples
 pub mod Find
 pub mod Inodes
+pub mod Kept
 pub mod Laws
 pub mod Mount
 pub mod Mounts

@@ -1,5 +1,6 @@
 -- A file system: its objects, its names, and the next number that is free.
-use Rattle.std.specs.Prelude.{ℕ, ◌/◌, ◌%◌, ◌==◌, Bool, false, List, length, map, filter, Option, Some, None, option_map, is_some, not}
+use Rattle.std.specs.Prelude.{ℕ, ◌/◌, ◌%◌, ◌==◌, Bool, false, List, length, map, filter, Option, Some, None, option_map, is_some, not, if◌then◌else◌}
+use Rattle.std.specs.List.{find}
 use Rattle.std.specs.Ordering.{nat_cmp}
 use Rattle.std.specs.FinMap.{FinMap, get, keys, entries}
 use Rattle.flashbase.specs.Lists.{tabled}
@@ -69,6 +70,14 @@ all_entries t = map (λ e. (e.0.0, e.0.1, e.1)) (entries t.names)
 -- the names whose objects are missing, in order
 abbrev pub dangling : {B : Type 0} → Tree B → List (ℕ × List ℕ × ℕ)
 dangling t = filter (λ e. not (is_there t e.2)) (all_entries t)
+
+-- the directory of the first of some names that stands for a number
+abbrev pub first_directory_in : List (ℕ × List ℕ × ℕ) → ℕ → Option ℕ
+first_directory_in names i = option_map (λ e. e.0) (find (λ e. e.2 == i) names)
+
+-- the directory of the first name, in order, that stands for a number whose object is there
+abbrev pub first_directory : {B : Type 0} → Tree B → ℕ → Option ℕ
+first_directory t i = if is_there t i then first_directory_in (all_entries t) i else None
 
 -- ---- kinds: mode bits 12 to 15 (Linux, include/uapi/linux/stat.h)
 

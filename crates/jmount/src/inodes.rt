@@ -44,6 +44,7 @@ impl<'a> Inodes<'a> {
     ghost use Rattle.jmount.specs.Storing.{made_of, as_made};
     ghost use Rattle.jmount.specs.Clash.{NoInodeClashesWith, SomeInodeClashesWith};
     ghost use Rattle.jmount.specs.Inodes.{GainsInode};
+    ghost use Rattle.jmount.specs.Kept.{HasNoDirectories};
 
     /// No nodes.
     pub fn new(alloc: Global) -> Inodes<'a>
@@ -75,6 +76,7 @@ impl<'a> Inodes<'a> {
         ensures each { IfOk result
             (λ objects. (i : ℕ)
             → option_map as_made (get nat_cmp objects i) ≡ made_of self.entry i) }
+        ensures none { IfOk result HasNoDirectories }
         ensures ordered { IfOk result (IsOrdered nat_cmp) }
     {
         objects_with_root(self.alloc, self.numbers)

@@ -11,6 +11,7 @@
 #![tactic(auto)]
 
 mod collecting;
+mod directories;
 pub mod examples;
 mod fault;
 mod inodes;
@@ -27,6 +28,7 @@ mod shape;
 mod shown;
 mod sorting;
 mod stored;
+mod stored_tree;
 mod storing;
 mod versions;
 mod walk;

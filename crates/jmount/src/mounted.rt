@@ -7,13 +7,15 @@ ghost use Rattle.jmount.specs.Find as walk;
 ghost use Rattle.jmount.specs.Shape.{HasShape};
 ghost use Rattle.jmount.specs.Shown.{shown, objects_in, readable, top_at};
 
+use crate::directories::directory_kept;
 use crate::fault::FindFault;
 use crate::object::Object;
 use crate::path;
 use crate::read::{hole_end_stored, put_stored, read_stored};
 use crate::shape::has_shape;
-use crate::shown::{self, shown};
+use crate::shown::shown;
 use crate::stored::Stored;
+use crate::stored_tree::StoredTree;
 use crate::walk::Objects;
 use flashbase::{DeviceFault, Sink};
 use jname::{All, Names, Of};
@@ -32,16 +34,16 @@ pub struct Mounted<'a> {
     objects: BTreeMap<u32, Stored<'a>>,
     names: Names<'a>,
     next: u64,
+    has_shape: bool,
     findings: Vec<Finding>,
     read_only: bool,
 }
 
 impl<'a> Model for Mounted<'a> {
-    ghost use Rattle.std.specs.Ordering.{nat_cmp};
-    ghost use Rattle.std.specs.BTreeMap.{IsOrdered};
     ghost use Rattle.jmount.specs.Mount.{Mount};
     ghost use Rattle.jmount.specs.Codes.{mount_code};
     ghost use Rattle.jmount.specs.Stored.{stored_state, stored_tops};
+    ghost use Rattle.jmount.specs.Kept.{IsKept};
 
     ghost Value = { Mount };
 
@@ -55,40 +57,54 @@ impl<'a> Model for Mounted<'a> {
       read_only = m.read_only;
     } };
 
-    ghost invariant = { λ m. IsOrdered nat_cmp m.objects };
+    ghost invariant = { λ m. IsKept m.objects m.names m.next m.has_shape };
 }
 
 impl<'a> Mounted<'a> {
     ghost use Rattle.std.specs.Ordering.{nat_cmp};
     ghost use Rattle.std.specs.BTreeMap.{IsOrdered};
+    ghost use Rattle.jname.specs.Live.{all_names};
     ghost use Rattle.jmount.specs.Stored.{stored_state, stored_tops};
+    ghost use Rattle.jmount.specs.Kept.{HasDirectories};
 
-    /// A mounted image of its parts.
+    /// A mounted image of its parts. What is found out of them takes memory for the directories,
+    /// and gives it back.
     pub(crate) fn new(
+        alloc: Global,
         image: &'a [u8],
         objects: BTreeMap<u32, Stored<'a>>,
         names: Names<'a>,
         next: u64,
         findings: Vec<Finding>,
         read_only: bool,
-    ) -> Mounted<'a>
-        requires { IsOrdered nat_cmp objects }
-        ensures { result ≡ record {
+    ) -> Result<Mounted<'a>, AllocError>
+        requires ordered { IsOrdered nat_cmp objects }
+        requires directories { HasDirectories objects (all_names names) }
+        ensures { IfOk result (λ mounted. mounted ≡ record {
           image = image.now;
           state = stored_state objects.entry names.entry next;
           tops = stored_tops objects.entry names.entry;
           findings = findings.items;
           read_only = read_only;
-        } }
+        }) }
     {
-        Mounted {
+        let has_shape = has_shape(alloc, &StoredTree::new(&objects, &names, next))?;
+        Ok(Mounted {
             image,
             objects,
             names,
             next,
+            has_shape,
             findings,
             read_only,
-        }
+        })
+    }
+
+    /// The file system alone.
+    fn tree(&self) -> StoredTree<'_, 'a>
+        ensures { result ≡ self.now.state }
+    {
+        StoredTree::new(&self.objects, &self.names, self.next)
     }
 
     /// The bytes that were mounted.
@@ -167,9 +183,7 @@ impl<'a> Mounted<'a> {
     pub(crate) fn is_directory(&self, ino: u32) -> bool
         ensures { result ≡ tree.is_directory self.now.state ino }
     {
-        self.objects
-            .get(&ino)
-            .is_some_and(|stored| shown::is_directory(stored.mode))
+        self.tree().is_directory(ino)
     }
 
     fn is_there(&self, ino: u32) -> bool
@@ -188,7 +202,7 @@ impl<'a> Mounted<'a> {
     pub fn entries(&self, dir: u32) -> Of<'_, 'a>
         ensures { result ≡ tree.entries_in self.now.state dir }
     {
-        self.names.of(dir)
+        self.tree().entries(dir)
     }
 
     /// All names, each with its directory's number and its own, in order of the directory's number
@@ -196,14 +210,23 @@ impl<'a> Mounted<'a> {
     pub fn names(&self) -> All<'_, 'a>
         ensures { result ≡ tree.all_entries self.now.state }
     {
-        self.names.all()
+        self.tree().names()
+    }
+
+    /// The directory of the first name, in order of the directory's number and then in byte order,
+    /// that stands for a number whose object is there. It was found out at the mount: takes O(log
+    /// n) and no memory.
+    pub fn first_directory(&self, ino: u32) -> Option<u32>
+        ensures { result ≡ tree.first_directory self.now.state ino }
+    {
+        directory_kept(self.objects.get(&ino)?)
     }
 
     /// All objects, the root among them, each with its number, in ascending order of number.
     pub fn objects(&self) -> Objects<'_, 'a>
         ensures { result ≡ objects_in self.now.state }
     {
-        Objects::new(&self.objects)
+        self.tree().objects()
     }
 
     /// The names whose objects are missing, each with its directory's number and its own, in order
@@ -221,15 +244,11 @@ impl<'a> Mounted<'a> {
     }
 
     /// Whether the tree has its shape: no directory but the root has two names, and none is reached
-    /// from itself by names of directories. Takes O(n log n) for n names and objects, and memory
-    /// for the directories.
-    ///
-    /// # Errors
-    /// Out of memory.
-    pub fn shape(&self, alloc: Global) -> Result<bool, AllocError>
-        ensures { IfOk result (λ shape. Decides shape (HasShape self.now.state)) }
+    /// from itself by names of directories. It was found out at the mount, and takes no memory.
+    pub fn has_shape(&self) -> bool
+        ensures { Decides result (HasShape self.now.state) }
     {
-        has_shape(alloc, self)
+        self.has_shape
     }
 
     /// Reads the bytes of a regular file or a symlink from an offset on: as many as the slice and

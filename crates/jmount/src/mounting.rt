@@ -6,6 +6,7 @@ ghost use Rattle.jscan.specs.PartialScans.{IsScanOf};
 ghost use Rattle.jmount.specs.Mounts.{Answers};
 
 use crate::collecting::{NodeTables, collect};
+use crate::directories::keep_directories;
 use crate::fault::MountFault;
 use crate::mounted::{Mounted, ROOT};
 use jnode::Order;
@@ -61,9 +62,10 @@ pub fn mount_scanned<'a>(
     if let Some(refusal) = refused {
         return Err(MountFault::from(refusal));
     }
-    let objects = inodes.into_objects()?;
+    let mut objects = inodes.into_objects()?;
+    keep_directories(&mut objects, &names);
     let next = u64::from(greatest) + 1;
-    let mounted = Mounted::new(image, objects, names, next, findings, read_only);
+    let mounted = Mounted::new(alloc, image, objects, names, next, findings, read_only)?;
     if !mounted.is_directory(ROOT) {
         return Err(MountFault::RootKind);
     }

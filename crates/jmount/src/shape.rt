@@ -9,35 +9,36 @@ ghost use Rattle.std.specs.BTreeSet.{contains};
 ghost use Rattle.jmount.specs.Shape.{IsSingle, HasShape};
 ghost use Rattle.jmount.specs.Shaping.{IsHeld, IsPeeledUpTo, is_root_held, others};
 
-use crate::mounted::{Mounted, ROOT};
+use crate::mounted::ROOT;
+use crate::stored_tree::StoredTree;
 use std::alloc::{AllocError, Global};
 use std::collections::BTreeSet;
 
 /// Whether a tree has it.
-pub fn has_shape(alloc: Global, mounted: &Mounted<'_>) -> Result<bool, AllocError>
-    ensures { IfOk result (λ shape. Decides shape (HasShape mounted.now.state)) }
+pub fn has_shape(alloc: Global, tree: &StoredTree<'_, '_>) -> Result<bool, AllocError>
+    ensures { IfOk result (λ shape. Decides shape (HasShape tree.now)) }
 {
-    if has_second_name(alloc, mounted)? {
+    if has_second_name(alloc, tree)? {
         return Ok(false);
     }
-    let mut left = held(alloc, mounted)?;
-    remove_below(mounted, others(alloc, mounted, &left)?, &mut left)?;
-    if is_root_held(mounted, &left) {
+    let mut left = held(alloc, tree)?;
+    remove_below(tree, others(alloc, tree, &left)?, &mut left)?;
+    if is_root_held(tree, &left) {
         return Ok(false);
     }
     let mut root = Vec::new(alloc);
     root.push(ROOT)?;
-    remove_below(mounted, root, &mut left)?;
+    remove_below(tree, root, &mut left)?;
     Ok(left.is_empty())
 }
 
 /// Whether a directory other than the root has a second name, in whatever it is looked up.
-fn has_second_name(alloc: Global, mounted: &Mounted<'_>) -> Result<bool, AllocError>
-    ensures { IfOk result (λ second. Decides (not second) (IsSingle mounted.now.state)) }
+fn has_second_name(alloc: Global, tree: &StoredTree<'_, '_>) -> Result<bool, AllocError>
+    ensures { IfOk result (λ second. Decides (not second) (IsSingle tree.now)) }
 {
     let mut named = BTreeSet::new(alloc);
-    for (_, _, ino) in mounted.names() {
-        if ino != ROOT && mounted.is_directory(ino) && !named.insert(ino)? {
+    for (_, _, ino) in tree.names() {
+        if ino != ROOT && tree.is_directory(ino) && !named.insert(ino)? {
             return Ok(true);
         }
     }
@@ -45,13 +46,13 @@ fn has_second_name(alloc: Global, mounted: &Mounted<'_>) -> Result<bool, AllocEr
 }
 
 /// The directories other than the root that have a name in a directory.
-fn held(alloc: Global, mounted: &Mounted<'_>) -> Result<BTreeSet<u32>, AllocError>
+fn held(alloc: Global, tree: &StoredTree<'_, '_>) -> Result<BTreeSet<u32>, AllocError>
     ensures { IfOk result
-        (λ held. (i : ℕ) → Decides (contains nat_cmp held i) (IsHeld mounted.now.state i)) }
+        (λ held. (i : ℕ) → Decides (contains nat_cmp held i) (IsHeld tree.now i)) }
 {
     let mut held = BTreeSet::new(alloc);
-    for (dir, _, ino) in mounted.names() {
-        if ino != ROOT && mounted.is_directory(ino) && mounted.is_directory(dir) {
+    for (dir, _, ino) in tree.names() {
+        if ino != ROOT && tree.is_directory(ino) && tree.is_directory(dir) {
             held.insert(ino)?;
         }
     }
@@ -61,29 +62,28 @@ fn held(alloc: Global, mounted: &Mounted<'_>) -> Result<BTreeSet<u32>, AllocErro
 /// The directories other than the root that are not among these.
 fn others(
     alloc: Global,
-    mounted: &Mounted<'_>,
+    tree: &StoredTree<'_, '_>,
     held: &BTreeSet<u32>,
 ) -> Result<Vec<u32>, AllocError>
-    ensures { IfOk result (λ dirs. dirs.items ≡ others mounted.now.state held.now) }
+    ensures { IfOk result (λ dirs. dirs.items ≡ others tree.now held.now) }
 {
-    mounted
-        .objects()
+    tree.objects()
         .map(|(ino, _)| ino)
-        .filter(|ino| *ino != ROOT && mounted.is_directory(*ino) && !held.contains(ino))
+        .filter(|ino| *ino != ROOT && tree.is_directory(*ino) && !held.contains(ino))
         .collect(alloc)
 }
 
 /// Takes out what lies below some directories.
 fn remove_below(
-    mounted: &Mounted<'_>,
+    tree: &StoredTree<'_, '_>,
     mut above: Vec<u32>,
     left: &mut BTreeSet<u32>,
 ) -> Result<(), AllocError>
-    ensures { OnOk result ((apart : ℕ → Bool) → IsPeeledUpTo mounted.now.state apart above.items
-        left.old → IsPeeledUpTo mounted.now.state apart [] left.new) }
+    ensures { OnOk result ((apart : ℕ → Bool) → IsPeeledUpTo tree.now apart above.items
+        left.old → IsPeeledUpTo tree.now apart [] left.new) }
 {
     while let Some(dir) = above.pop() {
-        for (_, ino) in mounted.entries(dir) {
+        for (_, ino) in tree.entries(dir) {
             if left.remove(&ino) {
                 above.push(ino)?;
             }
@@ -93,10 +93,10 @@ fn remove_below(
 }
 
 /// Whether the root has a name in itself, or in one of these directories.
-fn is_root_held(mounted: &Mounted<'_>, left: &BTreeSet<u32>) -> bool
-    ensures { result ≡ is_root_held mounted.now.state left.now }
+fn is_root_held(tree: &StoredTree<'_, '_>, left: &BTreeSet<u32>) -> bool
+    ensures { result ≡ is_root_held tree.now left.now }
 {
-    mounted.names().any(|(dir, _, ino)| {
-        ino == ROOT && mounted.is_directory(dir) && (dir == ROOT || left.contains(&dir))
+    tree.names().any(|(dir, _, ino)| {
+        ino == ROOT && tree.is_directory(dir) && (dir == ROOT || left.contains(&dir))
     })
 }

@@ -2,8 +2,8 @@
 
 use jfrag::FragOverlay;
 
-/// An object: the attributes and the size that its node of highest version gives, and what its
-/// nodes overlay on one another.
+/// An object: the attributes and the size that its node of highest version gives, what its nodes
+/// overlay on one another, and the directory of its first name, or 0.
 #[derive(Drop)]
 pub struct Stored<'a> {
     pub version: u32,
@@ -14,5 +14,6 @@ pub struct Stored<'a> {
     pub atime: u32,
     pub mtime: u32,
     pub ctime: u32,
+    pub directory: u32,
     pub bytes: FragOverlay<'a>,
 }

@@ -1,10 +1,11 @@
 //! The objects that inode nodes make.
 
-ghost use Rattle.std.specs.Prelude.{◌≡◌, ◌<◌, ◌^◌, ℕ, Some, IfOk, All, map, option_map};
+ghost use Rattle.std.specs.Prelude.{◌≡◌, ◌<◌, ◌^◌, ℕ, Some, None, IfOk, All, map, option_map};
 ghost use Rattle.std.specs.Ordering.{nat_cmp};
 ghost use Rattle.std.specs.BTreeMap.{IsOrdered, get};
 ghost use Rattle.jfrag.specs.Pieces.{end_of};
 ghost use Rattle.jmount.specs.Inodes.{IsByVersion, IsKeyed, nodes_in, nodes_of_numbers};
+ghost use Rattle.jmount.specs.Kept.{HasNoDirectories, directory_kept};
 ghost use Rattle.jmount.specs.StateOf.{body_of, piece_of};
 ghost use Rattle.jmount.specs.Storing.{made_of_number, made_by, made_root, or_made_root, as_made};
 
@@ -26,6 +27,7 @@ pub fn objects_with_root<'a>(
     requires ends { All (λ node. end_of (piece_of node) < 2 ^ 32) (nodes_of_numbers numbers) }
     ensures each { IfOk result (λ objects. (i : ℕ) → option_map as_made (get nat_cmp objects i)
         ≡ or_made_root i (made_of_number numbers.entry i)) }
+    ensures none { IfOk result HasNoDirectories }
     ensures ordered { IfOk result (IsOrdered nat_cmp) }
 {
     let mut objects = objects_of(alloc, numbers)?;
@@ -37,7 +39,8 @@ pub fn objects_with_root<'a>(
 
 /// The root of an image that has no inode node for it.
 fn default_root<'a>(alloc: Global) -> Stored<'a>
-    ensures { as_made result ≡ made_root }
+    ensures made { as_made result ≡ made_root }
+    ensures none { directory_kept result ≡ None }
 {
     Stored {
         version: 0,
@@ -48,6 +51,7 @@ fn default_root<'a>(alloc: Global) -> Stored<'a>
         atime: 0,
         mtime: 0,
         ctime: 0,
+        directory: 0,
         bytes: FragOverlay::new(alloc),
     }
 }
@@ -61,6 +65,7 @@ fn objects_of<'a>(
     requires ends { All (λ node. end_of (piece_of node) < 2 ^ 32) (nodes_of_numbers numbers) }
     ensures each { IfOk result (λ objects. (i : ℕ) → option_map as_made (get nat_cmp objects i)
         ≡ made_of_number numbers.entry i) }
+    ensures none { IfOk result HasNoDirectories }
     ensures ordered { IfOk result (IsOrdered nat_cmp) }
 {
     let mut objects = BTreeMap::new(alloc);
@@ -74,7 +79,9 @@ fn objects_of<'a>(
 fn object_of<'a>(alloc: Global, versions: &Versions<'a>) -> Result<Stored<'a>, AllocError>
     requires by_version { IsByVersion versions.now }
     requires ends { All (λ node. end_of (piece_of node) < 2 ^ 32) (nodes_in versions.now) }
-    ensures { IfOk result (λ stored. Some (as_made stored) ≡ made_by (nodes_in versions.now)) }
+    ensures made { IfOk result
+        (λ stored. Some (as_made stored) ≡ made_by (nodes_in versions.now)) }
+    ensures none { IfOk result (λ stored. directory_kept stored ≡ None) }
 {
     let pieces = pieces_of(alloc, versions)?;
     let bytes = overlay(alloc, &pieces)?;
@@ -88,6 +95,7 @@ fn object_of<'a>(alloc: Global, versions: &Versions<'a>) -> Result<Stored<'a>, A
         atime: latest.atime,
         mtime: latest.mtime,
         ctime: latest.ctime,
+        directory: 0,
         bytes,
     })
 }

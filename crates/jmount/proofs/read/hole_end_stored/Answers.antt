@@ -1,4 +1,4 @@
-use Rattle.std.proofs.Common.{◌≡◌, ℕ, ◌≤◌, ◌<◌, List, [], length, cond, ap, sym, ◌∙◌, arith}
+use Rattle.std.proofs.Common.{[], length, cond, ap, sym, ◌∙◌, arith}
 use Rattle.jmount.specs.Stored.{stored_object}
 use Rattle.jmount.proofs.ReadLemmas.{length-stored, stored_hole}
 use Rattle.jmount.proofs.read.hole_end_stored.Goals as goal

@@ -10,12 +10,12 @@ pub loop-ino-init : goal.loop-ino-init
 loop-ino-init c = record {
   can = tt;
   finite = tt;
-  so_far = ([], none_noted c.args.mounted.now.state c.into_iter-ino-iterator.result c.new-named.result (c.into_iter-ino-iterator.ensures.into_iter_gives ∙ c.names-ino-items.ensures) c.new-named.ensures.empty);
+  so_far = ([], none_noted c.args.tree.now c.into_iter-ino-iterator.result c.new-named.result (c.into_iter-ino-iterator.ensures.into_iter_gives ∙ c.names-ino-items.ensures) c.new-named.ensures.empty);
 }
 
 pub returns-then-not-branch : goal.returns-then-not-branch
 returns-then-not-branch c =
-    let s = c.args.mounted.now.state in
+    let s = c.args.tree.now in
     let x : Name = (c.in-Some.field-0-0, c.in-Some.field-0-1.now, c.in-Some.ino) in
     let is : c.loop-ino.ino-iterator ≡ x ∷ c.next.new.self = search rules in
     let again : contains nat_cmp c.loop-ino.named c.in-Some.ino ≡ true = not_false _ (sym c.in_ok-insert.ensures.added ∙ c.if-not-branch.true) in
@@ -26,7 +26,7 @@ returns-then-not-branch c =
 
 pub loop-ino-preserved : goal.loop-ino-preserved
 loop-ino-preserved c =
-    let s = c.args.mounted.now.state in
+    let s = c.args.tree.now in
     let x : Name = (c.in-Some.field-0-0, c.in-Some.field-0-1.now, c.in-Some.ino) in
     let is : c.loop-ino.ino-iterator ≡ x ∷ c.next.new.self = search rules in
     let so_far = c.loop-ino.invariant.so_far in
@@ -66,7 +66,7 @@ loop-ino-preserved c =
 pub returns : goal.returns
 returns c =
     let so_far = c.loop-ino.invariant.so_far in
-    let s = c.args.mounted.now.state in (
+    let s = c.args.tree.now in (
       λ h. all_noted s so_far.0 c.loop-ino.named (subst (λ (rest : List Name). AreNoted s so_far.0 rest c.loop-ino.named) c.in-None.ensures.steps.0 so_far.1),
       λ single. refl,
     )

@@ -6,5 +6,5 @@ abbrev pub invariant-loop-ino : goal.invariant-loop-ino
 invariant-loop-ino l = record {
   can : (goal.iterator-loop-ino).can_next l.ino-iterator;
   finite : (goal.iterator-loop-ino).is_finite l.ino-iterator;
-  so_far : (done : List Name) × AreNoted l.mounted.state done l.ino-iterator l.named;
+  so_far : (done : List Name) × AreNoted l.tree done l.ino-iterator l.named;
 }

@@ -10,7 +10,7 @@ returns-then-branch c = (λ h. absurd (false≢true h), λ has. absurd (false≢
 
 pub returns-then-is_root_held : goal.returns-then-is_root_held
 returns-then-is_root_held c =
-    let s = c.args.mounted.now.state in
+    let s = c.args.tree.now in
     let left = c.in_ok-left.left in
     let single : IsSingle s = c.in_ok-has_second_name.ensures.0 (ap not c.if-branch.false) in
     let begun = subst (λ (above : List ℕ). IsPeeledUpTo s the_root above left) (sym c.in_ok-others.ensures) (none_taken_out s left single c.in_ok-left.ensures) in
@@ -19,7 +19,7 @@ returns-then-is_root_held c =
 
 pub returns : goal.returns
 returns c =
-    let s = c.args.mounted.now.state in
+    let s = c.args.tree.now in
     let left = c.in_ok-left.left in
     let single : IsSingle s = c.in_ok-has_second_name.ensures.0 (ap not c.if-branch.false) in
     let begun = subst (λ (above : List ℕ). IsPeeledUpTo s the_root above left) (sym c.in_ok-others.ensures) (none_taken_out s left single c.in_ok-left.ensures) in

@@ -8,12 +8,12 @@ pub loop-dir-init : goal.loop-dir-init
 loop-dir-init c = record {
   can = tt;
   finite = tt;
-  so_far = ([], none_held c.args.mounted.now.state c.into_iter-dir-iterator.result c.new-held.result (c.into_iter-dir-iterator.ensures.into_iter_gives ∙ c.names-dir-items.ensures) c.new-held.ensures.empty);
+  so_far = ([], none_held c.args.tree.now c.into_iter-dir-iterator.result c.new-held.result (c.into_iter-dir-iterator.ensures.into_iter_gives ∙ c.names-dir-items.ensures) c.new-held.ensures.empty);
 }
 
 pub loop-dir-preserved-then-is_directory-2 : goal.loop-dir-preserved-then-is_directory-2
 loop-dir-preserved-then-is_directory-2 c =
-    let s = c.args.mounted.now.state in
+    let s = c.args.tree.now in
     let x : Name = (c.in-Some.dir, c.in-Some.field-0-1.now, c.in-Some.ino) in
     let is : c.loop-dir.dir-iterator ≡ x ∷ c.next.new.self = search rules in
     let so_far = c.loop-dir.invariant.so_far in
@@ -29,7 +29,7 @@ loop-dir-preserved-then-is_directory-2 c =
 
 pub loop-dir-preserved : goal.loop-dir-preserved
 loop-dir-preserved c =
-    let s = c.args.mounted.now.state in
+    let s = c.args.tree.now in
     let x : Name = (c.in-Some.dir, c.in-Some.field-0-1.now, c.in-Some.ino) in
     let is : c.loop-dir.dir-iterator ≡ x ∷ c.next.new.self = search rules in
     let so_far = c.loop-dir.invariant.so_far in
@@ -66,5 +66,5 @@ loop-dir-preserved c =
 pub returns : goal.returns
 returns c =
     let so_far = c.loop-dir.invariant.so_far in
-    let s = c.args.mounted.now.state in
+    let s = c.args.tree.now in
     all_held s so_far.0 c.loop-dir.held (subst (λ (rest : List Name). AreHeld s so_far.0 rest c.loop-dir.held) c.in-None.ensures.steps.0 so_far.1)

@@ -6,5 +6,5 @@ abbrev pub invariant-loop-dir : goal.invariant-loop-dir
 invariant-loop-dir l = record {
   can : (goal.iterator-loop-dir).can_next l.dir-iterator;
   finite : (goal.iterator-loop-dir).is_finite l.dir-iterator;
-  so_far : (done : List Name) × AreHeld l.mounted.state done l.dir-iterator l.held;
+  so_far : (done : List Name) × AreHeld l.tree done l.dir-iterator l.held;
 }

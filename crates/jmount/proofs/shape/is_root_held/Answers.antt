@@ -8,7 +8,7 @@ use Rattle.jmount.proofs.shape.is_root_held.Goals as goal
 
 pub returns : goal.returns
 returns c =
-    let s = c.args.mounted.now.state in
+    let s = c.args.tree.now in
     any_from_yields_List (λ e. (e.2 == 1) && is_directory s e.0 && ((e.0 == 1) || contains nat_cmp c.args.left.now e.0)) _ _ _ c.any.ensures.ran
     (YieldsList-from_first (λ x. (x.0, x.1.now, x.2)) (λ rest. rest) (all_entries s) c.names.ensures)
     (λ x b q k. search (rules, tests))

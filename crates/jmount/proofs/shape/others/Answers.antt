@@ -10,7 +10,7 @@ use Rattle.jmount.proofs.shape.others.Goals as goal
 
 pub returns : goal.returns
 returns c =
-    let s = c.args.mounted.now.state in
+    let s = c.args.tree.now in
     items_from_collect _ c.collect.ensures.ran
     (YieldsList-from_filter _ (λ i. not (i == 1) && is_directory s i && not (contains nat_cmp c.args.held.now i))
     (YieldsList-at c.filter.ensures.source (YieldsList-from_map _ (λ (e : ℕ × Object). e.0)

@@ -8,7 +8,7 @@ loop-dir-init c = λ apart up_to. up_to
 
 pub loop-ino-init : goal.loop-ino-init
 loop-ino-init c =
-    let s = c.args.mounted.now.state in
+    let s = c.args.tree.now in
     record {
       can = tt;
       finite = tt;
@@ -26,11 +26,11 @@ loop-dir-smaller c =
 
 pub loop-dir-preserved : goal.loop-dir-preserved
 loop-dir-preserved c = λ apart up_to.
-    was_read c.args.mounted.now.state apart c.in-Some.dir c.loop-ino.above.items c.loop-ino.ino-iterator c.loop-ino.left c.in-None.ensures.steps.0 (c.loop-ino.invariant.peeled apart up_to)
+    was_read c.args.tree.now apart c.in-Some.dir c.loop-ino.above.items c.loop-ino.ino-iterator c.loop-ino.left c.in-None.ensures.steps.0 (c.loop-ino.invariant.peeled apart up_to)
 
 pub loop-ino-preserved-in-Continue-1 : goal.loop-ino-preserved-in-Continue-1
 loop-ino-preserved-in-Continue-1 c =
-    let s = c.args.mounted.now.state in
+    let s = c.args.tree.now in
     let is : c.loop-ino.ino-iterator ≡ (c.in-Some-2.field-0-0.now, c.in-Some-2.ino) ∷ c.next.new.self = search rules in
     let same : vec_len c.loop-ino.above + length c.loop-ino.left.keys ≡ vec_len c.pop.new.self + length c.loop-dir.left.keys = c.loop-ino.invariant.as_many in
     let pushed : vec_len c.push.new.self ≡ vec_len c.loop-ino.above + 1 = c.in_ok-push.ensures.len in
@@ -46,7 +46,7 @@ loop-ino-preserved-in-Continue-1 c =
 
 pub loop-ino-preserved : goal.loop-ino-preserved
 loop-ino-preserved c =
-    let s = c.args.mounted.now.state in
+    let s = c.args.tree.now in
     let is : c.loop-ino.ino-iterator ≡ (c.in-Some-2.field-0-0.now, c.in-Some-2.ino) ∷ c.next.new.self = search rules in
     let unchanged : c.remove.new.self.keys ≡ c.loop-ino.left.keys = c.if-remove.ensures.unchanged in
     record {
@@ -62,4 +62,4 @@ loop-ino-preserved c =
 pub returns : goal.returns
 returns c = λ apart up_to.
     let none : c.loop-dir.above.items ≡ [] = search rules in
-    subst (λ (above : List ℕ). IsPeeledUpTo c.args.mounted.now.state apart above c.loop-dir.left) none (c.loop-dir.invariant apart up_to)
+    subst (λ (above : List ℕ). IsPeeledUpTo c.args.tree.now apart above c.loop-dir.left) none (c.loop-dir.invariant apart up_to)

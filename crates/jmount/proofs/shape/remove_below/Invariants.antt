@@ -7,12 +7,12 @@ abbrev pub invariant-loop-ino : goal.invariant-loop-ino
 invariant-loop-ino l = record {
   can : (goal.iterator-loop-ino).can_next l.ino-iterator;
   finite : (goal.iterator-loop-ino).is_finite l.ino-iterator;
-  peeled : (apart : ℕ → Bool) → IsPeeledUpTo l.mounted.state apart l.fn.above.items l.fn.left → IsReading l.mounted.state apart l.dir l.ino-iterator l.above.items l.left;
+  peeled : (apart : ℕ → Bool) → IsPeeledUpTo l.tree apart l.fn.above.items l.fn.left → IsReading l.tree apart l.dir l.ino-iterator l.above.items l.left;
   as_many : vec_len l.above + length l.left.keys ≡ vec_len l.initial.above + length l.initial.left.keys;
 }
 
 abbrev pub invariant-loop-dir : goal.invariant-loop-dir
-invariant-loop-dir l = (apart : ℕ → Bool) → IsPeeledUpTo l.mounted.state apart l.fn.above.items l.fn.left → IsPeeledUpTo l.mounted.state apart l.above.items l.left
+invariant-loop-dir l = (apart : ℕ → Bool) → IsPeeledUpTo l.tree apart l.fn.above.items l.fn.left → IsPeeledUpTo l.tree apart l.above.items l.left
 
 abbrev pub decreases-loop-dir : goal.decreases-loop-dir
 decreases-loop-dir l = vec_len l.above + length l.left.keys

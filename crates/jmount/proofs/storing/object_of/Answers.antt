@@ -18,8 +18,8 @@ overlay-requires c κs =
           (All-map (λ (piece : Piece). end_of piece < 2 ^ 32) piece_of (nodes_in c.args.versions.now) c.requires.ends),
     )
 
-pub returns : goal.returns
-returns c =
+pub returns-clause-made : goal.returns-clause-made
+returns-clause-made c =
     let pieces : c.deref.result.now ≡ map piece_of (nodes_in c.args.versions.now) = c.deref.ensures.value ∙ c.in_ok-pieces.ensures in
     let highest : (place : ℕ) → IsHighestAt (map piece_of (nodes_in c.args.versions.now)) place (visible_in c.in_ok-bytes.bytes place) =
     λ place. subst (λ (ps : List Piece). IsHighestAt ps place (visible_in c.in_ok-bytes.bytes place)) pieces (c.in_ok-bytes.ensures.highest place) in
