@@ -1,6 +1,6 @@
 -- A set of directories that no way leaves never reaches the root.
 use Rattle.std.proofs.Common.{◌≡◌, ◌≢◌, ℕ, zero, suc, ◌-◌, ◌<◌, Bool, true, false, cond, not, List, [], ◌∷◌, Option, Some, None, refl, sym, ap, ◌∙◌, subst, inl, inr, ◌⊎◌, arith}
-use Rattle.std.specs.Prelude.{◌==◌, ◌||◌, option_and_then, is_some}
+use Rattle.std.specs.Prelude.{◌==◌, ◌||◌, option_and_then, option_map, is_some, unwrap_or}
 use Rattle.std.specs.Ordering.{eq_by_cmp, nat_cmp}
 use Rattle.std.specs.Cmp.{nat_cmp_total, eq_by_cmp_equiv}
 use Rattle.std.specs.BTreeMap.{is_at}
@@ -43,6 +43,16 @@ gains_more old new k q gains there = gains q ∙ ap (λ (b : Bool). cond (eq_by_
     both : (b : Bool) → cond b true true ≡ true
     both true = refl
     both false = refl
+
+-- ---- the directory of a name
+
+pub name_there : (o : Option NameOf) (dir : ℕ) → Some dir ≡ option_map (λ n. n.0) o → (n : NameOf) × (o ≡ Some n) × (n.0 ≡ dir)
+name_there None dir is = absurd (false≢true (ap is_some (sym is)))
+name_there (Some n) dir is = (n, refl, ap (λ (p : Option ℕ). unwrap_or p 0) (sym is))
+
+pub name_missing : (o : Option NameOf) → None ≡ option_map (λ n. n.0) o → o ≡ None
+name_missing None is = refl
+name_missing (Some n) is = absurd (false≢true (ap is_some is))
 
 -- ---- ways
 

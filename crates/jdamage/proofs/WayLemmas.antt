@@ -120,9 +120,9 @@ no_more : (o : Option NameOf) → or_else o None ≡ o
 no_more None = refl
 no_more (Some n) = refl
 
-pub first_kept : (s : State) (firsts : BTreeMap ℕ HeldName) (n : HeldName) → (is_directory s n.2 ≡ true → is_some (get nat_cmp firsts n.2) ≡ true)
-    → (i : ℕ) → is_directory s i ≡ true → held_first firsts i ≡ or_else (held_first firsts i) (first_if i n)
-first_kept s firsts n skipped i there = by (n.2 == i) refl
+pub first_kept : (dirs : BTreeSet ℕ) (firsts : BTreeMap ℕ HeldName) (n : HeldName) → (contains nat_cmp dirs n.2 ≡ true → is_some (get nat_cmp firsts n.2) ≡ true)
+    → (i : ℕ) → contains nat_cmp dirs i ≡ true → held_first firsts i ≡ or_else (held_first firsts i) (first_if i n)
+first_kept dirs firsts n skipped i there = by (n.2 == i) refl
   where
     kept : (o : Option HeldName) → is_some o ≡ true → option_map name_held o ≡ or_else (option_map name_held o) (Some (name_held n))
     kept None some = absurd (false≢true some)
@@ -131,7 +131,7 @@ first_kept s firsts n skipped i there = by (n.2 == i) refl
     by : (b : Bool) → (n.2 == i) ≡ b → held_first firsts i ≡ or_else (held_first firsts i) (cond b (Some (name_held n)) None)
     by true e =
         let same : n.2 ≡ i = eqb-true n.2 i e in
-        kept (get nat_cmp firsts i) (ap (λ (k : ℕ). is_some (get nat_cmp firsts k)) (sym same) ∙ skipped (ap (is_directory s) same ∙ there))
+        kept (get nat_cmp firsts i) (ap (λ (k : ℕ). is_some (get nat_cmp firsts k)) (sym same) ∙ skipped (ap (contains nat_cmp dirs) same ∙ there))
     by false e = sym (no_more (held_first firsts i))
 
 pub first_noted : (old new : BTreeMap ℕ HeldName) (n : HeldName) → is_some (get nat_cmp old n.2) ≡ false
@@ -152,18 +152,18 @@ first_noted old new n absent at i = by (n.2 == i) refl
         ∙ sym (no_more (held_first old i))
 
 -- so far, and those that are left
-abbrev pub FirstsSoFar : State → BTreeMap ℕ HeldName → List NameOf → Type 0
-FirstsSoFar s firsts left = (i : ℕ) → is_directory s i ≡ true → or_else (held_first firsts i) (find (λ n. n.2 == i) left) ≡ first_name s i
+abbrev pub FirstsSoFar : State → BTreeSet ℕ → BTreeMap ℕ HeldName → List NameOf → Type 0
+FirstsSoFar s dirs firsts left = (i : ℕ) → contains nat_cmp dirs i ≡ true → or_else (held_first firsts i) (find (λ n. n.2 == i) left) ≡ first_name s i
 
-pub firsts_begin : (s : State) (firsts : BTreeMap ℕ HeldName) (left : List NameOf) → firsts.entries ≡ [] → left ≡ all_entries s → FirstsSoFar s firsts left
+pub firsts_begin : (s : State) (dirs : BTreeSet ℕ) (firsts : BTreeMap ℕ HeldName) (left : List NameOf) → firsts.entries ≡ [] → left ≡ all_entries s → FirstsSoFar s dirs firsts left
 unfolding first_name
-firsts_begin s firsts left none all i there =
+firsts_begin s dirs firsts left none all i there =
     ap (λ (es : List (ℕ × HeldName)). or_else (option_map name_held (lookup (eq_by_cmp nat_cmp i) es)) (find (λ n. n.2 == i) left)) none
     ∙ ap (find (λ n. n.2 == i)) all
 
-pub firsts_more : (s : State) (old new : BTreeMap ℕ HeldName) (n : HeldName) (left rest : List NameOf) → left ≡ name_held n ∷ rest
-    → ((i : ℕ) → is_directory s i ≡ true → held_first new i ≡ or_else (held_first old i) (first_if i n)) → FirstsSoFar s old left → FirstsSoFar s new rest
-firsts_more s old new n left rest is noted so_far i there =
+pub firsts_more : (s : State) (dirs : BTreeSet ℕ) (old new : BTreeMap ℕ HeldName) (n : HeldName) (left rest : List NameOf) → left ≡ name_held n ∷ rest
+    → ((i : ℕ) → contains nat_cmp dirs i ≡ true → held_first new i ≡ or_else (held_first old i) (first_if i n)) → FirstsSoFar s dirs old left → FirstsSoFar s dirs new rest
+firsts_more s dirs old new n left rest is noted so_far i there =
     ap (λ (o : Option NameOf). or_else o (find (λ x. x.2 == i) rest)) (noted i there) ∙ one (held_first old i) (n.2 == i)
     ∙ ap (λ (l : List NameOf). or_else (held_first old i) (find (λ x. x.2 == i) l)) (sym is) ∙ so_far i there
   where
@@ -172,8 +172,8 @@ firsts_more s old new n left rest is noted so_far i there =
     one None false = refl
     one (Some m) b = refl
 
-pub firsts_all : (s : State) (firsts : BTreeMap ℕ HeldName) (left : List NameOf) → left ≡ [] → FirstsSoFar s firsts left → AreFirsts s firsts
-firsts_all s firsts left none so_far i there =
+pub firsts_all : (s : State) (dirs : BTreeSet ℕ) (firsts : BTreeMap ℕ HeldName) (left : List NameOf) → left ≡ [] → FirstsSoFar s dirs firsts left → AreFirsts s dirs firsts
+firsts_all s dirs firsts left none so_far i there =
     sym (no_more (held_first firsts i)) ∙ ap (λ (l : List NameOf). or_else (held_first firsts i) (find (λ x. x.2 == i) l)) (sym none) ∙ so_far i there
 
 -- ---- names of a list, one by one
@@ -185,3 +185,9 @@ names_next xs i d x less is =
 
 pub no_names_left : (xs : List HeldName) (i : ℕ) → length xs ≤ i → map name_held (drop i xs) ≡ []
 no_names_left xs i most = ap (map name_held) (drop_all i xs most)
+
+-- ---- a first name that is looked for
+
+pub is_first_name : (s : State) (i : ℕ) → find (λ n. n.2 == i) (all_entries s) ≡ first_name s i
+unfolding first_name
+is_first_name s i = refl

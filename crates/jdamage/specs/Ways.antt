@@ -74,9 +74,10 @@ AreNamed s numbers names = (i : ℕ) → contains nat_cmp numbers i ≡ true
 abbrev pub held_first : BTreeMap ℕ HeldName → ℕ → Option NameOf
 held_first firsts i = option_map name_held (get nat_cmp firsts i)
 
--- each directory has its first name
-abbrev pub AreFirsts : State → BTreeMap ℕ HeldName → Type 0
-AreFirsts s firsts = (i : ℕ) → is_directory s i ≡ true → held_first firsts i ≡ first_name s i
+-- each of these directories has its first name, if there is one
+abbrev pub AreFirsts : State → BTreeSet ℕ → BTreeMap ℕ HeldName → Type 0
+AreFirsts s dirs firsts =
+    (i : ℕ) → contains nat_cmp dirs i ≡ true → held_first firsts i ≡ first_name s i
 
 -- this name, where it stands for this number
 abbrev pub first_if : ℕ → HeldName → Option NameOf

@@ -13,7 +13,7 @@ ghost use Rattle.jdamage.specs.Lines.{no_damage, totals_shown};
 ghost use Rattle.jdamage.specs.Telling.{HaveNumbers, own_paths, own_text};
 
 use crate::fault::DamageFault;
-use crate::fields::stretch_at;
+use crate::fields::{loss_at, stretch_at};
 use crate::firsts::Name;
 use crate::hidden::hidden_of;
 use crate::lines::push_totals;
@@ -66,6 +66,31 @@ fn numbers_of<E: Order>(
         note_number::<E>(image, *addr, *which, &mut numbers)?;
     }
     Ok(numbers)
+}
+
+/// The directories of which a path may be told: those that hold a name that stands for one of these
+/// numbers or for an object that is missing, and those of damaged names. The ways from others are
+/// found too, but by a walk through all names for each step.
+fn dirs_of<E: Order>(
+    alloc: Global,
+    mounted: &Mounted<'_>,
+    numbers: &BTreeSet<u32>,
+    damaged: &[(u32, Damage)],
+) -> Result<BTreeSet<u32>, AllocError>
+    requires { length mounted.now.image ≤ greatest_image }
+{
+    let mut dirs = BTreeSet::new(alloc);
+    for (pino, _, ino) in mounted.names() {
+        if numbers.contains(&ino) || mounted.object(ino).is_none() {
+            dirs.insert(pino)?;
+        }
+    }
+    for (addr, which) in damaged {
+        if *which == Damage::NameCrc {
+            dirs.insert(loss_at::<E>(mounted.image(), *addr).pino)?;
+        }
+    }
+    Ok(dirs)
 }
 
 /// Tells of damaged nodes, where these addresses are of those that hide nothing. Answers how many
@@ -147,7 +172,8 @@ fn push_all<E: Order>(
     let numbers = numbers_of::<E>(alloc, image, &damaged)?;
     let sound = stretches_of::<E>(alloc, image, geometry, &numbers)?;
     let hidden = hidden_of::<E>(alloc, mounted, sound, &damaged)?;
-    let ways = Ways::new(alloc, mounted, &numbers)?;
+    let dirs = dirs_of::<E>(alloc, mounted, &numbers, &damaged)?;
+    let ways = Ways::new(alloc, mounted, &numbers, &dirs)?;
     let paths = push_nodes::<E>(alloc, &ways, &hidden, &damaged, text)?;
     push_all_missing(alloc, &ways, &missing, text)?;
     let totals = Totals {
@@ -164,8 +190,8 @@ fn push_all<E: Order>(
 /// line for each name whose object is missing, and the totals, which are the answer. A damaged node
 /// hides nothing where the object is the same whatever it said. The image was mounted in `E`'s
 /// order and with this geometry. Takes memory for the text; where there is damage, for the damaged
-/// nodes, for the sound ones of their objects, and for the directories and the names of damaged
-/// objects.
+/// nodes, for the sound ones of their objects, for the names of these, and for the directories on
+/// the ways up from what is told.
 ///
 /// # Errors
 /// `OutOfMemory`, and nothing was put. `Output`: the sink failed, and took a beginning.

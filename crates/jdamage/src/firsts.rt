@@ -1,12 +1,14 @@
-//! The first name of each directory.
+//! The first names of directories.
 
 ghost use Rattle.std.specs.Prelude.{◌≡◌, ℕ, true, IfOk, OnOk, option_map};
+ghost use Rattle.std.specs.BTreeSet.{contains};
+ghost use Rattle.std.specs.Ordering.{nat_cmp};
 ghost use Rattle.jmount.specs.Tree as tree;
 ghost use Rattle.jdamage.specs.Ways.{AreFirsts, first_if, first_name, held_first, name_held, or_else};
 
 use jmount::{Kind, Mounted};
 use std::alloc::{AllocError, Global};
-use std::collections::BTreeMap;
+use std::collections::{BTreeMap, BTreeSet};
 
 /// A name: its directory's number, its bytes, and the number that it stands for.
 pub(crate) type Name<'m> = (u32, &'m [u8], u32);
@@ -24,46 +26,41 @@ pub(crate) fn is_directory(mounted: &Mounted<'_>, ino: u32) -> bool
     }
 }
 
-/// Keeps a name that is the first of a directory.
+/// Keeps a name that is the first of one of these directories.
 fn note_first<'m>(
-    mounted: &Mounted<'_>,
+    dirs: &BTreeSet<u32>,
     firsts: &mut Firsts<'m>,
     name: Name<'m>,
 ) -> Result<(), AllocError>
-    ensures { OnOk result ((i : ℕ) → tree.is_directory mounted.now.state i ≡ true
+    ensures { OnOk result ((i : ℕ) → contains nat_cmp dirs.now i ≡ true
         → held_first firsts.new i ≡ or_else (held_first firsts.old i) (first_if i name.entry)) }
 {
-    if !is_directory(mounted, name.2) || firsts.contains_key(&name.2) {
+    if !dirs.contains(&name.2) || firsts.contains_key(&name.2) {
         return Ok(());
     }
     firsts.insert(name.2, name)?;
     Ok(())
 }
 
-/// The first name of each directory of a mounted image. O(n log n) for n names; takes memory for
-/// the directories.
+/// The first names of these directories. O(n log n) for n names; takes memory for these
+/// directories.
 pub(crate) fn firsts_of<'m>(
     alloc: Global,
     mounted: &'m Mounted<'_>,
+    dirs: &BTreeSet<u32>,
 ) -> Result<Firsts<'m>, AllocError>
-    ensures { IfOk result (λ firsts. AreFirsts mounted.now.state firsts) }
+    ensures { IfOk result (λ firsts. AreFirsts mounted.now.state dirs.now firsts) }
 {
     let mut firsts = BTreeMap::new(alloc);
     for name in mounted.names() {
-        note_first(mounted, &mut firsts, name)?;
+        note_first(dirs, &mut firsts, name)?;
     }
     Ok(firsts)
 }
 
-/// The first name of a directory. O(log n) for n directories.
-pub(crate) fn first_name<'m>(
-    mounted: &Mounted<'_>,
-    firsts: &Firsts<'m>,
-    dir: u32,
-) -> Option<Name<'m>>
-    requires firsts { AreFirsts mounted.now.state firsts.now }
-    requires there { tree.is_directory mounted.now.state dir ≡ true }
-    ensures { option_map name_held result ≡ first_name mounted.now.state dir }
+/// The first name that stands for a number. Walks through all names.
+pub(crate) fn find_name<'m>(mounted: &'m Mounted<'_>, ino: u32) -> Option<Name<'m>>
+    ensures { option_map name_held result ≡ first_name mounted.now.state ino }
 {
-    firsts.get(&dir).copied()
+    mounted.names().find(|name| name.2 == ino)
 }

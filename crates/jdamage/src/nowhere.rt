@@ -1,12 +1,12 @@
 //! The directories from which no way leads up to the root.
 
-ghost use Rattle.std.specs.Prelude.{◌≡◌, ◌⊎◌, ℕ, true, false, IfOk, OnOk};
+ghost use Rattle.std.specs.Prelude.{◌≡◌, ◌⊎◌, ℕ, true, false, IfOk, OnOk, option_map};
 ghost use Rattle.std.specs.BTreeSet.{IsEmpty, contains};
 ghost use Rattle.std.specs.Ordering.{nat_cmp};
 ghost use Rattle.jmount.specs.Tree as tree;
-ghost use Rattle.jdamage.specs.Ways.{AreFirsts, LeadNowhere};
+ghost use Rattle.jdamage.specs.Ways.{LeadNowhere, first_name};
 
-use crate::firsts::{Firsts, first_name, is_directory};
+use crate::firsts::{find_name, is_directory};
 use jmount::{Mounted, ROOT};
 use std::alloc::{AllocError, Global};
 use std::collections::BTreeSet;
@@ -37,18 +37,26 @@ fn is_end(mounted: &Mounted<'_>, nowhere: &BTreeSet<u32>, met: &BTreeSet<u32>, h
     met.contains(&here) || !is_directory(mounted, here)
 }
 
+/// SCAFFOLD
+fn first_directory(mounted: &Mounted<'_>, ino: u32) -> Option<u32>
+    ensures { result ≡ option_map (λ n. n.0) (first_name mounted.now.state ino) }
+{
+    match find_name(mounted, ino) {
+        Some((dir, _, _)) => Some(dir),
+        None => None,
+    }
+}
+
 /// Goes up from a directory until it meets the root, or one of which it is known that it leads
 /// there; answers whether it did. Else the directories on the way lead nowhere: the way ends, or
 /// comes back to one that it met. Each step meets another number, so it is at an end in 2^32 steps.
 fn goes_up(
     mounted: &Mounted<'_>,
-    firsts: &Firsts<'_>,
     dir: u32,
     up: &BTreeSet<u32>,
     nowhere: &BTreeSet<u32>,
     met: &mut BTreeSet<u32>,
 ) -> Result<bool, AllocError>
-    requires firsts { AreFirsts mounted.now.state firsts.now }
     requires nowhere { LeadNowhere mounted.now.state nowhere.now }
     requires none { IsEmpty met.old }
     ensures { IfOk result (λ is_up. is_up ≡ false → LeadNowhere mounted.now.state met.new) }
@@ -62,11 +70,11 @@ fn goes_up(
         if is_end(mounted, nowhere, met, here) {
             return Ok(false);
         }
-        let Some((pino, _, _)) = first_name(mounted, firsts, here) else {
+        let Some(above) = first_directory(mounted, here) else {
             return Ok(false);
         };
         met.insert(here)?;
-        here = pino;
+        here = above;
         left -= 1;
     }
     Ok(true)
@@ -77,35 +85,33 @@ fn goes_up(
 fn note_way(
     alloc: Global,
     mounted: &Mounted<'_>,
-    firsts: &Firsts<'_>,
     dir: u32,
     up: &mut BTreeSet<u32>,
     nowhere: &mut BTreeSet<u32>,
 ) -> Result<(), AllocError>
-    requires firsts { AreFirsts mounted.now.state firsts.now }
-    requires nowhere { LeadNowhere mounted.now.state nowhere.old }
+    requires { LeadNowhere mounted.now.state nowhere.old }
     ensures { OnOk result (LeadNowhere mounted.now.state nowhere.new) }
 {
     let mut met = BTreeSet::new(alloc);
-    if goes_up(mounted, firsts, dir, up, nowhere, &mut met)? {
+    if goes_up(mounted, dir, up, nowhere, &mut met)? {
         return add_all(up, met);
     }
     add_all(nowhere, met)
 }
 
-/// The directories that lead nowhere. O(n log n) for n directories.
+/// Of these directories, and of those above them, the ones that lead nowhere; the others are added
+/// to `up`. O(n log n) for n directories on these ways.
 pub(crate) fn nowhere_of(
     alloc: Global,
     mounted: &Mounted<'_>,
-    firsts: &Firsts<'_>,
+    dirs: &BTreeSet<u32>,
+    up: &mut BTreeSet<u32>,
 ) -> Result<BTreeSet<u32>, AllocError>
-    requires { AreFirsts mounted.now.state firsts.now }
     ensures { IfOk result (λ nowhere. LeadNowhere mounted.now.state nowhere) }
 {
-    let mut up = BTreeSet::new(alloc);
     let mut nowhere = BTreeSet::new(alloc);
-    for dir in firsts.keys() {
-        note_way(alloc, mounted, firsts, *dir, &mut up, &mut nowhere)?;
+    for dir in dirs.iter() {
+        note_way(alloc, mounted, *dir, up, &mut nowhere)?;
     }
     Ok(nowhere)
 }

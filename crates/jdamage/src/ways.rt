@@ -7,7 +7,7 @@ ghost use Rattle.jmount.specs.Tree as tree;
 ghost use Rattle.jdamage.specs.Groups.{group_of};
 ghost use Rattle.jdamage.specs.Ways.{AreFirsts, AreNamed, LeadNowhere, first_name, name_held, names_for, names_held, path_below, steps_at_most};
 
-use crate::firsts::{Firsts, Name, first_name, firsts_of, is_directory};
+use crate::firsts::{Firsts, Name, find_name, firsts_of, is_directory};
 use crate::groups::{Groups, add, group};
 use crate::nowhere::nowhere_of;
 use jmount::{Mounted, ROOT};
@@ -63,35 +63,43 @@ fn names_by_number<'m>(
 pub(crate) struct Ways<'m, 'a> {
     pub mounted: &'m Mounted<'a>,
     pub numbers: &'m BTreeSet<u32>,
+    /// Directories on the ways up from those of which a path may be told.
+    up: BTreeSet<u32>,
     firsts: Firsts<'m>,
     nowhere: BTreeSet<u32>,
     names: Groups<Name<'m>>,
     steps: u64,
     ghost counted: { steps ≡ steps_at_most mounted.now.state },
-    ghost firsts_are: { AreFirsts mounted.now.state firsts },
+    ghost firsts_are: { AreFirsts mounted.now.state up firsts },
     ghost nowhere_is: { LeadNowhere mounted.now.state nowhere },
     ghost named: { AreNamed mounted.now.state numbers.now names },
 }
 
 impl<'m, 'a> Ways<'m, 'a> {
-    /// Takes memory for the directories, and for the names that stand for these numbers.
+    /// Of the names that stand for these numbers, and of these directories. Takes memory for both,
+    /// and for the directories on the ways up from them.
     pub(crate) fn new(
         alloc: Global,
         mounted: &'m Mounted<'a>,
         numbers: &'m BTreeSet<u32>,
+        dirs: &BTreeSet<u32>,
     ) -> Result<Ways<'m, 'a>, AllocError>
         ensures image { IfOk result (λ ways. ways.mounted.now ≡ mounted.now) }
         ensures numbers { IfOk result (λ ways. ways.numbers.now ≡ numbers.now) }
     {
-        let firsts = firsts_of(alloc, mounted)?;
-        let nowhere = nowhere_of(alloc, mounted, &firsts)?;
+        let names = names_by_number(alloc, mounted, numbers)?;
+        let mut up = BTreeSet::new(alloc);
+        let nowhere = nowhere_of(alloc, mounted, dirs, &mut up)?;
+        let firsts = firsts_of(alloc, mounted, &up)?;
+        let steps = most_steps(mounted);
         Ok(Ways {
             mounted,
             numbers,
+            up,
             firsts,
             nowhere,
-            names: names_by_number(alloc, mounted, numbers)?,
-            steps: most_steps(mounted),
+            names,
+            steps,
         })
     }
 
@@ -103,12 +111,15 @@ impl<'m, 'a> Ways<'m, 'a> {
         group(&self.names, ino)
     }
 
-    /// The first name of a directory.
+    /// The first name of a directory. Of one that is on no way that was gone up, which none is that
+    /// `dirs` led to, it is looked for among all names.
     fn first_name(&self, dir: u32) -> Option<Name<'m>>
-        requires { tree.is_directory self.now.mounted.now.state dir ≡ true }
         ensures { option_map name_held result ≡ first_name self.now.mounted.now.state dir }
     {
-        first_name(self.mounted, &self.firsts, dir)
+        if self.up.contains(&dir) {
+            return self.firsts.get(&dir).copied();
+        }
+        find_name(self.mounted, dir)
     }
 
     /// Whether it is known of a directory that it leads nowhere.

@@ -7,7 +7,7 @@ pub loop-name-init : goal.loop-name-init
 loop-name-init c = record {
   can = tt;
   finite = tt;
-  so_far = firsts_begin c.args.mounted.now.state c.new-firsts.result _ c.new-firsts.ensures.empty (c.into_iter-name-iterator.ensures.into_iter_gives ∙ c.names-name-items.ensures);
+  so_far = firsts_begin c.args.mounted.now.state c.args.dirs.now c.new-firsts.result _ c.new-firsts.ensures.empty (c.into_iter-name-iterator.ensures.into_iter_gives ∙ c.names-name-items.ensures);
 }
 
 pub loop-name-preserved : goal.loop-name-preserved
@@ -16,8 +16,8 @@ loop-name-preserved c =
     record {
       can = tt;
       finite = tt;
-      so_far = firsts_more c.args.mounted.now.state c.loop-name.firsts c.note_first.new.firsts c.in-Some.name _ _ is c.in_ok-note_first.ensures c.loop-name.invariant.so_far;
+      so_far = firsts_more c.args.mounted.now.state c.args.dirs.now c.loop-name.firsts c.note_first.new.firsts c.in-Some.name _ _ is c.in_ok-note_first.ensures c.loop-name.invariant.so_far;
     }
 
 pub returns : goal.returns
-returns c = firsts_all c.args.mounted.now.state c.loop-name.firsts _ c.in-None.ensures.steps.0 c.loop-name.invariant.so_far
+returns c = firsts_all c.args.mounted.now.state c.args.dirs.now c.loop-name.firsts _ c.in-None.ensures.steps.0 c.loop-name.invariant.so_far
