@@ -9,9 +9,9 @@ use Rattle.std.specs.FinMap.{nat_cmp-IsAntisymmetric}
 use Rattle.std.specs.List.{list_any}
 use Rattle.std.proofs.lemmas.Bool.{true≢false, false≢true}
 use Rattle.std.proofs.lemmas.Map.Views.{tells_apart}
-use Rattle.jmount.specs.Tree.{State, is_directory}
+use Rattle.jmount.specs.Tree.{State, ObjectOf, all_entries, directory_bits, first_directory, first_directory_in, has_bits, is_directory, is_there, object}
 use Rattle.jdamage.specs.Ways.{IsNowhere, LeadNowhere, NameOf, climbed, first_name}
-use Rattle.jdamage.proofs.WayLemmas.{climb_step, not_one}
+use Rattle.jdamage.proofs.WayLemmas.{climb_step, is_first_name, not_one}
 
 -- ---- sets
 
@@ -53,6 +53,15 @@ name_there (Some n) dir is = (n, refl, ap (λ (p : Option ℕ). unwrap_or p 0) (
 pub name_missing : (o : Option NameOf) → None ≡ option_map (λ n. n.0) o → o ≡ None
 name_missing None is = refl
 name_missing (Some n) is = absurd (false≢true (ap is_some is))
+
+-- a directory is there, so that the mounted image keeps the directory of its first name
+pub directory_above : (s : State) (i : ℕ) → is_directory s i ≡ true → first_directory s i ≡ option_map (λ n. n.0) (first_name s i)
+directory_above s i there =
+    ap (λ (b : Bool). cond b (first_directory_in (all_entries s) i) None) (is_held (object s i) there) ∙ ap (option_map (λ n. n.0)) (is_first_name s i)
+  where
+    is_held : (o : Option (ObjectOf (List ℕ))) → has_bits directory_bits o ≡ true → is_some o ≡ true
+    is_held None there = absurd (false≢true there)
+    is_held (Some o) there = refl
 
 -- ---- ways
 

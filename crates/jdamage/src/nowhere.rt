@@ -1,12 +1,12 @@
 //! The directories from which no way leads up to the root.
 
-ghost use Rattle.std.specs.Prelude.{◌≡◌, ◌⊎◌, ℕ, true, false, IfOk, OnOk, option_map};
+ghost use Rattle.std.specs.Prelude.{◌≡◌, ◌⊎◌, ℕ, true, false, IfOk, OnOk};
 ghost use Rattle.std.specs.BTreeSet.{IsEmpty, contains};
 ghost use Rattle.std.specs.Ordering.{nat_cmp};
 ghost use Rattle.jmount.specs.Tree as tree;
-ghost use Rattle.jdamage.specs.Ways.{LeadNowhere, first_name};
+ghost use Rattle.jdamage.specs.Ways.{LeadNowhere};
 
-use crate::firsts::{find_name, is_directory};
+use crate::firsts::is_directory;
 use jmount::{Mounted, ROOT};
 use std::alloc::{AllocError, Global};
 use std::collections::BTreeSet;
@@ -37,16 +37,6 @@ fn is_end(mounted: &Mounted<'_>, nowhere: &BTreeSet<u32>, met: &BTreeSet<u32>, h
     met.contains(&here) || !is_directory(mounted, here)
 }
 
-/// SCAFFOLD
-fn first_directory(mounted: &Mounted<'_>, ino: u32) -> Option<u32>
-    ensures { result ≡ option_map (λ n. n.0) (first_name mounted.now.state ino) }
-{
-    match find_name(mounted, ino) {
-        Some((dir, _, _)) => Some(dir),
-        None => None,
-    }
-}
-
 /// Goes up from a directory until it meets the root, or one of which it is known that it leads
 /// there; answers whether it did. Else the directories on the way lead nowhere: the way ends, or
 /// comes back to one that it met. Each step meets another number, so it is at an end in 2^32 steps.
@@ -70,7 +60,7 @@ fn goes_up(
         if is_end(mounted, nowhere, met, here) {
             return Ok(false);
         }
-        let Some(above) = first_directory(mounted, here) else {
+        let Some(above) = mounted.first_directory(here) else {
             return Ok(false);
         };
         met.insert(here)?;
