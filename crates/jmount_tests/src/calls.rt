@@ -127,6 +127,10 @@ fn names() -> &'static [Fact] {
             Live(2, b"x", 1),
         ]),
         Fact::Dangling(&[Live(1, b"q", 57)]),
+        Fact::FirstDirectory(1, Some(2)),
+        Fact::FirstDirectory(2, Some(1)),
+        Fact::FirstDirectory(57, None),
+        Fact::FirstDirectory(8, None),
     ]
 }
 

@@ -6,13 +6,6 @@ ghost use Rattle.std.specs.Prelude.{◌≡◌, true};
 use std::fmt::Debug;
 use std::process::Abort;
 
-/// Stops the test unless this holds.
-pub(crate) fn expect(rt: &impl Abort, is_so: bool)
-    ensures { is_so ≡ true }
-{
-    assert!(rt; is_so);
-}
-
 /// Stops the test unless the two are equal, and tells both.
 pub(crate) fn equal<T: PartialEq + Debug + Drop>(rt: &impl Abort, found: T, wanted: T)
     ensures { T.eq found wanted ≡ true }

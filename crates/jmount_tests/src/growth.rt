@@ -1,6 +1,6 @@
 //! A growth that is refused is told as such.
 
-use crate::checks::{equal, expect};
+use crate::checks::equal;
 use crate::images::{DIRECTORY, FILE, Item, Version, image_of};
 use byteorder::LittleEndian;
 use jmount::{MountFault, Mounted, mount};
@@ -33,6 +33,7 @@ fn is_shown(alloc: Global, mounted: &Mounted<'_>) -> bool {
         && mounted.find(b"/d/x") == Ok(3)
         && mounted.read_at(3, 0, &mut bytes) == 6
         && bytes == *b"aBCd\0e\0\0"
+        && mounted.first_directory(3) == Some(2)
         && mounted.next() == 59
         && mounted.findings().len() == 1
         && dangling.is_ok_and(|names| names.len() == 2)
@@ -96,17 +97,26 @@ const fn chain(last: u32) -> [Item; 7] {
     ]
 }
 
+/// Whether the tree of an image has its shape; none where the image does not mount.
+fn shape(alloc: Global, image: &[u8]) -> Option<bool> {
+    match mount::<LittleEndian>(alloc, image, GEOMETRY) {
+        Ok(mounted) => Some(mounted.has_shape()),
+        Err(_fault) => None,
+    }
+}
+
 /// Passes with each allocation failing in turn too: then the image does not mount, and mounted again
 /// it is right.
 #[test]
 fn refused_shapes_are_no_answer(rt: HostRuntime) {
-    let alloc = rt.alloc();
     for (last, want) in [(57, true), (4, false)] {
-        let Ok(image) = image_of::<LittleEndian>(alloc, &chain(last)) else {
+        let Ok(image) = image_of::<LittleEndian>(rt.alloc(), &chain(last)) else {
             return;
         };
-        let mounted = mount::<LittleEndian>(alloc, &image, GEOMETRY)
-            .or_else(|_| mount::<LittleEndian>(alloc, &image, GEOMETRY));
-        expect(&rt, matches!(mounted, Ok(mounted) if mounted.has_shape() == want));
+        let mut first = shape(rt.alloc(), &image);
+        if first.is_none() {
+            first = shape(rt.alloc(), &image);
+        }
+        equal(&rt, first, Some(want));
     }
 }

@@ -3,13 +3,16 @@
 //!
 //! `images` has how an image is written down, `facts` what is asked of a mounted one. The tests are
 //! the tables of the other modules: `mounts` has small images, `calls` every call on one file
-//! system, `refusals` the images that do not mount, `shapes` trees with their shape and without it.
+//! system, `refusals` the images that do not mount, `shapes` trees with their shape and without it,
+//! `directories` where first names are.
 #![tactic(auto)]
 
 #[cfg(test)]
 mod calls;
 #[cfg(test)]
 mod checks;
+#[cfg(test)]
+mod directories;
 #[cfg(test)]
 mod facts;
 #[cfg(test)]
