@@ -1,8 +1,8 @@
 -- The names of the directories that a walk has still to enter. In a tree that has its shape they are the same whatever was met.
-use Rattle.std.proofs.Common.{◌≡◌, ℕ, zero, suc, ◌+◌, ◌≤◌, ◌&&◌, not, cond, Bool, List, [], ◌∷◌, ◌++◌, length, refl, sym, ap, ◌∙◌, subst, arith}
+use Rattle.std.proofs.Common.{◌≡◌, ℕ, zero, suc, ◌+◌, ◌≤◌, cond, Bool, List, [], ◌∷◌, ◌++◌, length, refl, sym, ap, ◌∙◌, subst, arith}
 use Rattle.jmount.specs.Tree.{State, is_directory, entries_in}
 use Rattle.jmount.proofs.ShapeLemmas.{IsShaped}
-use Rattle.jreport.specs.TreeText.{Item, Met, items_of, is_entered, met_after, todo_after}
+use Rattle.jreport.specs.TreeText.{Item, Met, items_of, met_after, todo_after}
 use Rattle.jreport.specs.Walking.{names_entered, unmet}
 use Rattle.jreport.proofs.ListedOnceLemmas.{AreFresh, fresh_after, no_mark}
 use Rattle.jreport.proofs.ListingLemmas.{weight_falls}

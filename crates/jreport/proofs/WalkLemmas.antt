@@ -1,5 +1,5 @@
 -- The steps of a walk through a tree.
-use Rattle.std.proofs.Common.{◌≡◌, ℕ, ◌+◌, ◌*◌, ◌-◌, ◌<◌, ◌≤◌, ◌&&◌, ◌||◌, ◌==◌, not, cond, Bool, true, false, List, [], ◌∷◌, ◌++◌, length, map, take, refl, sym, ap, ◌∙◌, subst, arith, append_assoc, append-nil, Option, Some, None, Result, Ok, Err, Bor, inl, inr, ◌⊎◌, ⊎_elim}
+use Rattle.std.proofs.Common.{◌≡◌, ℕ, ◌+◌, ◌*◌, ◌-◌, ◌<◌, ◌&&◌, ◌||◌, ◌==◌, not, cond, Bool, true, false, List, [], ◌∷◌, ◌++◌, length, map, take, refl, sym, ap, ◌∙◌, subst, arith, append_assoc, append-nil, Option, Some, None, Result, Ok, Err, Bor, inl, inr, ◌⊎◌, ⊎_elim}
 use Rattle.std.specs.Prelude.{filter, reverse, sum_by, is_some, option_map, IsErrAnd}
 use Rattle.std.specs.Io.KnownBytes.{Appends}
 use Rattle.std.proofs.KnownBytes.{Appends-nil, Appends-trans}
@@ -13,7 +13,7 @@ use Rattle.jmount.specs.Tree.{ObjectOf, State, object, is_there, is_directory, h
 use Rattle.jmount.specs.Shown.{shown}
 use Rattle.jmount.specs.Find.{way_up}
 use Rattle.jmount.proofs.ShapeLemmas.{there_of_directory}
-use Rattle.jreport.specs.Remembering.{Becomes, remembered, remembers}
+use Rattle.jreport.specs.Remembering.{Becomes, remembered}
 use Rattle.jreport.specs.TreeText.{Item, Met, items_of, line_if, line_of, none_met, is_entered, met_after, todo_after, IsTextFrom, PutsPartFrom, PutsFrom}
 use Rattle.jreport.specs.Walking.{IsTextOf, PutsPartOf, PutsVisit, PutsStep, PassesOn, PutsNext, GoesUp, items_up, way_of, todo_of, open_left, names_entered}
 use Rattle.jreport.specs.declared.met.MetDirectories.{MetDirectories}

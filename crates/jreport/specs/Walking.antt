@@ -88,7 +88,7 @@ pub record PutsNext (s : State) (w w_after : Walk) (old new : Option (List ℕ))
   pub todo_then : todo_of s w_after ≡ todo_after s (remembered w.met) item rest
   pub met : Becomes w.met w_after.met (met_after s (remembered w.met) item.1)
   pub nearer :
-    open_left w_after < open_left w + 2 * names_entered s (remembered w.met) item.1
+      open_left w_after < open_left w + 2 * names_entered s (remembered w.met) item.1
   pub put : Appends old new (line_of s (remembered w.met) item)
 
 -- the walk went back to the directory above, or there is none

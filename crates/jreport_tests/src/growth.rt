@@ -1,9 +1,7 @@
 //! A growth that is refused is told as such.
 
 use crate::checks::equal;
-use crate::images::{
-    CIRCLE, CIRCLE_LINES, DEEP, DEEP_LISTED, GEOMETRY, LARGE, TREE, image_of,
-};
+use crate::images::{CIRCLE, CIRCLE_LINES, DEEP, DEEP_LISTED, GEOMETRY, LARGE, TREE, image_of};
 use crate::reads::{Call, PART_LISTED, TREE_CHECKED, TREE_LISTED, ask};
 use byteorder::LittleEndian;
 use flashbase::LoadFault;
