@@ -8,7 +8,7 @@ use Rattle.std.proofs.KnownBytes.{Appends-nil}
 use Rattle.flashbase.specs.Device.{PutsPart, next_count}
 use Rattle.jmount.specs.Tree.{State}
 use Rattle.jreport.specs.TreeText.{Met}
-use Rattle.jreport.specs.Walking.{met_of}
+use Rattle.jreport.specs.Remembering.{met_of}
 use Rattle.jreport.specs.declared.faults.ProgramFault.{ProgramFault}
 use Rattle.jreport.specs.declared.faults.ProgramFault.TheVariants.{Output, OutOfMemory}
 use Rattle.jdiff.specs.Changes.{changes}

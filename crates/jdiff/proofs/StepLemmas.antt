@@ -14,7 +14,8 @@ use Rattle.flashbase.proofs.DeviceLemmas.{part_before, part_behind}
 use Rattle.jmount.specs.Tree.{State}
 use Rattle.jmount.specs.Find.{way_up}
 use Rattle.jreport.specs.TreeText.{Met, none_met}
-use Rattle.jreport.specs.Walking.{met_of, unmet}
+use Rattle.jreport.specs.Remembering.{met_of}
+use Rattle.jreport.specs.Walking.{unmet}
 use Rattle.jreport.specs.declared.faults.ProgramFault.{ProgramFault}
 use Rattle.jreport.specs.declared.faults.ProgramFault.TheVariants as program
 use Rattle.jreport.specs.declared.faults.ProgramFault.TheVariants.{Output, OutOfMemory}

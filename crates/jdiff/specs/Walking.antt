@@ -9,7 +9,8 @@ use Rattle.jmount.specs.Shown.{readable, shown}
 use Rattle.jmount.specs.Find.{way_up}
 use Rattle.jmount.specs.declared.object.Object.{Object}
 use Rattle.jreport.specs.TreeText.{Met, met_after, is_entered}
-use Rattle.jreport.specs.Walking.{met_of, unmet}
+use Rattle.jreport.specs.Remembering.{met_of}
+use Rattle.jreport.specs.Walking.{unmet}
 use Rattle.jreport.specs.declared.faults.ProgramFault.{ProgramFault}
 use Rattle.jreport.specs.declared.faults.ProgramFault.TheVariants.{Output, OutOfMemory}
 use Rattle.std.specs.List.{flat_map}

@@ -1,7 +1,7 @@
 //! What a number leads to in a tree.
 
 ghost use Rattle.std.specs.Prelude.{◌≡◌, IfOk, IfErr, OnOk};
-ghost use Rattle.jreport.specs.Walking.{met_of};
+ghost use Rattle.jreport.specs.Remembering.{met_of};
 ghost use Rattle.jdiff.specs.Walking.{directory_found, found_at, met_by};
 
 use jmount::{Kind, Mounted, Object};

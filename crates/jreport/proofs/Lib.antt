@@ -1,4 +1,5 @@
 mod FoundLemmas
+pub mod AheadLemmas
 pub mod BlockLemmas
 pub mod FaultLemmas
 pub mod GrowingLemmas
@@ -10,6 +11,7 @@ pub mod WholeImageLemmas
 pub mod PathTextLemmas
 pub mod PutLemmas
 pub mod RefusalLemmas
+pub mod RememberingLemmas
 pub mod StreamLemmas
 pub mod ExtentLemmas
 pub mod VerdictLemmas

@@ -216,7 +216,7 @@ names_reached s dir path (n ∷ names) todo d at are reached = by (is_there s n.
     by true there rest = (walk_append s path (n.0 ∷ []) 1 dir at ∙ step_there s dir n.1 n.0 d are.0 there, rest)
     by false gone rest = rest
 
-entered_there : (s : State) (met : Met) (dir : ℕ) → is_entered s met dir ≡ true → is_directory s dir ≡ true
+pub entered_there : (s : State) (met : Met) (dir : ℕ) → is_entered s met dir ≡ true → is_directory s dir ≡ true
 entered_there s met dir entered = first (is_directory s dir) (not (met dir)) entered
   where
     first : (a b : Bool) → (a && b) ≡ true → a ≡ true

@@ -52,7 +52,7 @@ length_items s path names =
       count_by-le-length (λ e. is_there s e.1) names,
     )
 
-weight_falls : (s : State) (met : Met) (item : Item) (todo : List Item) → unmet s (met_after s met item.1) + length (todo_after s met item todo) ≤ unmet s met + length todo
+pub weight_falls : (s : State) (met : Met) (item : Item) (todo : List Item) → unmet s (met_after s met item.1) + length (todo_after s met item todo) ≤ unmet s met + length todo
 weight_falls s met item todo = by (is_entered s met item.1) refl
   where
     by : (entered : Bool) → is_entered s met item.1 ≡ entered

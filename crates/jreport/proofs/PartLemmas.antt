@@ -60,11 +60,11 @@ are_split s met (x ∷ xs) ys (line ∷ lines) shape fresh are =
 
 -- ---- what was met does not matter
 
-same_entered : (d m n : Bool) → (d && m) ≡ false → (d && n) ≡ false → (d && not m) ≡ (d && not n)
+pub same_entered : (d m n : Bool) → (d && m) ≡ false → (d && n) ≡ false → (d && not m) ≡ (d && not n)
 same_entered true m n one other = ap not (one ∙ sym other)
 same_entered false m n one other = refl
 
-same_lines : (s : State) (met other : Met) (todo : List Item) (lines : List (List ℕ)) → IsShaped s → AreFresh s met todo → AreFresh s other todo
+pub same_lines : (s : State) (met other : Met) (todo : List Item) (lines : List (List ℕ)) → IsShaped s → AreFresh s met todo → AreFresh s other todo
     → AreLinesOf s met todo lines → AreLinesOf s other todo lines
 same_lines s met other [] lines shape fresh too are = are
 same_lines s met other (item ∷ todo) [] shape fresh too are = absurd are

@@ -1,5 +1,5 @@
 -- Why an image does not mount, as the program tells it: which faults these are.
-use Rattle.std.proofs.Common.{◌≡◌, ℕ, List, Option, None, Some, Err, refl, sym, subst}
+use Rattle.std.proofs.Common.{◌≡◌, ℕ, List, Err, refl, sym, subst}
 use Rattle.jnode.specs.declared.order.Endian.{Endian}
 use Rattle.jscan.specs.Image.{nodes}
 use Rattle.jmount.specs.Mounts.{Answers}

@@ -13,6 +13,7 @@ pub mod Paths
 pub mod Puts
 pub mod Reasons
 pub mod Refusal
+pub mod Remembering
 pub mod Report
 pub mod Stream
 pub mod TreeLaws

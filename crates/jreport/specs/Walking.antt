@@ -1,18 +1,22 @@
 -- The walk of `ls`: what is still to print, and what a step of it does.
-use Rattle.std.specs.Prelude.{◌≡◌, ℕ, ◌+◌, ◌*◌, ◌<◌, Bool, true, false, not, List, [], ◌∷◌, ◌++◌, length, map, reverse, sum_by, count_by, Option, Result, Ok, Err}
-use Rattle.std.specs.Ordering.{nat_cmp}
-use Rattle.std.specs.BTreeSet.{BTreeSet, contains}
+use Rattle.std.specs.Prelude.{◌≡◌, ℕ, ◌+◌, ◌*◌, ◌<◌, Bool, true, false, not, if◌then◌else◌, List, [], ◌∷◌, ◌++◌, length, map, reverse, sum_by, count_by, Option, Result, Ok, Err, ◌⊎◌}
 use Rattle.std.specs.FinMap.{entries}
 use Rattle.std.specs.List.{flat_map}
 use Rattle.std.specs.Io.KnownBytes.{Appends}
 use Rattle.flashbase.specs.Device.{PutsPart, next_count}
 use Rattle.flashbase.specs.Sinks.{SinkChange}
-use Rattle.jmount.specs.Tree.{State}
-use Rattle.jmount.specs.Find.{way_up}
-use Rattle.jreport.specs.TreeText.{Item, Met, items_of, line_of, met_after, is_entered, AreLinesOf}
+use Rattle.jmount.specs.Tree.{State, entries_in}
+use Rattle.jmount.specs.Find.{walk, way_up}
+use Rattle.jreport.specs.Remembering.{Becomes, remembered}
+use Rattle.jreport.specs.TreeText.{Item, Met, items_of, line_of, met_after, todo_after, is_entered, AreLinesOf}
+use Rattle.jreport.specs.declared.met.MetDirectories.{MetDirectories}
 use Rattle.jreport.specs.declared.tree_walk.Walk.{Walk}
 use Rattle.jreport.specs.declared.faults.ProgramFault.{ProgramFault}
 use Rattle.jreport.specs.declared.faults.ProgramFault.TheVariants.{Output, OutOfMemory}
+
+-- the path of an item leads to it
+abbrev pub LeadsToItem : State → Item → Type 0
+LeadsToItem s item = walk s item.0 (Ok 1) ≡ Ok item.1
 
 -- the text of what is still to print
 abbrev pub IsTextOf : State → Met → List Item → List ℕ → Type 0
@@ -25,21 +29,19 @@ PutsPartOf s met todo old new = (text : List ℕ) × IsTextOf s met todo text ×
 
 -- ---- an object that is visited
 
-abbrev pub met_of : BTreeSet ℕ → Met
-met_of set = λ i. contains nat_cmp set i
-
 -- Its line is put, as if it had been the next to print. The answer is whether it is entered.
-abbrev pub PutsVisit : State → BTreeSet ℕ → BTreeSet ℕ → Item → SinkChange
+abbrev pub PutsVisit : State → MetDirectories → MetDirectories → Item → SinkChange
     → Result Bool ProgramFault → Type 0
-PutsVisit s set set_after item sink (Ok entered) =
-    (entered ≡ is_entered s (met_of set) item.1)
-    × (met_of set_after ≡ met_after s (met_of set) item.1)
-    × Appends sink.old sink.new (line_of s (met_of set) item) × (sink.now ≡ sink.before)
-PutsVisit s set set_after item sink (Err Output) =
-    PutsPart sink.old sink.new (line_of s (met_of set) item) × (sink.now ≡ next_count sink.before)
-PutsVisit s set set_after item sink (Err OutOfMemory) =
+PutsVisit s met met_then item sink (Ok entered) =
+    (entered ≡ is_entered s (remembered met) item.1)
+    × Becomes met met_then (met_after s (remembered met) item.1)
+    × Appends sink.old sink.new (line_of s (remembered met) item) × (sink.now ≡ sink.before)
+PutsVisit s met met_then item sink (Err Output) =
+    PutsPart sink.old sink.new (line_of s (remembered met) item)
+    × (sink.now ≡ next_count sink.before)
+PutsVisit s met met_then item sink (Err OutOfMemory) =
     Appends sink.old sink.new [] × (sink.now ≡ sink.before)
-PutsVisit s set set_after item sink (Err _) = ⊥
+PutsVisit s met met_then item sink (Err _) = ⊥
 
 -- ---- what is still to print at a place of the walk
 
@@ -60,21 +62,34 @@ todo_of s w = items_up s (w.left ∷ reverse w.above.items) (way_of w)
 abbrev pub unmet : State → Met → ℕ
 unmet s met = count_by (λ e. not (met e.0.0)) (entries s.names)
 
--- the names that the walk has not read, those of directories that it may meet among them
-abbrev pub listing_names_left : State → Walk → ℕ
-listing_names_left s w =
-    unmet s (met_of w.met) + length w.left + sum_by (λ left. length left) w.above.items
+-- what the walk has still to read of the directories that it is in, and to go up
+abbrev pub open_left : Walk → ℕ
+open_left w =
+    2 * (length w.left + sum_by (λ left. length left) w.above.items) + length w.above.items
 
-abbrev pub steps_left : State → Walk → ℕ
-steps_left s w = 2 * listing_names_left s w + length w.above.items
+-- the same of what it enters there
+abbrev pub names_entered : State → Met → ℕ → ℕ
+names_entered s met i = if is_entered s met i then length (entries_in s i) else 0
 
 -- ---- a step
 
--- a line, perhaps an empty one, was put, and the rest is still to print
-abbrev pub LeavesRest : State → Walk → Walk → Option (List ℕ) → Option (List ℕ) → Type 0
-LeavesRest s w w_after old new = (line : List ℕ) × Appends old new line
-    × ((rest : List ℕ) → IsTextOf s (met_of w_after.met) (todo_of s w_after) rest
-    → IsTextOf s (met_of w.met) (todo_of s w) (line ++ rest))
+-- A name leads to nothing, or the walk goes back to the directory above: nothing is put.
+pub record PassesOn (s : State) (w w_after : Walk) (old new : Option (List ℕ)) : Type 0 where
+  pub todo : todo_of s w_after ≡ todo_of s w
+  pub met : Becomes w.met w_after.met (remembered w.met)
+  pub nearer : open_left w_after < open_left w
+  pub put : Appends old new []
+
+-- The line of the next item is put.
+pub record PutsNext (s : State) (w w_after : Walk) (old new : Option (List ℕ)) : Type 0 where
+  pub item : Item
+  pub rest : List Item
+  pub todo : todo_of s w ≡ item ∷ rest
+  pub todo_then : todo_of s w_after ≡ todo_after s (remembered w.met) item rest
+  pub met : Becomes w.met w_after.met (met_after s (remembered w.met) item.1)
+  pub nearer :
+      open_left w_after < open_left w + 2 * names_entered s (remembered w.met) item.1
+  pub put : Appends old new (line_of s (remembered w.met) item)
 
 -- the walk went back to the directory above, or there is none
 abbrev pub GoesUp : Walk → Walk → Bool → Type 0
@@ -85,13 +100,13 @@ GoesUp w w_after false = w.above.items ≡ []
 -- `false`: nothing is still to print. At a fault a beginning of what was to print went out.
 abbrev pub PutsStep : State → Walk → Walk → SinkChange → Result Bool ProgramFault → Type 0
 PutsStep s w w_after sink (Ok true) =
-    LeavesRest s w w_after sink.old sink.new × (steps_left s w_after < steps_left s w)
+    (PassesOn s w w_after sink.old sink.new ⊎ PutsNext s w w_after sink.old sink.new)
     × (sink.now ≡ sink.before)
 PutsStep s w w_after sink (Ok false) =
     (todo_of s w ≡ []) × Appends sink.old sink.new [] × (sink.now ≡ sink.before)
 PutsStep s w w_after sink (Err Output) =
-    PutsPartOf s (met_of w.met) (todo_of s w) sink.old sink.new
+    PutsPartOf s (remembered w.met) (todo_of s w) sink.old sink.new
     × (sink.now ≡ next_count sink.before)
 PutsStep s w w_after sink (Err OutOfMemory) =
-    PutsPartOf s (met_of w.met) (todo_of s w) sink.old sink.new × (sink.now ≡ sink.before)
+    PutsPartOf s (remembered w.met) (todo_of s w) sink.old sink.new × (sink.now ≡ sink.before)
 PutsStep s w w_after sink (Err _) = ⊥

@@ -3,16 +3,16 @@
 ghost use Rattle.std.specs.Prelude.{map, option_map};
 ghost use Rattle.flashbase.specs.Sinks.{change_of};
 ghost use Rattle.jreport.specs.TreeText.{PutsFrom, PutsPartAt, PutsTree, PutsTreeAt};
-ghost use Rattle.jreport.specs.Walking.{GoesUp, PutsStep, PutsVisit};
+ghost use Rattle.jreport.specs.Walking.{GoesUp, LeadsToItem, PutsStep, PutsVisit};
 
 use crate::faults::ProgramFault;
+use crate::met::MetDirectories;
 use crate::paths::names_of_path;
 use crate::tree::put_object;
 use flashbase::Sink;
 use jmount::{FindFault, Kind, Mounted, ROOT};
 use jname::Of;
 use std::alloc::Global;
-use std::collections::BTreeSet;
 use std::mem;
 
 /// Puts the line of an object, if there is one. Answers whether it is a directory that is met for
@@ -21,7 +21,7 @@ fn visit<T: Sink>(
     mounted: &Mounted<'_>,
     path: &[&[u8]],
     ino: u32,
-    met: &mut BTreeSet<u32>,
+    met: &mut MetDirectories,
     sink: &mut T,
 ) -> Result<bool, ProgramFault<'static>>
     ensures { PutsVisit mounted.now.state met.old met.new (map (λ name. name.now) path.now, ino)
@@ -34,7 +34,7 @@ fn visit<T: Sink>(
         put_object(mounted, path, ino, &object, false, sink)?;
         return Ok(false);
     }
-    let is_first = met.insert(ino)?;
+    let is_first = met.meet(ino)?;
     put_object(mounted, path, ino, &object, !is_first, sink)?;
     Ok(is_first)
 }
@@ -49,7 +49,7 @@ struct Walk<'m, 'a> {
     /// What is left of the directories above it, from the root on.
     above: Vec<Of<'m, 'a>>,
     /// The directories that were met.
-    met: BTreeSet<u32>,
+    met: MetDirectories,
 }
 
 impl<'m, 'a> Walk<'m, 'a> {
@@ -97,10 +97,11 @@ fn lines_from<'m, T: Sink>(
     ino: u32,
     sink: &mut T,
 ) -> Result<(), ProgramFault<'static>>
+    requires { LeadsToItem mounted.now.state (map (λ name. name.now) path.items, ino) }
     ensures { PutsFrom mounted.now.state (map (λ name. name.now) path.entry.items, ino)
         (change_of T.Sink sink.old sink.new) result }
 {
-    let mut met = BTreeSet::new(alloc);
+    let mut met = MetDirectories::new(alloc, mounted)?;
     if !visit(mounted, &path, ino, &mut met, sink)? {
         return Ok(());
     }
@@ -116,7 +117,8 @@ fn lines_from<'m, T: Sink>(
 
 /// Puts a line for each object that a path leads to, a directory before what lies in it and each
 /// name in byte order. A directory that was met before is put again, but not what lies in it. Takes
-/// memory for the way to an object and for the directories that were met.
+/// memory for the way to an object, and in a tree that has not its shape for the directories that
+/// were met.
 pub fn tree_lines<T: Sink>(
     alloc: Global,
     mounted: &Mounted<'_>,

@@ -1,7 +1,7 @@
 //! A growth that is refused is told as such.
 
 use crate::checks::equal;
-use crate::images::{CIRCLE, CIRCLE_LINES, GEOMETRY, LARGE, TREE, image_of};
+use crate::images::{CIRCLE, CIRCLE_LINES, DEEP, DEEP_LISTED, GEOMETRY, LARGE, TREE, image_of};
 use crate::reads::{Call, PART_LISTED, TREE_CHECKED, TREE_LISTED, ask};
 use byteorder::LittleEndian;
 use flashbase::LoadFault;
@@ -56,16 +56,21 @@ fn refused_growth_of_whole_calls(rt: HostRuntime) {
     }
 }
 
-/// Why the lines of the circle are not put; none where they are.
-fn circle_fault(alloc: Global) -> Option<ProgramFault<'static>> {
-    let Ok(image) = image_of(alloc, CIRCLE) else {
+/// Trees with and without their shape, and their lines.
+fn listed() -> &'static [(&'static [Node<'static>], &'static [u8])] {
+    &[(DEEP, DEEP_LISTED), (CIRCLE, CIRCLE_LINES)]
+}
+
+/// Why the lines of a tree are not put; none where they are.
+fn tree_fault(alloc: Global, nodes: &[Node<'_>], text: &[u8]) -> Option<ProgramFault<'static>> {
+    let Ok(image) = image_of(alloc, nodes) else {
         return Some(ProgramFault::OutOfMemory);
     };
     let Ok(mounted) = mount::<LittleEndian>(alloc, &image, LARGE) else {
         return Some(ProgramFault::OutOfMemory);
     };
     let mut sink = Matcher {
-        rest: CIRCLE_LINES,
+        rest: text,
         failures: 0,
     };
     match tree_lines(alloc, &mounted, &mut sink) {
@@ -157,9 +162,11 @@ fn word_fault(alloc: Global) -> Option<ProgramFault<'static>> {
 /// Passes with each allocation failing in turn too.
 #[test]
 fn refused_growth_of_lines(rt: HostRuntime) {
-    if let Some(fault) = circle_fault(rt.alloc()) {
-        equal(&rt, fault, ProgramFault::OutOfMemory);
-        equal(&rt, circle_fault(rt.alloc()), None);
+    for &(nodes, text) in listed() {
+        if let Some(fault) = tree_fault(rt.alloc(), nodes, text) {
+            equal(&rt, fault, ProgramFault::OutOfMemory);
+            equal(&rt, tree_fault(rt.alloc(), nodes, text), None);
+        }
     }
     if let Some(fault) = stream_fault(rt.alloc()) {
         equal(&rt, fault, ProgramFault::Load(LoadFault::OutOfMemory));

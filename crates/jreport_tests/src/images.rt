@@ -136,3 +136,33 @@ pub(crate) const CLASH: &[Node<'static>] = &[
 
 /// A root that is a regular file.
 pub(crate) const FILE_AS_ROOT: &[Node<'static>] = &[Node::Inode(1, FILE, b"")];
+
+/// Directories in one another, each with a name after them: a directory, a name that dangles, and
+/// in the root a second one of a file at the end of the way.
+pub(crate) const DEEP: &[Node<'static>] = &[
+    Node::Inode(2, DIRECTORY, b""),
+    Node::Inode(3, DIRECTORY, b""),
+    Node::Inode(4, DIRECTORY, b""),
+    Node::Inode(5, FILE, b"end"),
+    Node::Inode(6, DIRECTORY, b""),
+    Node::Entry(1, 2, b"a"),
+    Node::Entry(2, 3, b"b"),
+    Node::Entry(3, 4, b"c"),
+    Node::Entry(4, 5, b"f"),
+    Node::Entry(3, 9, b"none"),
+    Node::Entry(2, 6, b"e"),
+    Node::Entry(1, 5, b"z"),
+];
+
+pub(crate) const DEEP_LISTED: &[u8] = b"d 0755 0 0 0 0 1 /\n\
+d 0755 0 0 0 0 2 /a\n\
+d 0755 0 0 0 0 3 /a/b\n\
+d 0755 0 0 0 0 4 /a/b/c\n\
+- 0644 0 0 3 0 5 /a/b/c/f\n\
+d 0755 0 0 0 0 6 /a/e\n\
+- 0644 0 0 3 0 5 /z\n";
+
+/// The part of it from `/a/b` on.
+pub(crate) const DEEP_BELOW: &[u8] = b"d 0755 0 0 0 0 3 /a/b\n\
+d 0755 0 0 0 0 4 /a/b/c\n\
+- 0644 0 0 3 0 5 /a/b/c/f\n";

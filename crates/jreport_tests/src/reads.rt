@@ -2,8 +2,8 @@
 
 use crate::checks::{equal, expect};
 use crate::images::{
-    CIRCLE, CIRCLE_BELOW, CLASH, COMPRESSED, DAMAGED_INODE_2, FILE_AS_ROOT, GEOMETRY, LARGE,
-    ONE_BLOCK, OTHER_ORDER, Raw, TREE, image_of, raw_image,
+    CIRCLE, CIRCLE_BELOW, CLASH, COMPRESSED, DAMAGED_INODE_2, DEEP, DEEP_BELOW, DEEP_LISTED,
+    FILE_AS_ROOT, GEOMETRY, LARGE, ONE_BLOCK, OTHER_ORDER, Raw, TREE, image_of, raw_image,
 };
 use byteorder::LittleEndian;
 use flashbase::{FromWriter, Sink};
@@ -212,6 +212,8 @@ fn worked() -> &'static [Row] {
             Answer::Found(0),
             CIRCLE_BELOW,
         ),
+        (DEEP, &Call::Listing, Answer::Found(0), DEEP_LISTED),
+        (DEEP, &Call::Part(b"/a/b"), Answer::Found(0), DEEP_BELOW),
         (
             TREE,
             &Call::Part(b"/x"),

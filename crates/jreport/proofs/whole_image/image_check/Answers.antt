@@ -1,4 +1,3 @@
-use Rattle.std.proofs.Common.{Ok}
 use Rattle.jreport.proofs.WholeImageLemmas.{check_done, report_failed, scan_of, some_scan, verdict_failed, verdict_has_size}
 use Rattle.jreport.proofs.whole_image.image_check.Goals as goal
 
