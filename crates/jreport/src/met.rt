@@ -1,6 +1,5 @@
 //! The directories that a walk through a tree has met.
 
-ghost use Rattle.std.specs.Prelude.{IfOk};
 ghost use Rattle.jreport.specs.Remembering.{MeetsDirectory, RemembersNone};
 
 use jmount::Mounted;
@@ -16,18 +15,15 @@ pub struct MetDirectories {
 
 impl MetDirectories {
     /// Those of a walk that begins, which has met none.
-    ///
-    /// # Errors
-    /// Out of memory.
-    pub fn new(alloc: Global, mounted: &Mounted<'_>) -> Result<MetDirectories, AllocError>
-        ensures { IfOk result (λ met. RemembersNone mounted.now.state met) }
+    pub fn new(alloc: Global, mounted: &Mounted<'_>) -> MetDirectories
+        ensures { RemembersNone mounted.now.state result }
     {
-        let noted = if mounted.shape(alloc)? {
+        let noted = if mounted.has_shape() {
             None
         } else {
             Some(BTreeSet::new(alloc))
         };
-        Ok(MetDirectories { noted })
+        MetDirectories { noted }
     }
 
     /// Meets a directory. Answers whether that is for the first time, as far as is remembered.

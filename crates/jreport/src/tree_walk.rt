@@ -101,7 +101,7 @@ fn lines_from<'m, T: Sink>(
     ensures { PutsFrom mounted.now.state (map (λ name. name.now) path.entry.items, ino)
         (change_of T.Sink sink.old sink.new) result }
 {
-    let mut met = MetDirectories::new(alloc, mounted)?;
+    let mut met = MetDirectories::new(alloc, mounted);
     if !visit(mounted, &path, ino, &mut met, sink)? {
         return Ok(());
     }

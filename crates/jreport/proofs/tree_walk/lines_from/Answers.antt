@@ -2,28 +2,19 @@ use Rattle.std.proofs.Common.{◌∙◌, Bool, ap, map, refl, subst, Ok, Err}
 use Rattle.jreport.specs.TreeText.{Item}
 use Rattle.jreport.specs.Walking.{PutsVisit, PutsStep}
 use Rattle.jreport.specs.declared.tree_walk.Walk.{Walk}
-use Rattle.jreport.specs.declared.faults.ProgramFault.TheVariants.{OutOfMemory}
-use Rattle.jreport.proofs.WalkLemmas.{first_entered, first_needs, first_alone, first_failed, none_put, steps_on, needs_on, comes_nearer, all_steps, stopped, tree_failed, visit_at}
+use Rattle.jreport.proofs.WalkLemmas.{first_entered, first_needs, first_alone, first_failed, steps_on, needs_on, comes_nearer, all_steps, stopped, tree_failed, visit_at}
 use Rattle.jreport.proofs.RememberingLemmas.{needs_first}
 use Rattle.jreport.proofs.tree_walk.lines_from.Goals as goal
 use Rattle.jreport.proofs.SinkLemmas.{sink_change}
-
-pub returns-in_err-met : goal.returns-in_err-met
-returns-in_err-met g c =
-    let s = c.args.mounted.now.state in
-    let item : Item = (map (λ n. n.now) c.args.path.items, c.args.ino) in
-    let old = g.T.Sink.taken c.args.sink.now in
-    let before = g.T.Sink.failures c.args.sink.now in
-    tree_failed s item old old before before c.from_residual.result OutOfMemory c.from_residual.ensures.1 (none_put s item old, refl)
 
 pub returns-in_err-visit : goal.returns-in_err-visit
 returns-in_err-visit g c =
     let fault = c.in_err-visit.field-0.0 in
     tree_failed c.args.mounted.now.state (map (λ n. n.now) c.args.path.items, c.args.ino) (g.T.Sink.taken c.args.sink.now) (g.T.Sink.taken c.visit.new.sink) (g.T.Sink.failures c.args.sink.now) (g.T.Sink.failures c.visit.new.sink)
     c.from_residual-in_err-visit.result fault c.from_residual-in_err-visit.ensures.1
-    (first_failed (Unit {0}) c.args.mounted.now.state (map (λ n. n.now) c.args.path.items, c.args.ino) c.in_ok-met.met c.visit.new.met fault (g.T.Sink.taken c.args.sink.now) (g.T.Sink.taken c.visit.new.sink)
-    (g.T.Sink.failures c.args.sink.now) (g.T.Sink.failures c.visit.new.sink) c.in_ok-met.ensures.0
-    (visit_at c.args.mounted.now.state c.in_ok-met.met c.visit.new.met _ (map (λ n. n.now) c.args.path.items) c.args.ino _ _ _ _ (Err fault)
+    (first_failed (Unit {0}) c.args.mounted.now.state (map (λ n. n.now) c.args.path.items, c.args.ino) c.new-met.result c.visit.new.met fault (g.T.Sink.taken c.args.sink.now) (g.T.Sink.taken c.visit.new.sink)
+    (g.T.Sink.failures c.args.sink.now) (g.T.Sink.failures c.visit.new.sink) c.new-met.ensures.0
+    (visit_at c.args.mounted.now.state c.new-met.result c.visit.new.met _ (map (λ n. n.now) c.args.path.items) c.args.ino _ _ _ _ (Err fault)
     (ap (map (λ n. n.now)) c.deref.ensures.value) c.in_err-visit.ensures))
 
 pub returns-then-not-branch : goal.returns-then-not-branch
@@ -33,9 +24,9 @@ returns-then-not-branch g c =
     let new = g.T.Sink.taken c.visit.new.sink in
     let before = g.T.Sink.failures c.args.sink.now in
     let now = g.T.Sink.failures c.visit.new.sink in
-    first_alone s (map (λ n. n.now) c.args.path.items, c.args.ino) c.in_ok-met.met c.visit.new.met old new before now (tt {0}) c.in_ok-met.ensures.0
-    (subst (λ (b : Bool). PutsVisit s c.in_ok-met.met c.visit.new.met (map (λ n. n.now) c.args.path.items, c.args.ino) (sink_change old new before now) (Ok b)) c.if-not-branch.true
-    (visit_at s c.in_ok-met.met c.visit.new.met _ (map (λ n. n.now) c.args.path.items) c.args.ino _ _ _ _ (Ok c.in_ok-visit.field-0)
+    first_alone s (map (λ n. n.now) c.args.path.items, c.args.ino) c.new-met.result c.visit.new.met old new before now (tt {0}) c.new-met.ensures.0
+    (subst (λ (b : Bool). PutsVisit s c.new-met.result c.visit.new.met (map (λ n. n.now) c.args.path.items, c.args.ino) (sink_change old new before now) (Ok b)) c.if-not-branch.true
+    (visit_at s c.new-met.result c.visit.new.met _ (map (λ n. n.now) c.args.path.items) c.args.ino _ _ _ _ (Ok c.in_ok-visit.field-0)
     (ap (map (λ n. n.now)) c.deref.ensures.value) c.in_ok-visit.ensures))
 
 pub loop-walk-init : goal.loop-walk-init
@@ -45,14 +36,14 @@ loop-walk-init g c =
     let new = g.T.Sink.taken c.visit.new.sink in
     let before = g.T.Sink.failures c.args.sink.now in
     let now = g.T.Sink.failures c.visit.new.sink in
-    let w : Walk = record { path = c.args.path; left = c.entries.result; above = c.new-2.result; met = c.visit.new.met } in
-    let put = subst (λ (b : Bool). PutsVisit s c.in_ok-met.met c.visit.new.met (map (λ n. n.now) c.args.path.items, c.args.ino) (sink_change old new before now) (Ok b)) c.if-not-branch.false
-    (visit_at s c.in_ok-met.met c.visit.new.met _ (map (λ n. n.now) c.args.path.items) c.args.ino _ _ _ _ (Ok c.in_ok-visit.field-0)
+    let w : Walk = record { path = c.args.path; left = c.entries.result; above = c.new.result; met = c.visit.new.met } in
+    let put = subst (λ (b : Bool). PutsVisit s c.new-met.result c.visit.new.met (map (λ n. n.now) c.args.path.items, c.args.ino) (sink_change old new before now) (Ok b)) c.if-not-branch.false
+    (visit_at s c.new-met.result c.visit.new.met _ (map (λ n. n.now) c.args.path.items) c.args.ino _ _ _ _ (Ok c.in_ok-visit.field-0)
     (ap (map (λ n. n.now)) c.deref.ensures.value) c.in_ok-visit.ensures) in
-    let needs = needs_first s c.in_ok-met.met (map (λ n. n.now) c.args.path.items, c.args.ino) c.in_ok-met.ensures c.requires in
+    let needs = needs_first s c.new-met.result (map (λ n. n.now) c.args.path.items, c.args.ino) c.new-met.ensures c.requires in
     record {
-      needs = first_needs s (map (λ n. n.now) c.args.path.items, c.args.ino) w c.in_ok-met.met old new before now needs refl c.entries.ensures c.new-2.ensures.items put;
-      so_far = first_entered s (map (λ n. n.now) c.args.path.items, c.args.ino) w c.in_ok-met.met old new before now c.in_ok-met.ensures.0 needs refl c.entries.ensures c.new-2.ensures.items put;
+      needs = first_needs s (map (λ n. n.now) c.args.path.items, c.args.ino) w c.new-met.result old new before now needs refl c.entries.ensures c.new.ensures.items put;
+      so_far = first_entered s (map (λ n. n.now) c.args.path.items, c.args.ino) w c.new-met.result old new before now c.new-met.ensures.0 needs refl c.entries.ensures c.new.ensures.items put;
       failed = put.3;
     }
 
