@@ -1,7 +1,7 @@
 //! The verdict of `check`: whether the image mounts, which entries dangle, and whether its tree has
 //! its shape.
 
-ghost use Rattle.std.specs.Prelude.{◌≡◌, ◌||◌, ℕ, List, [], ◌++◌, ◌∷◌, IfOk, IfSome};
+ghost use Rattle.std.specs.Prelude.{◌≡◌, ◌||◌, ℕ, List, [], ◌++◌, ◌∷◌, IfSome};
 ghost use Rattle.std.specs.List.{flat_map};
 ghost use Rattle.flashbase.specs.Sinks.{PutsTo, change_of};
 ghost use Rattle.jnode.specs.declared.order.Endian.{Endian};
@@ -17,7 +17,7 @@ use jline::{LineBuffer, put_escaped, put_text};
 use jmount::{MountFault, Mounted, mount, mount_scanned};
 use jnode::Order;
 use jscan::{Geometry, PartialScan};
-use std::alloc::{AllocError, Global};
+use std::alloc::Global;
 
 /// What comes before the name of a dangling entry.
 #[tactic(auto, unfolding(crate::specs::Verdict::dangling_start))]
@@ -86,13 +86,13 @@ fn put_all_dangling<T: Sink>(sink: &mut T, entries: &[(u32, &[u8], u32)]) -> Res
 }
 
 /// Whether a tree has its shape, where that is asked.
-fn shape_if(alloc: Global, mounted: &Mounted<'_>, asked: bool) -> Result<Option<bool>, AllocError>
-    ensures { IfOk result (λ shape. shape ≡ shape_if asked mounted.now) }
+fn shape_if(mounted: &Mounted<'_>, asked: bool) -> Option<bool>
+    ensures { result ≡ shape_if asked mounted.now }
 {
     if asked {
-        Ok(Some(mounted.shape(alloc)?))
+        Some(mounted.has_shape())
     } else {
-        Ok(None)
+        None
     }
 }
 
@@ -136,7 +136,7 @@ fn put_mounted<T: Sink>(
     ensures { PutsMounted asked mounted.now (change_of T.Sink sink.old sink.new) result }
 {
     let dangling = mounted.dangling(alloc)?;
-    let shape = shape_if(alloc, mounted, asked)?;
+    let shape = shape_if(mounted, asked);
     put_ok(sink, mounted.read_only())?;
     put_all_dangling(sink, &dangling)?;
     put_shape(sink, shape)?;
@@ -167,7 +167,7 @@ fn put_verdict<T: Sink>(
 /// mount was refused, an entry dangles, or the shape is broken.
 ///
 /// `Mount(OutOfMemory)`: memory ran out in the mount, which is no verdict. `OutOfMemory`: for the
-/// list of the dangling entries, or for the shape. Nothing was put then.
+/// list of the dangling entries. Nothing was put then.
 pub fn verdict_lines<E: Order, T: Sink>(
     alloc: Global,
     image: &[u8],

@@ -47,7 +47,7 @@ returns-in_err-put_shape g c =
     (subst (λ (b : Bool). Appends (g.T.Sink.taken c.args.sink.now) (g.T.Sink.taken c.put_ok.new.sink) (ok_line b)) c.read_only.ensures put.0)
     (part_behind _ (g.T.Sink.taken c.put_all_dangling.new.sink) _ (flat_map dangling_line (dangling m.state)) (shape_text (shape_if c.args.asked m))
     (subst (λ (l : List ℕ). Appends (g.T.Sink.taken c.put_ok.new.sink) (g.T.Sink.taken c.put_all_dangling.new.sink) l) lines next.0)
-    (subst (λ (o : Option Bool). PutsPart (g.T.Sink.taken c.put_all_dangling.new.sink) (g.T.Sink.taken c.put_shape.new.sink) (shape_text o)) c.in_ok-shape.ensures last.0)))
+    (subst (λ (o : Option Bool). PutsPart (g.T.Sink.taken c.put_all_dangling.new.sink) (g.T.Sink.taken c.put_shape.new.sink) (shape_text o)) c.shape_if-shape.ensures last.0)))
     (last.1 ∙ ap next_count (next.1 ∙ put.1))
 
 pub returns : goal.returns
@@ -60,11 +60,11 @@ returns g c =
     ∙ ap (flat_map dangling_line) c.in_ok-dangling.ensures in
     let len = ap (λ (l : List (ℕ × List ℕ × ℕ)). length l) c.in_ok-dangling.ensures in
     let same : not c.is_empty.result ≡ is_dangling m = grind (arith, common_steps, len, c.is_empty.ensures) in (
-      c.is_wrong.ensures ∙ ap (λ (b : Bool). b || is_broken c.in_ok-shape.shape) same ∙ ap (λ (o : Option Bool). is_dangling m || is_broken o) c.in_ok-shape.ensures,
+      c.is_wrong.ensures ∙ ap (λ (b : Bool). b || is_broken c.shape_if-shape.result) same ∙ ap (λ (o : Option Bool). is_dangling m || is_broken o) c.shape_if-shape.ensures,
       Appends-trans _ (g.T.Sink.taken c.put_ok.new.sink) _ (ok_line m.read_only) (flat_map dangling_line (dangling m.state) ++ shape_text (shape_if c.args.asked m))
           (subst (λ (b : Bool). Appends (g.T.Sink.taken c.args.sink.now) (g.T.Sink.taken c.put_ok.new.sink) (ok_line b)) c.read_only.ensures put.0)
           (Appends-trans _ (g.T.Sink.taken c.put_all_dangling.new.sink) _ (flat_map dangling_line (dangling m.state)) (shape_text (shape_if c.args.asked m))
           (subst (λ (l : List ℕ). Appends (g.T.Sink.taken c.put_ok.new.sink) (g.T.Sink.taken c.put_all_dangling.new.sink) l) lines next.0)
-          (subst (λ (o : Option Bool). Appends (g.T.Sink.taken c.put_all_dangling.new.sink) (g.T.Sink.taken c.put_shape.new.sink) (shape_text o)) c.in_ok-shape.ensures last.0)),
+          (subst (λ (o : Option Bool). Appends (g.T.Sink.taken c.put_all_dangling.new.sink) (g.T.Sink.taken c.put_shape.new.sink) (shape_text o)) c.shape_if-shape.ensures last.0)),
       last.1 ∙ next.1 ∙ put.1,
     )
