@@ -9,7 +9,7 @@ ghost use Rattle.jlog.specs.Running.{written, CanWriteAll, CanWriteIn};
 use crate::node::node_len;
 use crate::place::place_of;
 use flashbase::pad4;
-use jnode::Order;
+use jnode::{MARKER_LEN, Order};
 use jscan::GREATEST_IMAGE;
 use jsteps::{Index, Step};
 

@@ -30,9 +30,9 @@ returns g c =
     c.in_ok-sound.ensures ∙ ap (λ (im : List ℕ). filter (is_kept numbers) (stretches e size im)) c.image-image.ensures in
     let right : AreHidden e m (stretches e size m.image) hidden damaged =
     all_whole e m numbers hidden (stretches e size m.image) damaged numbered (right_of e m hidden _ _ _ _ sound c.deref-2.ensures.value c.in_ok-hidden.ensures) in
-    let first = nodes_told e c.in_ok-ways.ways.mounted.now m hidden c.deref-3.result.now damaged c.args.text.now c.push_nodes.new.text c.in_ok-ways.ensures.image c.deref-3.ensures.value c.in_ok-paths.ensures.text in
-    let second = missing_told c.in_ok-ways.ways.mounted.now m c.deref-4.result.now missing c.push_nodes.new.text c.push_all_missing.new.text c.in_ok-ways.ensures.image c.deref-4.ensures.value c.in_ok-push_all_missing.ensures in
-    let paths = counted_paths e c.in_ok-ways.ways.mounted.now m hidden c.deref-3.result.now damaged c.in_ok-paths.paths c.in_ok-ways.ensures.image c.deref-3.ensures.value c.in_ok-paths.ensures.count in
+    let first = nodes_told e c.in_ok-ways.ways.mounted.now m hidden c.deref-4.result.now damaged c.args.text.now c.push_nodes.new.text c.in_ok-ways.ensures.image c.deref-4.ensures.value c.in_ok-paths.ensures.text in
+    let second = missing_told c.in_ok-ways.ways.mounted.now m c.deref-5.result.now missing c.push_nodes.new.text c.push_all_missing.new.text c.in_ok-ways.ensures.image c.deref-5.ensures.value c.in_ok-push_all_missing.ensures in
+    let paths = counted_paths e c.in_ok-ways.ways.mounted.now m hidden c.deref-4.result.now damaged c.in_ok-paths.paths c.in_ok-ways.ensures.image c.deref-4.ensures.value c.in_ok-paths.ensures.count in
     let all = counted e size m numbers hidden damaged missing totals are right c.in_ok-missing.ensures (c.len.ensures ∙ c.in_ok-damaged.damaged.ok.0) paths (c.len-2.ensures ∙ c.in_ok-missing.missing.ok.0) in
     record {
       text = all_told e size m numbers hidden damaged missing totals c.args.text.now c.push_nodes.new.text c.push_all_missing.new.text c.push_totals.new.text are right c.in_ok-missing.ensures all first second c.in_ok-push_totals.ensures;
@@ -41,8 +41,8 @@ returns g c =
 
 pub push_nodes-requires-clause-numbers : goal.push_nodes-requires-clause-numbers
 push_nodes-requires-clause-numbers g c =
-    have_numbers g.E.Order.order c.image-image.result.now c.in_ok-ways.ways.mounted.now.image c.in_ok-numbers.numbers c.in_ok-ways.ways.numbers.now c.deref.result.now c.deref-3.result.now
-    (c.image-image.ensures ∙ ap (λ (m : Mount). m.image) (sym c.in_ok-ways.ensures.image)) (sym c.in_ok-ways.ensures.numbers) (c.deref.ensures.value ∙ sym c.deref-3.ensures.value) c.in_ok-numbers.ensures
+    have_numbers g.E.Order.order c.image-image.result.now c.in_ok-ways.ways.mounted.now.image c.in_ok-numbers.numbers c.in_ok-ways.ways.numbers.now c.deref.result.now c.deref-4.result.now
+    (c.image-image.ensures ∙ ap (λ (m : Mount). m.image) (sym c.in_ok-ways.ensures.image)) (sym c.in_ok-ways.ensures.numbers) (c.deref.ensures.value ∙ sym c.deref-4.ensures.value) c.in_ok-numbers.ensures
 
 pub returns-then-is_empty-2-clause-text : goal.returns-then-is_empty-2-clause-text
 returns-then-is_empty-2-clause-text g c =
