@@ -11,7 +11,7 @@ pub returns-in_err-visit : goal.returns-in_err-visit
 returns-in_err-visit g c =
     let fault = c.in_err-visit.field-0.0 in
     tree_failed c.args.mounted.now.state (map (λ n. n.now) c.args.path.items, c.args.ino) (g.T.Sink.taken c.args.sink.now) (g.T.Sink.taken c.visit.new.sink) (g.T.Sink.failures c.args.sink.now) (g.T.Sink.failures c.visit.new.sink)
-    c.from_residual-in_err-visit.result fault c.from_residual-in_err-visit.ensures.1
+    c.from_residual.result fault c.from_residual.ensures.1
     (first_failed (Unit {0}) c.args.mounted.now.state (map (λ n. n.now) c.args.path.items, c.args.ino) c.new-met.result c.visit.new.met fault (g.T.Sink.taken c.args.sink.now) (g.T.Sink.taken c.visit.new.sink)
     (g.T.Sink.failures c.args.sink.now) (g.T.Sink.failures c.visit.new.sink) c.new-met.ensures.0
     (visit_at c.args.mounted.now.state c.new-met.result c.visit.new.met _ (map (λ n. n.now) c.args.path.items) c.args.ino _ _ _ _ (Err fault)
