@@ -6,42 +6,61 @@
 # the processor time of the two went, crate by crate in minutes, and 'N passed, M failed'.
 set -uo pipefail
 cd "$(dirname "$0")/.."
-log=$(mktemp)
+logs=$(mktemp -d)
 times=$(mktemp)
 copy=$(mktemp -d)
-trap 'rm -rf "$log" "$times" "$copy"' EXIT
+trap 'rm -rf "$logs" "$times" "$copy"' EXIT
 passed=0
 failed=0
 
-# Runs a suite, and adds the counts of each line 'N passed, M failed' that it prints.
-suite() {
-  "$@" 2>&1 | tee "$log"
-  local status=$? good bad
+# Adds the counts of each line 'N passed, M failed' of a suite's log. One that has none of them failed, and so did one that ended
+# with another status than 0 though nothing is said to have failed.
+count() {
+  local log=$1 status=$2 good bad
   read -r good bad < <(awk '/^[0-9]+ passed, [0-9]+ failed$/ { good += $1; bad += $3; n++ } END { print good + 0, n ? bad + 0 : 1 }' "$log")
   [ "$status" -eq 0 ] || [ "$bad" -gt 0 ] || bad=1
   passed=$((passed + good))
   failed=$((failed + bad))
 }
 
+# Runs the suites of these lines, as many at a time as there are processors. What each wrote is printed at the end.
+together() {
+  local line suites=0
+  while read -r line; do
+    ($line > "$logs/$suites" 2>&1; echo $? > "$logs/$suites.status") &
+    suites=$((suites + 1))
+    while [ "$(jobs -rp | wc -l)" -ge "$(nproc)" ]; do wait -n; done
+  done
+  wait
+  for ((it = 0; it < suites; it++)); do
+    cat "$logs/$it"
+    count "$logs/$it" "$(cat "$logs/$it.status")"
+  done
+}
+
 tar -c --exclude=./.git --exclude=out --exclude=must-fail --exclude='./crates/bench_*' . | tar -x -C "$copy"
 sed -i '/^bench_/d' "$copy/crates.txt"
-suite tests/gate_clock.py "$times" tests/edits.py --with-ci --built "$copy"
-suite tests/growths.py --built "$copy"
-suite tests/trace.py
-suite tests/form.py
-suite tests/completions.py
-suite tests/quick.sh "$copy/crates/jffs2_image/out/jffs2_image"
-suite tests/commands.py --try "$copy/crates/jffs2_image/out/jffs2_image"
-suite tests/program.sh "$copy/crates/jffs2_image/out/jffs2_image"
-suite tests/listings.py "$copy/crates/jffs2_image/out/jffs2_image"
-suite tests/cuts.py "$copy/crates/jffs2_image/out/jffs2_image"
-suite tests/decompress.sh "$copy/crates/jffs2_image/out/jffs2_image"
-suite tests/placing.sh "$copy/crates/jffs2_image/out/jffs2_image"
-suite tests/hostile.py "$copy/crates/jffs2_image/out/jffs2_image"
-suite tests/folders.py "$copy/crates/jffs2_image/out/jffs2_image"
-suite tests/clashes.py "$copy/crates/jffs2_image/out/jffs2_image"
-suite tests/damage.py "$copy/crates/jffs2_image/out/jffs2_image"
-suite tests/diff.py "$copy/crates/jffs2_image/out/jffs2_image"
+tests/gate_clock.py "$times" tests/edits.py --with-ci --built "$copy" 2>&1 | tee "$logs/proofs"
+count "$logs/proofs" "${PIPESTATUS[0]}"
+program="$copy/crates/jffs2_image/out/jffs2_image"
+together <<SUITES
+tests/hostile.py $program
+tests/decompress.sh $program
+tests/program.sh $program
+tests/growths.py --built $copy
+tests/cuts.py $program
+tests/folders.py $program
+tests/clashes.py $program
+tests/damage.py $program
+tests/diff.py $program
+tests/placing.sh $program
+tests/listings.py $program
+tests/commands.py --try $program
+tests/quick.sh $program
+tests/completions.py
+tests/trace.py
+tests/form.py
+SUITES
 cat "$times"
 echo "$passed passed, $failed failed"
 [ "$failed" -eq 0 ]
