@@ -23,31 +23,27 @@ count() {
   failed=$((failed + bad))
 }
 
-# Runs the suites of these lines, as many at a time as there are processors. What each wrote is printed at the end.
-together() {
-  local line suites=0
-  while read -r line; do
-    ($line > "$logs/$suites" 2>&1; echo $? > "$logs/$suites.status") &
-    suites=$((suites + 1))
-    while [ "$(jobs -rp | wc -l)" -ge "$(nproc)" ]; do wait -n; done
-  done
-  wait
-  for ((it = 0; it < suites; it++)); do
-    cat "$logs/$it"
-    count "$logs/$it" "$(cat "$logs/$it.status")"
-  done
+# Runs a suite where the proofs leave time, and keeps what it wrote and how it ended.
+suite() {
+  local log=$logs/${1##*/}
+  nice -n 10 "$@" > "$log" 2>&1
+  echo $? > "$log.status"
 }
 
 tar -c --exclude=./.git --exclude=out --exclude=must-fail --exclude='./crates/bench_*' . | tar -x -C "$copy"
 sed -i '/^bench_/d' "$copy/crates.txt"
-tests/gate_clock.py "$times" tests/edits.py --with-ci --built "$copy" 2>&1 | tee "$logs/proofs"
-count "$logs/proofs" "${PIPESTATUS[0]}"
 program="$copy/crates/jffs2_image/out/jffs2_image"
-together <<SUITES
+: > "$logs/proofs"
+(tests/gate_clock.py "$times" tests/edits.py --with-ci --built "$copy" 2>&1 | tee "$logs/proofs"; exit "${PIPESTATUS[0]}") &
+proofs=$!
+# the program is made long before the last proof is
+until grep -q '^rt: jffs2_image \(proved$\|is kept: \)' "$logs/proofs" || ! kill -0 $proofs 2> "$logs/gone"; do sleep 1; done
+export logs
+export -f suite
+xargs -P "$(nproc)" -L 1 bash -c 'suite "$@"' suite <<SUITES
 tests/hostile.py $program
 tests/decompress.sh $program
 tests/program.sh $program
-tests/growths.py --built $copy
 tests/cuts.py $program
 tests/folders.py $program
 tests/clashes.py $program
@@ -61,6 +57,13 @@ tests/completions.py
 tests/trace.py
 tests/form.py
 SUITES
+wait $proofs
+count "$logs/proofs" $?
+suite tests/growths.py --built "$copy"
+for status in "$logs"/*.status; do
+  cat "${status%.status}"
+  count "${status%.status}" "$(cat "$status")"
+done
 cat "$times"
 echo "$passed passed, $failed failed"
 [ "$failed" -eq 0 ]

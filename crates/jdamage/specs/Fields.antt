@@ -3,6 +3,7 @@
 use Rattle.std.specs.Prelude.{ℕ, ◌+◌, List, ◌++◌, take, drop, filter_map, Option, Some, None}
 use Rattle.flashbase.specs.Bytes.{erased}
 use Rattle.jnode.specs.Order.{number_at}
+use Rattle.jnode.specs.Reading.{inode_len}
 use Rattle.jnode.specs.declared.order.Endian.{Endian}
 use Rattle.jnode.specs.declared.node.Damage.{Damage}
 use Rattle.jnode.specs.declared.node.InodeNode.{InodeNode}
@@ -14,7 +15,7 @@ use Rattle.jdamage.specs.declared.fields.Loss.{Loss}
 
 -- the bytes in front of a node's data: 68 from its address on; what the image lacks is erased
 unfoldable pub node_front : List ℕ → ℕ → List ℕ
-node_front image addr = take 68 (drop addr image ++ erased 68)
+node_front image addr = take inode_len (drop addr image ++ erased inode_len)
 
 -- the 32-bit number at a place of the node at an address
 abbrev pub field_at : Endian → List ℕ → ℕ → ℕ → ℕ

@@ -3,6 +3,7 @@
 ghost use Rattle.std.specs.Prelude.{◌≡◌, ◌+◌, ◌≤◌, ◌^◌, ◌<◌, length};
 ghost use Rattle.jscan.specs.Image.{greatest_image};
 ghost use Rattle.jnode.specs.Order.{number_at};
+ghost use Rattle.jnode.specs.Reading.{inode_len};
 ghost use Rattle.jdamage.specs.Fields.{loss_at, node_front, stretch_at, stretch_of};
 
 use flashbase::Part;
@@ -52,7 +53,7 @@ fn node_front(image: &[u8], addr: u32) -> [u8; INODE_LEN]
 
 /// The number at a place of a node.
 fn field<E: Order>(front: &[u8; INODE_LEN], place: usize) -> u32
-    requires { place + 4 ≤ 68 }
+    requires { place + 4 ≤ inode_len }
     ensures { result ≡ number_at E.order 4 place front.now }
 {
     E::read_u32(&front[place..])

@@ -111,8 +111,8 @@ impl<'m, 'a> Ways<'m, 'a> {
         group(&self.names, ino)
     }
 
-    /// The first name of a directory. Of one that is on no way that was gone up, which none is that
-    /// `dirs` led to, it is looked for among all names.
+    /// The first name of a directory. It is kept for the directories on the ways up; for any other
+    /// directory, all names are searched.
     fn first_name(&self, dir: u32) -> Option<Name<'m>>
         ensures { option_map name_held result ≡ first_name self.now.mounted.now.state dir }
     {

@@ -1,6 +1,7 @@
 //! The node that a sighted tile gives.
 
 ghost use Rattle.std.specs.Prelude.{◌≡◌, ◌≤◌, ◌+◌, ℕ, [], None, Some, IfOk, IfErr, OnOk, IsTrue, Contains, length, option_map, unwrap_or};
+ghost use Rattle.jnode.specs.Reading.{inode_len};
 ghost use Rattle.jnode.specs.Writing.{stored_bytes};
 ghost use Rattle.jnode.specs.declared.node.NodeRef.TheVariants as node;
 ghost use Rattle.jscan.specs.Image.{is_block_size, sightings};
@@ -46,7 +47,7 @@ fn placed_len(
     len: usize,
 ) -> Result<Option<u32>, ConvertFault>
     requires readable { IsTrue (is_block_size geometry.block) }
-    requires front { front ≤ 68 }
+    requires front { front ≤ inode_len }
     ensures ok { OnOk result (too_long geometry.block addr (front + len) ≡ None) }
     ensures len { IfOk result (λ found. found ≡ Some (front + len)) }
     ensures err { IfErr result (λ fault. too_long geometry.block addr (front + len) ≡ Some fault) }

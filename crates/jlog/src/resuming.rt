@@ -7,7 +7,7 @@ ghost use Rattle.jlog.specs.Resuming.{resumes_at, page_fits};
 
 use crate::fault::SessionFault;
 use jmount::Mounted;
-use jnode::Order;
+use jnode::{INODE_LEN, MARKER_LEN, Order};
 use jscan::{GREATEST_IMAGE, Geometry, Page, blank_from};
 
 /// The least size of a block that is written, in bytes.
@@ -57,5 +57,5 @@ pub fn resume_at<E: Order>(
 pub fn page_fits(geometry: Geometry, page: Page) -> bool
     ensures { result ≡ page_fits geometry.block page }
 {
-    page.size() + 80 <= geometry.block
+    page.size() + (MARKER_LEN + INODE_LEN) as u32 <= geometry.block
 }

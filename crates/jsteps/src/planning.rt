@@ -26,7 +26,7 @@ use crate::site::{end_of, is_one_entry, look_up, look_up_both, meets_above, reac
 use crate::step::Step;
 use crate::text::Text;
 use flashbase::Part;
-use jmount::{DIRECTORY_BITS, GREATEST_TARGET};
+use jmount::{DIRECTORY_BITS, FIFO_BITS, GREATEST_TARGET, REGULAR_BITS, SOCKET_BITS, SYMLINK_BITS};
 use jscan::Page;
 use std::alloc::{AllocError, Global};
 
@@ -71,14 +71,40 @@ fn clear_name<'a>(time: u32, directory: u32, name: &'a [u8]) -> Step<'a>
     }
 }
 
-fn make_object<'a>(time: u32, mode: u32, uid: u16, gid: u16, target: &'a [u8]) -> Step<'a>
-    ensures { result ≡ step.MakeObject time mode uid gid target.now }
+/// When an object is made, with which permission bits of its mode, and its owners.
+#[derive(Clone, Copy)]
+struct Origin {
+    time: u32,
+    mode: u32,
+    uid: u16,
+    gid: u16,
+}
+
+impl Origin {
+    fn of(time: u32, mode: u32, uid: u16, gid: u16) -> Origin
+        ensures { result ≡ record { time = time; mode = mode; uid = uid; gid = gid } }
+    {
+        Origin {
+            time,
+            mode,
+            uid,
+            gid,
+        }
+    }
+}
+
+/// An object of a kind that these mode bits say.
+fn make_object<'a>(kind: u32, origin: Origin, target: &'a [u8]) -> Step<'a>
+    requires kind { kind ≤ 0o170000 }
+    requires mode { origin.mode ≤ 0o7777 }
+    ensures { result ≡ step.MakeObject origin.time (kind + origin.mode) origin.uid origin.gid
+        target.now }
 {
     Step::MakeObject {
-        time,
-        mode,
-        uid,
-        gid,
+        time: origin.time,
+        mode: kind + origin.mode,
+        uid: origin.uid,
+        gid: origin.gid,
         target: Part::new(target, 0),
     }
 }
@@ -305,31 +331,29 @@ fn replace<'a>(
 fn make<'a>(
     alloc: Global,
     index: &Index,
-    time: u32,
     path: &'a [u8],
     kind: u32,
-    mode: u32,
-    uid: u16,
-    gid: u16,
+    origin: Origin,
     target: &'a [u8],
     is_bad_target: bool,
 ) -> Result<Vec<Step<'a>>, OpFault>
     requires { kind ≤ 0o170000 }
-    ensures { GivesPlan result (made_plan index.now time path.now
-        (new_of kind mode uid gid target.now) is_bad_target) }
+    ensures { GivesPlan result (made_plan index.now origin.time path.now
+        (new_of kind origin.mode origin.uid origin.gid target.now) is_bad_target) }
 {
     let Some(site) = look_up(alloc, index, path)? else {
         return Err(OpFault::BadPath);
     };
     let directory = end_of(site.above);
-    if let Some(fault) = tests_of_new(index, &site, mode > PERMISSIONS, is_bad_target).first() {
+    let is_bad_mode = origin.mode > PERMISSIONS;
+    if let Some(fault) = tests_of_new(index, &site, is_bad_mode, is_bad_target).first() {
         return Err(fault);
     }
     if is_full(index, directory) {
         return Err(OpFault::Exhausted);
     }
-    let made = make_object(time, kind + mode, uid, gid, target);
-    let set = set_name(time, directory, site.last, index.next() as u32);
+    let made = make_object(kind, origin, target);
+    let set = set_name(origin.time, directory, site.last, index.next() as u32);
     Ok(two(alloc, made, set)?)
 }
 
@@ -342,49 +366,19 @@ fn is_full(index: &Index, directory: u32) -> bool
     next > u32::MAX as u64 || u64::from(directory) != next && is_spent(index, directory, 1)
 }
 
-/// A new object that has no data, of a kind that these mode bits say.
-fn make_plain<'a>(
-    alloc: Global,
-    index: &Index,
-    time: u32,
-    path: &'a [u8],
-    kind: u32,
-    mode: u32,
-    uid: u16,
-    gid: u16,
-) -> Result<Vec<Step<'a>>, OpFault>
-    requires { kind ≤ 0o170000 }
-    ensures { GivesPlan result
-        (made_plan index.now time path.now (new_of kind mode uid gid []) false) }
-{
-    let target = b"".as_slice();
-    make(
-        alloc, index, time, path, kind, mode, uid, gid, target, false,
-    )
-}
-
-/// What a new file has besides its path and its bytes: the permission bits of its mode, and its
-/// owners.
-#[derive(Clone, Copy)]
-struct NewFile {
-    time: u32,
-    mode: u32,
-    uid: u16,
-    gid: u16,
-}
-
 /// A new file with bytes.
 fn file<'a>(
     alloc: Global,
     page: u32,
     index: &Index,
     path: &'a Text<'_>,
-    new: NewFile,
+    origin: Origin,
     bytes: &'a Text<'_>,
 ) -> Result<Vec<Step<'a>>, OpFault>
     requires { IsPage page }
     ensures { GivesPlan result
-        (planned_by page index.now (op.File new.time path.now new.mode new.uid new.gid bytes.now)) }
+        (planned_by page index.now
+        (op.File origin.time path.now origin.mode origin.uid origin.gid bytes.now)) }
 {
     let bytes = bytes.as_slice();
     let Some(site) = look_up(alloc, index, path.as_slice())? else {
@@ -392,7 +386,7 @@ fn file<'a>(
     };
     let directory = end_of(site.above);
     let is_too_large = bytes.len() > GREATEST as usize;
-    let is_bad_mode = new.mode > PERMISSIONS;
+    let is_bad_mode = origin.mode > PERMISSIONS;
     if let Some(fault) = tests_of_new_file(index, &site, is_too_large, is_bad_mode).first() {
         return Err(fault);
     }
@@ -400,8 +394,8 @@ fn file<'a>(
         return Err(OpFault::Exhausted);
     }
     let next = index.next() as u32;
-    let set = set_name(new.time, directory, site.last, next);
-    Ok(make_named(alloc, page, next, new, bytes, set)?)
+    let set = set_name(origin.time, directory, site.last, next);
+    Ok(make_named(alloc, page, next, origin, bytes, set)?)
 }
 
 /// A new file with bytes, which is named last, by this step.
@@ -409,22 +403,22 @@ fn make_named<'a>(
     alloc: Global,
     page: u32,
     ino: u32,
-    new: NewFile,
+    origin: Origin,
     bytes: &'a [u8],
     set: Step<'a>,
 ) -> Result<Vec<Step<'a>>, AllocError>
     requires page { IsPage page }
-    requires mode { new.mode ≤ 0o7777 }
+    requires mode { origin.mode ≤ 0o7777 }
     requires end { length bytes.now ≤ 2147483647 }
-    ensures { IfOk result (λ steps. steps.items ≡ bytes_steps page ino new.time
-        (0o100000 + new.mode) new.uid new.gid bytes.now ++ set.entry ∷ []) }
+    ensures { IfOk result (λ steps. steps.items ≡ bytes_steps page ino origin.time
+        (0o100000 + origin.mode) origin.uid origin.gid bytes.now ++ set.entry ∷ []) }
 {
     let len = first_len(page, bytes.len());
     let (first, rest) = bytes.split_at(len);
-    let made = make_object(new.time, 0o100000 + new.mode, new.uid, new.gid, first);
+    let made = make_object(REGULAR_BITS, origin, first);
     let mut steps = one(alloc, made)?;
     let end = len as u32;
-    push_write(&mut steps, page, new.time, ino, end, end, rest)?;
+    push_write(&mut steps, page, origin.time, ino, end, end, rest)?;
     steps.push(set)?;
     Ok(steps)
 }
@@ -433,22 +427,16 @@ fn make_named<'a>(
 fn device<'a>(
     alloc: Global,
     index: &Index,
-    time: u32,
     path: &'a [u8],
     kind: DeviceKind,
-    mode: u32,
-    uid: u16,
-    gid: u16,
+    origin: Origin,
     number: &'a DeviceNumber,
 ) -> Result<Vec<Step<'a>>, OpFault>
-    ensures { (page : ℕ) → GivesPlan result
-        (planned_by page index.now (op.Device time path.now kind mode uid gid number.now)) }
+    ensures { (page : ℕ) → GivesPlan result (planned_by page index.now
+        (op.Device origin.time path.now kind origin.mode origin.uid origin.gid number.now)) }
 {
     let bits = kind.mode();
-    let target = number.as_slice();
-    make(
-        alloc, index, time, path, bits, mode, uid, gid, target, false,
-    )
+    make(alloc, index, path, bits, origin, number.as_slice(), false)
 }
 
 /// Whether a symlink may not have this target.
@@ -476,9 +464,13 @@ fn symlink<'a>(
     let path = path.as_slice();
     let target = target.as_slice();
     let is_bad = is_bad_target(target);
-    make(
-        alloc, index, time, path, 0o120000, 0o777, uid, gid, target, is_bad,
-    )
+    let origin = Origin {
+        time,
+        mode: 0o777,
+        uid,
+        gid,
+    };
+    make(alloc, index, path, SYMLINK_BITS, origin, target, is_bad)
 }
 
 /// Other attributes.
@@ -516,73 +508,39 @@ fn plan_empty<'a>(alloc: Global, index: &Index, op: &'a Op<'_>) -> Result<Vec<St
     requires { IsTrue (makes_empty op.now) }
     ensures { (page : ℕ) → GivesPlan result (planned_by page index.now op.now) }
 {
-    match op {
+    let (kind, path, origin) = match op {
         Op::Mkdir {
             time,
             path,
             mode,
             uid,
             gid,
-        } => make_plain(
-            alloc,
-            index,
-            *time,
-            path.as_slice(),
-            0o040000,
-            *mode,
-            *uid,
-            *gid,
-        ),
+        } => (DIRECTORY_BITS, path, Origin::of(*time, *mode, *uid, *gid)),
         Op::Create {
             time,
             path,
             mode,
             uid,
             gid,
-        } => make_plain(
-            alloc,
-            index,
-            *time,
-            path.as_slice(),
-            0o100000,
-            *mode,
-            *uid,
-            *gid,
-        ),
+        } => (REGULAR_BITS, path, Origin::of(*time, *mode, *uid, *gid)),
         Op::Fifo {
             time,
             path,
             mode,
             uid,
             gid,
-        } => make_plain(
-            alloc,
-            index,
-            *time,
-            path.as_slice(),
-            0o010000,
-            *mode,
-            *uid,
-            *gid,
-        ),
+        } => (FIFO_BITS, path, Origin::of(*time, *mode, *uid, *gid)),
         Op::Socket {
             time,
             path,
             mode,
             uid,
             gid,
-        } => make_plain(
-            alloc,
-            index,
-            *time,
-            path.as_slice(),
-            0o140000,
-            *mode,
-            *uid,
-            *gid,
-        ),
+        } => (SOCKET_BITS, path, Origin::of(*time, *mode, *uid, *gid)),
         _ => unreachable!(),
-    }
+    };
+    let target = b"".as_slice();
+    make(alloc, index, path.as_slice(), kind, origin, target, false)
 }
 
 /// The plan of an operation that makes an object whose data say what it stands for.
@@ -599,17 +557,10 @@ fn plan_special<'a>(alloc: Global, index: &Index, op: &'a Op<'_>) -> Result<Vec<
             uid,
             gid,
             number,
-        } => device(
-            alloc,
-            index,
-            *time,
-            path.as_slice(),
-            *kind,
-            *mode,
-            *uid,
-            *gid,
-            number,
-        ),
+        } => {
+            let origin = Origin::of(*time, *mode, *uid, *gid);
+            device(alloc, index, path.as_slice(), *kind, origin, number)
+        }
         Op::Symlink {
             time,
             path,
@@ -641,13 +592,8 @@ fn plan_bytes<'a>(
             gid,
             bytes,
         } => {
-            let new = NewFile {
-                time: *time,
-                mode: *mode,
-                uid: *uid,
-                gid: *gid,
-            };
-            file(alloc, page, index, path, new, bytes)
+            let origin = Origin::of(*time, *mode, *uid, *gid);
+            file(alloc, page, index, path, origin, bytes)
         }
         Op::Write {
             time,

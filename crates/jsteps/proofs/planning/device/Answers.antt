@@ -14,6 +14,6 @@ make-requires c =
 pub returns : goal.returns
 returns c = λ page.
     given_as _ _ _ c.make.ensures
-    (device_made page c.args.index.now c.args.time c.args.path.now c.args.kind c.args.mode c.args.uid c.args.gid c.args.number.now
-    ∙ ap (λ (bits : ℕ). made_plan c.args.index.now c.args.time c.args.path.now (new_of bits c.args.mode c.args.uid c.args.gid c.args.number.now) false) (sym c.mode-bits.ensures)
-    ∙ ap (λ (target : List ℕ). made_plan c.args.index.now c.args.time c.args.path.now (new_of c.mode-bits.result c.args.mode c.args.uid c.args.gid target) false) (sym c.as_slice-target.ensures))
+    (device_made page c.args.index.now c.args.origin.time c.args.path.now c.args.kind c.args.origin.mode c.args.origin.uid c.args.origin.gid c.args.number.now
+    ∙ ap (λ (bits : ℕ). made_plan c.args.index.now c.args.origin.time c.args.path.now (new_of bits c.args.origin.mode c.args.origin.uid c.args.origin.gid c.args.number.now) false) (sym c.mode-bits.ensures)
+    ∙ ap (λ (target : List ℕ). made_plan c.args.index.now c.args.origin.time c.args.path.now (new_of c.mode-bits.result c.args.origin.mode c.args.origin.uid c.args.origin.gid target) false) (sym c.as_slice.ensures))
