@@ -22,6 +22,7 @@ use Rattle.jsteps.specs.declared.fault.OpFault.{OpFault}
 use Rattle.jsteps.specs.declared.fault.OpFault.TheVariants as refused
 use Rattle.jsteps.specs.declared.op.Op.{Op}
 use Rattle.jsteps.specs.declared.op.Op.TheVariants as op
+use Rattle.jsteps.specs.declared.planning.Origin.{Origin}
 use Rattle.jsteps.specs.declared.refusal.Tests.{Tests}
 use Rattle.jsteps.specs.declared.site.Site.{Site}
 use Rattle.jsteps.specs.declared.step.Step.{Step}
@@ -247,6 +248,16 @@ symlink_made page x time path link uid gid =
   where
     same : (bad : Bool) → tests_of x.tree (op.Symlink time path link uid gid) ≡ made_tests x.tree (is_long path) (above x.tree path) (number_there x.tree path) false (is_bad_target (op.Symlink time path link uid gid))
     same bad = simp (or_none) refl
+
+-- the plan of an object without data, by what its kind, path and origin are
+pub given_by : (r : Result (Vec Step Global) OpFault) (q : Result (List Step) OpFault) (x : Indexed) (k kind : ℕ) (p path t : List ℕ) (o origin : Origin)
+    → GivesPlan r (made_plan x o.time p (new_of k o.mode o.uid o.gid t) false) → k ≡ kind → p ≡ path → t ≡ [] → o ≡ origin
+    → q ≡ made_plan x origin.time path (new_of kind origin.mode origin.uid origin.gid []) false → GivesPlan r q
+given_by r q x k kind p path t o origin g ek ep et eo e =
+    subst (GivesPlan r) (sym e) (subst (λ (o : Origin). GivesPlan r (made_plan x o.time path (new_of kind o.mode o.uid o.gid []) false)) eo
+    (subst (λ (t : List ℕ). GivesPlan r (made_plan x o.time path (new_of kind o.mode o.uid o.gid t) false)) et
+    (subst (λ (p : List ℕ). GivesPlan r (made_plan x o.time p (new_of kind o.mode o.uid o.gid t) false)) ep
+    (subst (λ (k : ℕ). GivesPlan r (made_plan x o.time p (new_of k o.mode o.uid o.gid t) false)) ek g))))
 
 pub given_as : (r : Result (Vec Step Global) OpFault) (p q : Result (List Step) OpFault) → GivesPlan r p → q ≡ p → GivesPlan r q
 given_as r p q g e = subst (GivesPlan r) (sym e) g

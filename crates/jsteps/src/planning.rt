@@ -415,7 +415,7 @@ fn make_named<'a>(
 {
     let len = first_len(page, bytes.len());
     let (first, rest) = bytes.split_at(len);
-    let made = make_object(REGULAR_BITS, origin, first);
+    let made = make_object(0o100000, origin, first);
     let mut steps = one(alloc, made)?;
     let end = len as u32;
     push_write(&mut steps, page, origin.time, ino, end, end, rest)?;
@@ -470,7 +470,7 @@ fn symlink<'a>(
         uid,
         gid,
     };
-    make(alloc, index, path, SYMLINK_BITS, origin, target, is_bad)
+    make(alloc, index, path, 0o120000, origin, target, is_bad)
 }
 
 /// Other attributes.
@@ -515,28 +515,28 @@ fn plan_empty<'a>(alloc: Global, index: &Index, op: &'a Op<'_>) -> Result<Vec<St
             mode,
             uid,
             gid,
-        } => (DIRECTORY_BITS, path, Origin::of(*time, *mode, *uid, *gid)),
+        } => (0o040000, path, Origin::of(*time, *mode, *uid, *gid)),
         Op::Create {
             time,
             path,
             mode,
             uid,
             gid,
-        } => (REGULAR_BITS, path, Origin::of(*time, *mode, *uid, *gid)),
+        } => (0o100000, path, Origin::of(*time, *mode, *uid, *gid)),
         Op::Fifo {
             time,
             path,
             mode,
             uid,
             gid,
-        } => (FIFO_BITS, path, Origin::of(*time, *mode, *uid, *gid)),
+        } => (0o010000, path, Origin::of(*time, *mode, *uid, *gid)),
         Op::Socket {
             time,
             path,
             mode,
             uid,
             gid,
-        } => (SOCKET_BITS, path, Origin::of(*time, *mode, *uid, *gid)),
+        } => (0o140000, path, Origin::of(*time, *mode, *uid, *gid)),
         _ => unreachable!(),
     };
     let target = b"".as_slice();

@@ -1,37 +1,26 @@
-use Rattle.std.proofs.Common.{◌∙◌, ap, sym, List, ℕ}
+use Rattle.std.proofs.Common.{◌∙◌, ap}
 use Rattle.jsteps.specs.Refusals.{planned_by}
-use Rattle.jsteps.specs.declared.op.Op.TheVariants as op
-use Rattle.jsteps.proofs.PlannedLemmas.{create_made, fifo_made, given_as, mkdir_made, socket_made}
+use Rattle.jsteps.proofs.PlannedLemmas.{create_made, fifo_made, given_by, mkdir_made, socket_made}
 use Rattle.jsteps.proofs.planning.plan_empty.Goals as goal
+use Rattle.jsteps.proofs.planning.plan_empty.Goals.{in-Mkdir, in-Create, in-Fifo, in-Socket}
 
-pub returns-in-Mkdir : goal.returns-in-Mkdir
-returns-in-Mkdir c = λ page.
-    let o = c.in-Mkdir in
-    given_as _ _ _ c.make_plain.ensures
-    (ap (planned_by page c.args.index.now) o.is
-    ∙ ap (λ (path : List ℕ). planned_by page c.args.index.now (op.Mkdir o.time path o.mode o.uid o.gid)) (sym c.as_slice.ensures)
-    ∙ mkdir_made page c.args.index.now o.time c.as_slice.result.now o.mode o.uid o.gid)
-
-pub returns-in-Create : goal.returns-in-Create
-returns-in-Create c = λ page.
-    let o = c.in-Create in
-    given_as _ _ _ c.make_plain-in-Create.ensures
-    (ap (planned_by page c.args.index.now) o.is
-    ∙ ap (λ (path : List ℕ). planned_by page c.args.index.now (op.Create o.time path o.mode o.uid o.gid)) (sym c.as_slice-in-Create.ensures)
-    ∙ create_made page c.args.index.now o.time c.as_slice-in-Create.result.now o.mode o.uid o.gid)
-
-pub returns-in-Fifo : goal.returns-in-Fifo
-returns-in-Fifo c = λ page.
-    let o = c.in-Fifo in
-    given_as _ _ _ c.make_plain-in-Fifo.ensures
-    (ap (planned_by page c.args.index.now) o.is
-    ∙ ap (λ (path : List ℕ). planned_by page c.args.index.now (op.Fifo o.time path o.mode o.uid o.gid)) (sym c.as_slice-in-Fifo.ensures)
-    ∙ fifo_made page c.args.index.now o.time c.as_slice-in-Fifo.result.now o.mode o.uid o.gid)
-
-pub returns-in-Socket : goal.returns-in-Socket
-returns-in-Socket c = λ page.
-    let o = c.in-Socket in
-    given_as _ _ _ c.make_plain-in-Socket.ensures
-    (ap (planned_by page c.args.index.now) o.is
-    ∙ ap (λ (path : List ℕ). planned_by page c.args.index.now (op.Socket o.time path o.mode o.uid o.gid)) (sym c.as_slice-in-Socket.ensures)
-    ∙ socket_made page c.args.index.now o.time c.as_slice-in-Socket.result.now o.mode o.uid o.gid)
+pub returns : goal.returns
+returns c = λ page.
+    elim c.match-op.branch [
+      | in-Mkdir w ↦ let o = w.in-Mkdir in
+          given_by c.make.result _ c.args.index.now c.match-op.kind.0 _ c.as_slice.result.now o.path c.as_slice-target.result.now c.match-op.kind.2 _ c.make.ensures
+          (ap (λ k. k.0) w.kind-is) (c.as_slice.ensures ∙ ap (λ k. k.1.now) w.kind-is) c.as_slice-target.ensures (ap (λ k. k.2) w.kind-is ∙ w.of.ensures)
+          (ap (planned_by page c.args.index.now) o.is ∙ mkdir_made page c.args.index.now o.time o.path o.mode o.uid o.gid)
+      | in-Create w ↦ let o = w.in-Create in
+          given_by c.make.result _ c.args.index.now c.match-op.kind.0 _ c.as_slice.result.now o.path c.as_slice-target.result.now c.match-op.kind.2 _ c.make.ensures
+          (ap (λ k. k.0) w.kind-is) (c.as_slice.ensures ∙ ap (λ k. k.1.now) w.kind-is) c.as_slice-target.ensures (ap (λ k. k.2) w.kind-is ∙ w.of-in-Create.ensures)
+          (ap (planned_by page c.args.index.now) o.is ∙ create_made page c.args.index.now o.time o.path o.mode o.uid o.gid)
+      | in-Fifo w ↦ let o = w.in-Fifo in
+          given_by c.make.result _ c.args.index.now c.match-op.kind.0 _ c.as_slice.result.now o.path c.as_slice-target.result.now c.match-op.kind.2 _ c.make.ensures
+          (ap (λ k. k.0) w.kind-is) (c.as_slice.ensures ∙ ap (λ k. k.1.now) w.kind-is) c.as_slice-target.ensures (ap (λ k. k.2) w.kind-is ∙ w.of-in-Fifo.ensures)
+          (ap (planned_by page c.args.index.now) o.is ∙ fifo_made page c.args.index.now o.time o.path o.mode o.uid o.gid)
+      | in-Socket w ↦ let o = w.in-Socket in
+          given_by c.make.result _ c.args.index.now c.match-op.kind.0 _ c.as_slice.result.now o.path c.as_slice-target.result.now c.match-op.kind.2 _ c.make.ensures
+          (ap (λ k. k.0) w.kind-is) (c.as_slice.ensures ∙ ap (λ k. k.1.now) w.kind-is) c.as_slice-target.ensures (ap (λ k. k.2) w.kind-is ∙ w.of-in-Socket.ensures)
+          (ap (planned_by page c.args.index.now) o.is ∙ socket_made page c.args.index.now o.time o.path o.mode o.uid o.gid)
+    ]
