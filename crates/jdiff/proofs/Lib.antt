@@ -7,6 +7,8 @@ pub mod OrderLemmas
 pub mod PairLemmas
 pub mod PairedLemmas
 pub mod PlaceLemmas
+pub mod ReachLemmas
+pub mod SideLemmas
 pub mod SpotLemmas
 pub mod StepLemmas
 pub mod UniqueLemmas

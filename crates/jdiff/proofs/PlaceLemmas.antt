@@ -29,7 +29,7 @@ left_item spot = option_map (λ i. (spot.0, i)) spot.1
 abbrev pub right_item : Spot → Option Item
 right_item spot = option_map (λ i. (spot.0, i)) spot.2
 
-abbrev item_below : List (List ℕ) → List ℕ × ℕ → Item
+abbrev pub item_below : List (List ℕ) → List ℕ × ℕ → Item
 item_below path e = (path ++ e.0 ∷ [], e.1)
 
 left_below : (path : List (List ℕ)) (names : List SharedName) → filter_map left_item (spots_of path names) ≡ map (item_below path) (filter_map left_name names)
@@ -52,20 +52,20 @@ right_below path (n ∷ names) = by n.2 (right_below path names)
     by None more = more
     by (Some i) more = ap (λ l. item_below path (n.0, i) ∷ l) more
 
-left_spots : (path : List (List ℕ)) (xs ys : List (List ℕ × ℕ)) (todo : List Spot)
+pub left_spots : (path : List (List ℕ)) (xs ys : List (List ℕ × ℕ)) (todo : List Spot)
     → filter_map left_item (spots_of path (joined xs ys) ++ todo) ≡ map (item_below path) xs ++ filter_map left_item todo
 left_spots path xs ys todo =
     filter_map-append left_item (spots_of path (joined xs ys)) todo
     ∙ ap (λ (l : List Item). l ++ filter_map left_item todo) (left_below path (joined xs ys) ∙ ap (map (item_below path)) (joined_left xs ys))
 
-right_spots : (path : List (List ℕ)) (xs ys : List (List ℕ × ℕ)) (todo : List Spot)
+pub right_spots : (path : List (List ℕ)) (xs ys : List (List ℕ × ℕ)) (todo : List Spot)
     → filter_map right_item (spots_of path (joined xs ys) ++ todo) ≡ map (item_below path) ys ++ filter_map right_item todo
 right_spots path xs ys todo =
     filter_map-append right_item (spots_of path (joined xs ys)) todo
     ∙ ap (λ (l : List Item). l ++ filter_map right_item todo) (right_below path (joined xs ys) ∙ ap (map (item_below path)) (joined_right xs ys))
 
 -- the names of a number that is visited, before what else is still to list
-entered_items : (s : State) (met : Met) (path : List (List ℕ)) (i : ℕ) (todo : List Item)
+pub entered_items : (s : State) (met : Met) (path : List (List ℕ)) (i : ℕ) (todo : List Item)
     → map (item_below path) (names_there s (entered_at s met (Some i))) ++ todo ≡ todo_after s met (path, i) todo
 entered_items s met path i todo = by (is_entered s met i)
   where

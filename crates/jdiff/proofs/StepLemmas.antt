@@ -1,8 +1,7 @@
 -- The steps of a walk through two trees.
-use Rattle.std.proofs.Common.{◌≡◌, ℕ, ◌+◌, ◌-◌, ◌^◌, ◌<◌, ◌≤◌, Bool, List, [], ◌∷◌, ◌++◌, length, map, take, min, refl, sym, ap, ◌∙◌, subst, arith, append_assoc, append-nil, Option, Some, None, Result, Ok, Err, Bor}
+use Rattle.std.proofs.Common.{◌≡◌, ℕ, ◌+◌, ◌-◌, ◌^◌, ◌<◌, ◌≤◌, Bool, List, [], ◌∷◌, ◌++◌, length, map, take, min, refl, sym, ap, ◌∙◌, subst, arith, append_assoc, append-nil, Option, Some, None, Result, Ok, Err, Bor, inl, inr, ◌*◌}
 use Rattle.std.specs.Prelude.{reverse, sum_by, IsErrAnd}
 use Rattle.std.specs.List.{flat_map}
-use Rattle.std.specs.BTreeSet.{BTreeSet}
 use Rattle.std.specs.Io.KnownBytes.{Appends}
 use Rattle.std.proofs.KnownBytes.{Appends-nil, Appends-trans}
 use Rattle.std.proofs.lemmas.Grind.{flat_map-append}
@@ -14,8 +13,8 @@ use Rattle.flashbase.proofs.DeviceLemmas.{part_before, part_behind}
 use Rattle.jmount.specs.Tree.{State}
 use Rattle.jmount.specs.Find.{way_up}
 use Rattle.jreport.specs.TreeText.{Met, none_met}
-use Rattle.jreport.specs.Remembering.{met_of}
-use Rattle.jreport.specs.Walking.{unmet}
+use Rattle.jreport.specs.Remembering.{remembered}
+use Rattle.jreport.specs.declared.met.MetDirectories.{MetDirectories}
 use Rattle.jreport.specs.declared.faults.ProgramFault.{ProgramFault}
 use Rattle.jreport.specs.declared.faults.ProgramFault.TheVariants as program
 use Rattle.jreport.specs.declared.faults.ProgramFault.TheVariants.{Output, OutOfMemory}
@@ -23,7 +22,7 @@ use Rattle.jdiff.specs.Changes.{changes}
 use Rattle.jdiff.specs.Differing.{PutsPartOfDifferences, PutsDifferences}
 use Rattle.jdiff.specs.Names.{SharedName, names_there, joined}
 use Rattle.jdiff.specs.Pairing.{Place, lines_on, text_on, count_on}
-use Rattle.jdiff.specs.Walking.{Spot, spot_entry, met_by, entered_at, spots_of, spot_place, spots_after, AreSpotPlaces, root_spot, spot_lines, spot_text, spots_up, way_of_pair, spots_left, AreLeft, steps_to_go, PairGoesUp, PutsPartOfLeft, PutsPairStep}
+use Rattle.jdiff.specs.Walking.{Spot, spot_entry, met_by, entered_at, spots_of, spot_place, spots_after, AreSpotPlaces, root_spot, spot_lines, spot_text, spots_up, way_of_pair, spots_left, AreLeft, pairs_open, names_entered, PairGoesUp, PutsPartOfLeft, PutsPairStep}
 use Rattle.jdiff.specs.declared.walk.Walk.{Walk}
 use Rattle.jdiff.specs.declared.walk.Visited.{Visited}
 use Rattle.jdiff.proofs.LineLemmas.{changes_few}
@@ -40,11 +39,11 @@ PutsPairStepOn times s t w n old new before now r = PutsPairStep times s t w n (
 lines_join : (times : Bool) (xs ys : List Place) → lines_on times (xs ++ ys) ≡ lines_on times xs ++ lines_on times ys
 lines_join times xs ys = flat_map-append (λ (place : Place). changes times place.left place.right) xs ys
 
-text_join : (times : Bool) (xs ys : List Place) → text_on times (xs ++ ys) ≡ text_on times xs ++ text_on times ys
+pub text_join : (times : Bool) (xs ys : List Place) → text_on times (xs ++ ys) ≡ text_on times xs ++ text_on times ys
 text_join times xs ys =
     ap (flat_map (λ (line : List ℕ). line)) (lines_join times xs ys) ∙ flat_map-append (λ (line : List ℕ). line) (lines_on times xs) (lines_on times ys)
 
-count_join : (times : Bool) (xs ys : List Place) → count_on times (xs ++ ys) ≡ count_on times xs + count_on times ys
+pub count_join : (times : Bool) (xs ys : List Place) → count_on times (xs ++ ys) ≡ count_on times xs + count_on times ys
 count_join times xs ys = ap length (lines_join times xs ys) ∙ length-append (lines_on times xs) (lines_on times ys)
 
 -- ---- where the walk ends, or goes up
@@ -62,27 +61,18 @@ up_spots w n k none up =
     ∙ ap (λ (above : List (List SharedName)). spots_up above (way_up (way_of_pair w))) (reverse-append n.above.items (n.left ∷ []))
     ∙ ap (spots_up (n.left ∷ reverse n.above.items)) (sym up.2))
 
-up_nearer : (s t : State) (w n : Walk) (k : ℕ) → w.left ≡ [] → PairGoesUp w n (Some k) → steps_to_go s t n < steps_to_go s t w
-up_nearer s t w n k none up =
+up_nearer : (w n : Walk) (k : ℕ) → w.left ≡ [] → PairGoesUp w n (Some k) → pairs_open n < pairs_open w
+up_nearer w n k none up =
     let left : length w.left ≡ 0 = ap length none in
     let sum : sum_by (λ left. length left) w.above.items ≡ sum_by (λ left. length left) n.above.items + length n.left =
     ap (sum_by (λ left. length left)) up.1 ∙ sum_by_push (λ left. length left) n.above.items n.left in
     let deep : length w.above.items ≡ length n.above.items + 1 = ap length up.1 ∙ length_push n.above.items n.left in
-    let ours : unmet s (met_of n.met_left) ≡ unmet s (met_of w.met_left) = ap (λ m. unmet s (met_of m)) up.3 in
-    let theirs : unmet t (met_of n.met_right) ≡ unmet t (met_of w.met_right) = ap (λ m. unmet t (met_of m)) up.4 in
     omega arith
-
-up_rest : (s t : State) (w n : Walk) (k : ℕ) (places : List Place) → w.left ≡ [] → PairGoesUp w n (Some k) → AreLeft s t n places → AreLeft s t w places
-up_rest s t w n k places none up are =
-    subst (λ m. AreSpotPlaces s t (met_of m) (met_of w.met_right) (spots_left w) places) up.3
-    (subst (λ m. AreSpotPlaces s t (met_of n.met_left) (met_of m) (spots_left w) places) up.4
-    (subst (λ (todo : List Spot). AreSpotPlaces s t (met_of n.met_left) (met_of n.met_right) todo places) (up_spots w n k none up) are))
 
 pub pair_goes_up : (times : Bool) (s t : State) (w n : Walk) (left : List SharedName) (up : Option ℕ) (old : Option (List ℕ)) (before : ℕ) → w.left ≡ []
     → PairGoesUp (record w { left = left }) n up → PutsPairStepOn times s t w n old old before before (Ok up)
 pair_goes_up times s t w n left (Some k) old before none up = (
-  record { done = []; put = Appends-nil old; counted = up.0; rest = λ places are. up_rest s t w n k places none up are },
-  up_nearer s t w n k none up,
+  inl (record { todo = up_spots w n k none up; left = up.3; right = up.4; nearer = up_nearer w n k none up; put = Appends-nil old; counted = up.0 }),
   refl,
 )
 pair_goes_up times s t w n left None old before none up = (nothing_left w none up, Appends-nil old, refl)
@@ -97,59 +87,48 @@ abbrev pub spots_behind : Walk → List SharedName → List Spot
 spots_behind w names = spots_of (way_of_pair w) names ++ spots_up (reverse w.above.items) (way_up (way_of_pair w))
 
 abbrev pub place_in : State → State → Walk → List ℕ → Option ℕ → Option ℕ → Place
-place_in s t w name i j = spot_place s t (met_of w.met_left) (met_of w.met_right) (spot_in w name i j)
+place_in s t w name i j = spot_place s t (remembered w.met_left) (remembered w.met_right) (spot_in w name i j)
 
 read_places : (s t : State) (w : Walk) (name : List ℕ) (i j : Option ℕ) (names : List SharedName) (places : List Place) → w.left ≡ (name, i, j) ∷ names
-    → AreSpotPlaces s t (met_by s (met_of w.met_left) i) (met_by t (met_of w.met_right) j)
-    (spots_after s t (met_of w.met_left) (met_of w.met_right) (spot_in w name i j) (spots_behind w names)) places
+    → AreSpotPlaces s t (met_by s (remembered w.met_left) i) (met_by t (remembered w.met_right) j)
+    (spots_after s t (remembered w.met_left) (remembered w.met_right) (spot_in w name i j) (spots_behind w names)) places
     → AreLeft s t w (place_in s t w name i j ∷ places)
 read_places s t w name i j names places read are =
-    subst (λ (left : List SharedName). AreSpotPlaces s t (met_of w.met_left) (met_of w.met_right) (spots_up (left ∷ reverse w.above.items) (way_of_pair w)) (place_in s t w name i j ∷ places))
+    subst (λ (left : List SharedName). AreSpotPlaces s t (remembered w.met_left) (remembered w.met_right) (spots_up (left ∷ reverse w.above.items) (way_of_pair w)) (place_in s t w name i j ∷ places))
     (sym read) (refl, are)
 
 -- the names of the directories that are entered come next
 record EntersPair (s t : State) (w n : Walk) (name : List ℕ) (i j : Option ℕ) (names : List SharedName) : Type 0 where
   pub read : w.left ≡ (name, i, j) ∷ names
-  pub left : n.left ≡ joined (names_there s (entered_at s (met_of w.met_left) i)) (names_there t (entered_at t (met_of w.met_right) j))
+  pub left : n.left ≡ joined (names_there s (entered_at s (remembered w.met_left) i)) (names_there t (entered_at t (remembered w.met_right) j))
   pub above : n.above.items ≡ w.above.items ++ names ∷ []
   pub way : way_of_pair n ≡ way_of_pair w ++ name ∷ []
-  pub ours : met_of n.met_left ≡ met_by s (met_of w.met_left) i
-  pub theirs : met_of n.met_right ≡ met_by t (met_of w.met_right) j
 
 enter_spots : (s t : State) (w n : Walk) (name : List ℕ) (i j : Option ℕ) (names : List SharedName) → EntersPair s t w n name i j names
-    → spots_left n ≡ spots_after s t (met_of w.met_left) (met_of w.met_right) (spot_in w name i j) (spots_behind w names)
+    → spots_left n ≡ spots_after s t (remembered w.met_left) (remembered w.met_right) (spot_in w name i j) (spots_behind w names)
 enter_spots s t w n name i j names is =
     let back : way_up (way_of_pair n) ≡ way_of_pair w =
     ap way_up is.way
     ∙ ap (λ (k : ℕ). take k (way_of_pair w ++ name ∷ [])) {x = length (way_of_pair w ++ name ∷ []) - 1} {y = length (way_of_pair w)} (omega (arith, length_push (way_of_pair w) name))
     ∙ take-append_seam (way_of_pair w) (name ∷ []) in
     let reversed : reverse n.above.items ≡ names ∷ reverse w.above.items = ap reverse is.above ∙ reverse-append w.above.items (names ∷ []) in
-    let below : List SharedName = joined (names_there s (entered_at s (met_of w.met_left) i)) (names_there t (entered_at t (met_of w.met_right) j)) in
+    let below : List SharedName = joined (names_there s (entered_at s (remembered w.met_left) i)) (names_there t (entered_at t (remembered w.met_right) j)) in
     ap (λ (p : List (List ℕ)). spots_of p n.left ++ spots_up (reverse n.above.items) (way_up (way_of_pair n))) is.way
     ∙ ap (λ (l : List SharedName). spots_of (way_of_pair w ++ name ∷ []) l ++ spots_up (reverse n.above.items) (way_up (way_of_pair n))) is.left
     ∙ ap (λ (p : List (List ℕ)). spots_of (way_of_pair w ++ name ∷ []) below ++ spots_up (reverse n.above.items) p) back
     ∙ ap (λ (l : List (List SharedName)). spots_of (way_of_pair w ++ name ∷ []) below ++ spots_up l (way_of_pair w)) reversed
 
-enter_rest : (s t : State) (w n : Walk) (name : List ℕ) (i j : Option ℕ) (names : List SharedName) (places : List Place) → EntersPair s t w n name i j names
-    → AreLeft s t n places → AreLeft s t w (place_in s t w name i j ∷ places)
-enter_rest s t w n name i j names places is are =
-    read_places s t w name i j names places is.read
-    (subst (λ (m : Met). AreSpotPlaces s t m (met_by t (met_of w.met_right) j) (spots_after s t (met_of w.met_left) (met_of w.met_right) (spot_in w name i j) (spots_behind w names)) places) is.ours
-    (subst (λ (m : Met). AreSpotPlaces s t (met_of n.met_left) m (spots_after s t (met_of w.met_left) (met_of w.met_right) (spot_in w name i j) (spots_behind w names)) places) is.theirs
-    (subst (λ (todo : List Spot). AreSpotPlaces s t (met_of n.met_left) (met_of n.met_right) todo places) (enter_spots s t w n name i j names is) are)))
-
-enter_nearer : (s t : State) (w n : Walk) (name : List ℕ) (i j : Option ℕ) (names : List SharedName) → EntersPair s t w n name i j names → steps_to_go s t n < steps_to_go s t w
+enter_nearer : (s t : State) (w n : Walk) (name : List ℕ) (i j : Option ℕ) (names : List SharedName) → EntersPair s t w n name i j names
+    → pairs_open n < pairs_open w + 2 * (length (names_entered s w.met_left i) + length (names_entered t w.met_right j))
 enter_nearer s t w n name i j names is =
-    let xs = names_there s (entered_at s (met_of w.met_left) i) in
-    let ys = names_there t (entered_at t (met_of w.met_right) j) in
-    let ours : unmet s (met_of n.met_left) ≡ unmet s (met_by s (met_of w.met_left) i) = ap (unmet s) is.ours in
-    let theirs : unmet t (met_of n.met_right) ≡ unmet t (met_by t (met_of w.met_right) j) = ap (unmet t) is.theirs in
+    let xs = names_entered s w.met_left i in
+    let ys = names_entered t w.met_right j in
     let own : length n.left ≡ length (joined xs ys) = ap length is.left in
     let one : length w.left ≡ length names + 1 = ap length is.read ∙ omega arith in
     let sum : sum_by (λ left. length left) n.above.items ≡ sum_by (λ left. length left) w.above.items + length names =
     ap (sum_by (λ left. length left)) is.above ∙ sum_by_push (λ left. length left) w.above.items names in
     let deep : length n.above.items ≡ length w.above.items + 1 = ap length is.above ∙ length_push w.above.items names in
-    omega (arith, side_falls s (met_of w.met_left) i, side_falls t (met_of w.met_right) j, joined_long xs ys)
+    omega (arith, joined_long xs ys)
 
 pub enters_pair : (times : Bool) (s t : State) (w n : Walk) (name : List ℕ) (i j : Option ℕ) (names : List SharedName) (v : Visited) (old new : Option (List ℕ)) (before now : ℕ)
     → w.left ≡ (name, i, j) ∷ names → n.left ≡ joined (names_there s v.left) (names_there t v.right)
@@ -160,20 +139,21 @@ enters_pair times s t w n name i j names v old new before now read left above wa
     let is : EntersPair s t w n name i j names = record {
       read = read;
       left = left ∙ ap (λ (d : Option ℕ). joined (names_there s d) (names_there t v.right)) put.1
-          ∙ ap (λ (d : Option ℕ). joined (names_there s (entered_at s (met_of w.met_left) i)) (names_there t d)) put.2;
+          ∙ ap (λ (d : Option ℕ). joined (names_entered s w.met_left i) (names_there t d)) put.2;
       above = above;
       way = way;
-      ours = put.3;
-      theirs = put.4;
-    } in
-    let lines = spot_lines times s t w.met_left w.met_right (spot_in w name i j) in (
-      record {
-        done = place_in s t w name i j ∷ [];
-        put = subst (λ (l : List (List ℕ)). Appends old new (flat_map (λ line. line) l)) (sym (append-nil lines)) put.5;
-        counted = put.0 ∙ ap length (sym (append-nil lines));
-        rest = λ places are. enter_rest s t w n name i j names places is are;
-      },
-      enter_nearer s t w n name i j names is,
+    } in (
+      inr (record {
+        spot = spot_in w name i j;
+        rest = spots_behind w names;
+        todo = ap (λ (left : List SharedName). spots_up (left ∷ reverse w.above.items) (way_of_pair w)) read;
+        todo_then = enter_spots s t w n name i j names is;
+        left = put.3;
+        right = put.4;
+        nearer = enter_nearer s t w n name i j names is;
+        put = put.5;
+        counted = put.0;
+      }),
       put.6,
     )
 
@@ -181,13 +161,13 @@ enters_pair times s t w n name i j names v old new before now read left above wa
 
 pub none_put : (times : Bool) (s t : State) (w n : Walk) (old : Option (List ℕ)) (before : ℕ) → PutsPairStepOn times s t w n old old before before (Err OutOfMemory)
 none_put times s t w n old before =
-    let whole = has_places s t (met_of w.met_left) (met_of w.met_right) (spots_left w) in ((whole.0, whole.1, (0, Appends-nil old)), refl)
+    let whole = has_places s t (remembered w.met_left) (remembered w.met_right) (spots_left w) in ((whole.0, whole.1, (0, Appends-nil old)), refl)
 
 -- a beginning of the lines on a name went out
 spot_part : (times : Bool) (s t : State) (w : Walk) (name : List ℕ) (i j : Option ℕ) (names : List SharedName) (old new : Option (List ℕ)) → w.left ≡ (name, i, j) ∷ names
     → PutsPart old new (spot_text times s t w.met_left w.met_right (spot_in w name i j)) → PutsPartOfLeft times s t w old new
 spot_part times s t w name i j names old new read part =
-    let whole = has_places s t (met_by s (met_of w.met_left) i) (met_by t (met_of w.met_right) j) (spots_after s t (met_of w.met_left) (met_of w.met_right) (spot_in w name i j) (spots_behind w names)) in (
+    let whole = has_places s t (met_by s (remembered w.met_left) i) (met_by t (remembered w.met_right) j) (spots_after s t (remembered w.met_left) (remembered w.met_right) (spot_in w name i j) (spots_behind w names)) in (
       place_in s t w name i j ∷ whole.0,
       read_places s t w name i j names whole.0 read whole.1,
       subst (PutsPart old new)
@@ -201,13 +181,13 @@ whole_part old new line put = (length line, subst (Appends old new) (sym (take_a
     take_all : (xs : List ℕ) → take (length xs) xs ≡ xs
     take_all xs = ap (take (length xs)) (sym (append-nil xs)) ∙ take-append_seam xs []
 
-pub spot_put : (times : Bool) (s t : State) (w n : Walk) (name : List ℕ) (i j : Option ℕ) (names : List SharedName) (left right : BTreeSet ℕ) (v : Visited) (old new : Option (List ℕ)) (before now : ℕ)
+pub spot_put : (times : Bool) (s t : State) (w n : Walk) (name : List ℕ) (i j : Option ℕ) (names : List SharedName) (left right : MetDirectories) (v : Visited) (old new : Option (List ℕ)) (before now : ℕ)
     → w.left ≡ (name, i, j) ∷ names → PutsSpotOn times s t w.met_left w.met_right left right (spot_in w name i j) old new before now (Ok v)
     → PutsPairStepOn times s t w n old new before now (Err OutOfMemory)
 spot_put times s t w n name i j names left right v old new before now read put =
     (spot_part times s t w name i j names old new read (whole_part old new (spot_text times s t w.met_left w.met_right (spot_in w name i j)) put.5), put.6)
 
-pub spot_failed : (times : Bool) (s t : State) (w n : Walk) (name : List ℕ) (i j : Option ℕ) (names : List SharedName) (left right : BTreeSet ℕ) (fault : ProgramFault) (old new : Option (List ℕ)) (before now : ℕ)
+pub spot_failed : (times : Bool) (s t : State) (w n : Walk) (name : List ℕ) (i j : Option ℕ) (names : List SharedName) (left right : MetDirectories) (fault : ProgramFault) (old new : Option (List ℕ)) (before now : ℕ)
     → w.left ≡ (name, i, j) ∷ names → PutsSpotOn times s t w.met_left w.met_right left right (spot_in w name i j) old new before now (Err fault)
     → PutsPairStepOn times s t w n old new before now (Err fault)
 spot_failed times s t w n name i j names left right Output old new before now read put = (spot_part times s t w name i j names old new read put.0, put.1)
@@ -239,144 +219,7 @@ pub pair_way_on : (w : Walk) (name : Bor (List ℕ)) (path pushed : List (Bor (L
     → map (λ n. n.now) path ≡ way_of_pair w ++ name.now ∷ []
 pair_way_on w name path pushed same is = ap (map (λ n. n.now)) (same ∙ is) ∙ map-append (λ n. n.now) w.path.items (name ∷ [])
 
-pub spot_at : (times : Bool) (s t : State) (a b c d : BTreeSet ℕ) (path way : List (List ℕ)) (i j : Option ℕ) (old new : Option (List ℕ)) (before now : ℕ) (r : Result Visited ProgramFault)
+pub spot_at : (times : Bool) (s t : State) (a b c d : MetDirectories) (path way : List (List ℕ)) (i j : Option ℕ) (old new : Option (List ℕ)) (before now : ℕ) (r : Result Visited ProgramFault)
     → path ≡ way → PutsSpotOn times s t a b c d (path, i, j) old new before now r → PutsSpotOn times s t a b c d (way, i, j) old new before now r
 spot_at times s t a b c d path way i j old new before now r is put =
     subst (λ (p : List (List ℕ)). PutsSpotOn times s t a b c d (p, i, j) old new before now r) is put
-
--- ---- from the roots on
-
--- the lines on these places went out, and with those that are left they are all
-pub record ReachesPlaces (times : Bool) (s t : State) (w : Walk) (old new : Option (List ℕ)) (count : ℕ) : Type 0 where
-  pub done : List Place
-  pub put : Appends old new (text_on times done)
-  pub counted : count ≡ min (count_on times done) (2 ^ 64 - 1)
-  pub rest : (places : List Place) → AreLeft s t w places → AreSpotPlaces s t none_met none_met (root_spot ∷ []) (done ++ places)
-
-none_in : (set : BTreeSet ℕ) → set.keys ≡ [] → met_of set ≡ none_met
-none_in set empty = ap (λ (keys : List ℕ). met_of (record { keys = keys })) empty
-
-abbrev pub root_place : State → State → BTreeSet ℕ → BTreeSet ℕ → Place
-root_place s t a b = spot_place s t (met_of a) (met_of b) root_spot
-
-root_places : (s t : State) (a b : BTreeSet ℕ) (places : List Place) → a.keys ≡ [] → b.keys ≡ []
-    → AreSpotPlaces s t (met_by s (met_of a) (Some 1)) (met_by t (met_of b) (Some 1)) (spots_after s t (met_of a) (met_of b) root_spot []) places
-    → AreSpotPlaces s t none_met none_met (root_spot ∷ []) (root_place s t a b ∷ places)
-root_places s t a b places none nothing are =
-    subst (λ (m : Met). AreSpotPlaces s t m none_met (root_spot ∷ []) (root_place s t a b ∷ places)) (none_in a none)
-    (subst (λ (m : Met). AreSpotPlaces s t (met_of a) m (root_spot ∷ []) (root_place s t a b ∷ places)) (none_in b nothing) (refl, are))
-
-pub roots_entered : (times : Bool) (s t : State) (w : Walk) (a b : BTreeSet ℕ) (v : Visited) (old new : Option (List ℕ)) (before now : ℕ) → a.keys ≡ [] → b.keys ≡ []
-    → w.path.items ≡ [] → w.left ≡ joined (names_there s v.left) (names_there t v.right) → w.above.items ≡ []
-    → PutsSpotOn times s t a b w.met_left w.met_right root_spot old new before now (Ok v) → ReachesPlaces times s t w old new v.lines
-roots_entered times s t w a b v old new before now none nothing path left above put =
-    let lines = spot_lines times s t a b root_spot in
-    let count : v.lines ≡ length (lines ++ []) = put.0 ∙ ap length (sym (append-nil lines)) in
-    record {
-      done = root_place s t a b ∷ [];
-      put = subst (λ (l : List (List ℕ)). Appends old new (flat_map (λ line. line) l)) (sym (append-nil lines)) put.5;
-      counted = least v.lines (length lines) (length (lines ++ [])) put.0 count
-          (changes_few times (spot_entry s (met_of a) [] (Some 1)) (spot_entry t (met_of b) [] (Some 1)));
-      rest = λ places are. root_places s t a b places none nothing
-          (subst (λ (m : Met). AreSpotPlaces s t m (met_by t (met_of b) (Some 1)) (spots_after s t (met_of a) (met_of b) root_spot []) places) put.3
-          (subst (λ (m : Met). AreSpotPlaces s t (met_of w.met_left) m (spots_after s t (met_of a) (met_of b) root_spot []) places) put.4
-          (subst (λ (todo : List Spot). AreSpotPlaces s t (met_of w.met_left) (met_of w.met_right) todo places) here are)));
-    }
-  where
-    least : (n k m : ℕ) → n ≡ k → n ≡ m → k ≤ 2 → n ≡ min m (2 ^ 64 - 1)
-    least n k m own is small = omega arith
-
-    here : spots_left w ≡ spots_after s t (met_of a) (met_of b) root_spot []
-    here =
-        ap (λ (p : List (Bor (List ℕ))). spots_up (w.left ∷ reverse w.above.items) (map (λ n. n.now) p)) path
-        ∙ ap (λ (l : List SharedName). spots_up (l ∷ reverse w.above.items) []) (left
-        ∙ ap (λ (d : Option ℕ). joined (names_there s d) (names_there t v.right)) put.1
-        ∙ ap (λ (d : Option ℕ). joined (names_there s (entered_at s (met_of a) (Some 1))) (names_there t d)) put.2)
-        ∙ ap (λ (l : List (List SharedName)). spots_up (joined (names_there s (entered_at s (met_of a) (Some 1))) (names_there t (entered_at t (met_of b) (Some 1))) ∷ reverse l) []) above
-
--- a beginning of the lines on the roots went out
-roots_part : (times : Bool) (s t : State) (a b : BTreeSet ℕ) (old new : Option (List ℕ)) → a.keys ≡ [] → b.keys ≡ [] → PutsPart old new (spot_text times s t a b root_spot)
-    → PutsPartOfDifferences times s t old new
-roots_part times s t a b old new none nothing part =
-    let rest = has_places s t (met_by s (met_of a) (Some 1)) (met_by t (met_of b) (Some 1)) (spots_after s t (met_of a) (met_of b) root_spot []) in
-    let places : List Place = root_place s t a b ∷ rest.0 in (
-      lines_on times places,
-      differences_of times s t places (root_places s t a b rest.0 none nothing rest.1),
-      subst (PutsPart old new) (sym (flat_map-append (λ (line : List ℕ). line) (spot_lines times s t a b root_spot) (lines_on times rest.0)))
-          (part_before old new (spot_text times s t a b root_spot) (text_on times rest.0) part),
-    )
-
-pub roots_failed : (times : Bool) (s t : State) (a b c d : BTreeSet ℕ) (fault : ProgramFault) (old new : Option (List ℕ)) (before now : ℕ) → a.keys ≡ [] → b.keys ≡ []
-    → PutsSpotOn times s t a b c d root_spot old new before now (Err fault) → PutsDifferences times s t old new before now (Err fault)
-roots_failed times s t a b c d Output old new before now none nothing put = (roots_part times s t a b old new none nothing put.0, put.1)
-roots_failed times s t a b c d OutOfMemory old new before now none nothing put = (roots_part times s t a b old new none nothing (0, put.0), put.1)
-roots_failed times s t a b c d (program.Load f) old new before now none nothing put = absurd put
-roots_failed times s t a b c d (program.Scan f) old new before now none nothing put = absurd put
-roots_failed times s t a b c d (program.Mount f) old new before now none nothing put = absurd put
-roots_failed times s t a b c d (program.File f) old new before now none nothing put = absurd put
-roots_failed times s t a b c d (program.NotRead f) old new before now none nothing put = absurd put
-roots_failed times s t a b c d (program.Listing line) old new before now none nothing put = absurd put
-roots_failed times s t a b c d (program.Session f line cause) old new before now none nothing put = absurd put
-roots_failed times s t a b c d (program.Path f) old new before now none nothing put = absurd put
-roots_failed times s t a b c d program.NotRegular old new before now none nothing put = absurd put
-roots_failed times s t a b c d (program.NoSpace folder) old new before now none nothing put = absurd put
-roots_failed times s t a b c d (program.Data addr) old new before now none nothing put = absurd put
-roots_failed times s t a b c d (program.TooLong addr) old new before now none nothing put = absurd put
-roots_failed times s t a b c d (program.Clash addr other) old new before now none nothing put = absurd put
-
-pub places_on : (times : Bool) (s t : State) (w n : Walk) (a b c : Option (List ℕ)) (count more next before now : ℕ) → ReachesPlaces times s t w a b count
-    → PutsPairStepOn times s t w n b c before now (Ok (Some more)) → next ≡ min (count + more) (2 ^ 64 - 1) → ReachesPlaces times s t n a c next
-places_on times s t w n a b c count more next before now far put sum = record {
-  done = far.done ++ put.0.done;
-  put = subst (Appends a c) (sym (text_join times far.done put.0.done)) (Appends-trans a b c (text_on times far.done) (text_on times put.0.done) far.put put.0.put);
-  counted = added (count_on times far.done) (count_on times put.0.done) (count_on times (far.done ++ put.0.done)) far.counted put.0.counted (count_join times far.done put.0.done);
-  rest = λ places are.
-      subst (AreSpotPlaces s t none_met none_met (root_spot ∷ [])) (sym (append_assoc far.done put.0.done places)) (far.rest (put.0.done ++ places) (put.0.rest places are));
-}
-  where
-    added : (x y z : ℕ) → count ≡ min x (2 ^ 64 - 1) → more ≡ y → z ≡ x + y → next ≡ min z (2 ^ 64 - 1)
-    added x y z is own both = omega arith
-
-pub places_end : (times : Bool) (s t : State) (w n : Walk) (a b c : Option (List ℕ)) (count first before now : ℕ) → ReachesPlaces times s t w a b count → before ≡ first
-    → PutsPairStepOn times s t w n b c before now (Ok None) → PutsDifferences times s t a c first now (Ok count)
-places_end times s t w n a b c count first before now far same put = (
-  lines_on times far.done,
-  differences_of times s t far.done
-      (subst (AreSpotPlaces s t none_met none_met (root_spot ∷ [])) (append-nil far.done)
-      (far.rest [] (subst (λ (todo : List Spot). AreSpotPlaces s t (met_of w.met_left) (met_of w.met_right) todo []) (sym put.0) refl))),
-  far.counted,
-  subst (Appends a c) (append-nil (text_on times far.done)) (Appends-trans a b c (text_on times far.done) [] far.put put.1),
-  put.2 ∙ same,
-)
-
-part_of_all : (times : Bool) (s t : State) (w : Walk) (a b c : Option (List ℕ)) (count : ℕ) → ReachesPlaces times s t w a b count → PutsPartOfLeft times s t w b c
-    → PutsPartOfDifferences times s t a c
-part_of_all times s t w a b c count far part = (
-  lines_on times (far.done ++ part.0),
-  differences_of times s t (far.done ++ part.0) (far.rest part.0 part.1),
-  subst (PutsPart a c) (sym (text_join times far.done part.0)) (part_behind a b c (text_on times far.done) (text_on times part.0) far.put part.2),
-)
-
-pub pair_stopped : (times : Bool) (s t : State) (w n : Walk) (fault : ProgramFault) (a b c : Option (List ℕ)) (count first before now : ℕ) → ReachesPlaces times s t w a b count → before ≡ first
-    → PutsPairStepOn times s t w n b c before now (Err fault) → PutsDifferences times s t a c first now (Err fault)
-pair_stopped times s t w n Output a b c count first before now far same put = (part_of_all times s t w a b c count far put.0, put.1 ∙ ap next_count same)
-pair_stopped times s t w n OutOfMemory a b c count first before now far same put = (part_of_all times s t w a b c count far put.0, put.1 ∙ same)
-pair_stopped times s t w n (program.Load f) a b c count first before now far same put = absurd put
-pair_stopped times s t w n (program.Scan f) a b c count first before now far same put = absurd put
-pair_stopped times s t w n (program.Mount f) a b c count first before now far same put = absurd put
-pair_stopped times s t w n (program.File f) a b c count first before now far same put = absurd put
-pair_stopped times s t w n (program.NotRead f) a b c count first before now far same put = absurd put
-pair_stopped times s t w n (program.Listing line) a b c count first before now far same put = absurd put
-pair_stopped times s t w n (program.Session f line cause) a b c count first before now far same put = absurd put
-pair_stopped times s t w n (program.Path f) a b c count first before now far same put = absurd put
-pair_stopped times s t w n program.NotRegular a b c count first before now far same put = absurd put
-pair_stopped times s t w n (program.NoSpace folder) a b c count first before now far same put = absurd put
-pair_stopped times s t w n (program.Data addr) a b c count first before now far same put = absurd put
-pair_stopped times s t w n (program.TooLong addr) a b c count first before now far same put = absurd put
-pair_stopped times s t w n (program.Clash addr other) a b c count first before now far same put = absurd put
-
-pub differences_failed : (times : Bool) (s t : State) (old new : Option (List ℕ)) (before now : ℕ) (r : Result ℕ ProgramFault) (fault : ProgramFault)
-    → IsErrAnd r (λ e. e ≡ fault) → PutsDifferences times s t old new before now (Err fault) → PutsDifferences times s t old new before now r
-differences_failed times s t old new before now (Ok x) fault is put = absurd is
-differences_failed times s t old new before now (Err e) fault is put =
-    subst (λ (y : ProgramFault). PutsDifferences times s t old new before now (Err y)) (sym is) put

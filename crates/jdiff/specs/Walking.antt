@@ -1,6 +1,5 @@
 -- The walk through two trees at once: what is still to compare, and what a step of it does.
-use Rattle.std.specs.Prelude.{◌≡◌, ℕ, ◌+◌, ◌*◌, ◌<◌, ◌&&◌, Bool, List, [], ◌∷◌, ◌++◌, length, map, reverse, sum_by, option_map, Option, Some, None, Result, Ok, Err, if◌then◌else◌}
-use Rattle.std.specs.BTreeSet.{BTreeSet}
+use Rattle.std.specs.Prelude.{◌≡◌, ℕ, ◌+◌, ◌*◌, ◌<◌, ◌&&◌, Bool, List, [], ◌∷◌, ◌++◌, length, map, reverse, sum_by, option_map, Option, Some, None, Result, Ok, Err, ◌⊎◌, if◌then◌else◌}
 use Rattle.std.specs.Io.KnownBytes.{Appends}
 use Rattle.flashbase.specs.Device.{PutsPart, next_count}
 use Rattle.flashbase.specs.Sinks.{SinkChange}
@@ -9,15 +8,15 @@ use Rattle.jmount.specs.Shown.{readable, shown}
 use Rattle.jmount.specs.Find.{way_up}
 use Rattle.jmount.specs.declared.object.Object.{Object}
 use Rattle.jreport.specs.TreeText.{Met, met_after, is_entered}
-use Rattle.jreport.specs.Remembering.{met_of}
-use Rattle.jreport.specs.Walking.{unmet}
+use Rattle.jreport.specs.Remembering.{Becomes, remembered}
+use Rattle.jreport.specs.declared.met.MetDirectories.{MetDirectories}
 use Rattle.jreport.specs.declared.faults.ProgramFault.{ProgramFault}
 use Rattle.jreport.specs.declared.faults.ProgramFault.TheVariants.{Output, OutOfMemory}
 use Rattle.std.specs.List.{flat_map}
 use Rattle.jdiff.specs.Entries.{Entry, listed_entry}
 use Rattle.jdiff.specs.Changes.{changes}
 use Rattle.jdiff.specs.Names.{SharedName, names_there, joined}
-use Rattle.jdiff.specs.Pairing.{Place, text_on, count_on}
+use Rattle.jdiff.specs.Pairing.{Place, text_on}
 use Rattle.jdiff.specs.declared.found.Found.{Found}
 use Rattle.jdiff.specs.declared.walk.Walk.{Walk}
 use Rattle.jdiff.specs.declared.walk.Visited.{Visited}
@@ -103,15 +102,16 @@ IsFoundIn s f = option_map shown (object s f.ino) ≡ Some f.object
 
 -- the directories of each tree that were met
 pub record BothMet : Type 0 where
-  pub left : BTreeSet ℕ
-  pub right : BTreeSet ℕ
+  pub left : MetDirectories
+  pub right : MetDirectories
 
 -- the lines on it
-abbrev pub spot_lines : Bool → State → State → BTreeSet ℕ → BTreeSet ℕ → Spot → List (List ℕ)
-spot_lines times s t left right spot = changes times (spot_entry s (met_of left) spot.0 spot.1)
-    (spot_entry t (met_of right) spot.0 spot.2)
+abbrev pub spot_lines : Bool → State → State → MetDirectories → MetDirectories → Spot
+    → List (List ℕ)
+spot_lines times s t left right spot = changes times (spot_entry s (remembered left) spot.0 spot.1)
+    (spot_entry t (remembered right) spot.0 spot.2)
 
-abbrev pub spot_text : Bool → State → State → BTreeSet ℕ → BTreeSet ℕ → Spot → List ℕ
+abbrev pub spot_text : Bool → State → State → MetDirectories → MetDirectories → Spot → List ℕ
 spot_text times s t left right spot = flat_map (λ line. line) (spot_lines times s t left right spot)
 
 -- Its lines are put. The answer is how many, and which directories are entered.
@@ -119,10 +119,10 @@ abbrev pub PutsSpot : Bool → State → State → BothMet → BothMet → Spot 
     → Result Visited ProgramFault → Type 0
 PutsSpot times s t met after spot sink (Ok v) =
     (v.lines ≡ length (spot_lines times s t met.left met.right spot))
-    × (v.left ≡ entered_at s (met_of met.left) spot.1)
-    × (v.right ≡ entered_at t (met_of met.right) spot.2)
-    × (met_of after.left ≡ met_by s (met_of met.left) spot.1)
-    × (met_of after.right ≡ met_by t (met_of met.right) spot.2)
+    × (v.left ≡ entered_at s (remembered met.left) spot.1)
+    × (v.right ≡ entered_at t (remembered met.right) spot.2)
+    × Becomes met.left after.left (met_by s (remembered met.left) spot.1)
+    × Becomes met.right after.right (met_by t (remembered met.right) spot.2)
     × Appends sink.old sink.new (spot_text times s t met.left met.right spot)
     × (sink.now ≡ sink.before)
 PutsSpot times s t met after spot sink (Err Output) =
@@ -148,26 +148,44 @@ spots_left w = spots_up (w.left ∷ reverse w.above.items) (way_of_pair w)
 
 abbrev pub AreLeft : State → State → Walk → List Place → Type 0
 AreLeft s t w places =
-    AreSpotPlaces s t (met_of w.met_left) (met_of w.met_right) (spots_left w) places
+    AreSpotPlaces s t (remembered w.met_left) (remembered w.met_right) (spots_left w) places
 
 -- ---- how far it is to the end
 
-abbrev pub names_to_go : State → State → Walk → ℕ
-names_to_go s t w = unmet s (met_of w.met_left) + unmet t (met_of w.met_right) + length w.left
-    + sum_by (λ left. length left) w.above.items
+-- what the walk has still to read of the pairs that it is in, and to go up
+abbrev pub pairs_open : Walk → ℕ
+pairs_open w =
+    2 * (length w.left + sum_by (λ left. length left) w.above.items) + length w.above.items
 
-abbrev pub steps_to_go : State → State → Walk → ℕ
-steps_to_go s t w = 2 * names_to_go s t w + length w.above.items
+-- the names of a directory that is entered
+abbrev pub names_entered : State → MetDirectories → Option ℕ → List (List ℕ × ℕ)
+names_entered s met i = names_there s (entered_at s (remembered met) i)
 
 -- ---- a step
 
--- the lines on these places were put, and those on the rest are still to put
-pub record LeavesPlaces (times : Bool) (s t : State) (w w_after : Walk) (old new : Option (List ℕ))
+-- the walk goes back to the pair above, and nothing is put
+pub record PassesUp (w w_after : Walk) (old new : Option (List ℕ)) (count : ℕ) : Type 0 where
+  pub todo : spots_left w_after ≡ spots_left w
+  pub left : w_after.met_left ≡ w.met_left
+  pub right : w_after.met_right ≡ w.met_right
+  pub nearer : pairs_open w_after < pairs_open w
+  pub put : Appends old new []
+  pub counted : count ≡ 0
+
+-- the lines on the next path are put
+pub record PutsNext (times : Bool) (s t : State) (w w_after : Walk) (old new : Option (List ℕ))
     (count : ℕ) : Type 0 where
-  pub done : List Place
-  pub put : Appends old new (text_on times done)
-  pub counted : count ≡ count_on times done
-  pub rest : (places : List Place) → AreLeft s t w_after places → AreLeft s t w (done ++ places)
+  pub spot : Spot
+  pub rest : List Spot
+  pub todo : spots_left w ≡ spot ∷ rest
+  pub todo_then : spots_left w_after
+      ≡ spots_after s t (remembered w.met_left) (remembered w.met_right) spot rest
+  pub left : Becomes w.met_left w_after.met_left (met_by s (remembered w.met_left) spot.1)
+  pub right : Becomes w.met_right w_after.met_right (met_by t (remembered w.met_right) spot.2)
+  pub nearer : pairs_open w_after < pairs_open w + 2 * (length (names_entered s w.met_left spot.1)
+      + length (names_entered t w.met_right spot.2))
+  pub put : Appends old new (spot_text times s t w.met_left w.met_right spot)
+  pub counted : count ≡ length (spot_lines times s t w.met_left w.met_right spot)
 
 -- the walk went back to the pair above, or there is none
 abbrev pub PairGoesUp : Walk → Walk → Option ℕ → Type 0
@@ -185,8 +203,8 @@ PutsPartOfLeft times s t w old new =
 abbrev pub PutsPairStep : Bool → State → State → Walk → Walk → SinkChange
     → Result (Option ℕ) ProgramFault → Type 0
 PutsPairStep times s t w w_after sink (Ok (Some n)) =
-    LeavesPlaces times s t w w_after sink.old sink.new n
-    × (steps_to_go s t w_after < steps_to_go s t w) × (sink.now ≡ sink.before)
+    (PassesUp w w_after sink.old sink.new n ⊎ PutsNext times s t w w_after sink.old sink.new n)
+    × (sink.now ≡ sink.before)
 PutsPairStep times s t w w_after sink (Ok None) =
     (spots_left w ≡ []) × Appends sink.old sink.new [] × (sink.now ≡ sink.before)
 PutsPairStep times s t w w_after sink (Err Output) =

@@ -1,12 +1,11 @@
 //! What a number leads to in a tree.
 
 ghost use Rattle.std.specs.Prelude.{◌≡◌, IfOk, IfErr, OnOk};
-ghost use Rattle.jreport.specs.Remembering.{met_of};
+ghost use Rattle.jreport.specs.Remembering.{Becomes, remembered};
 ghost use Rattle.jdiff.specs.Walking.{directory_found, found_at, met_by};
 
 use jmount::{Kind, Mounted, Object};
-use jreport::ProgramFault;
-use std::collections::BTreeSet;
+use jreport::{MetDirectories, ProgramFault};
 
 /// An object of a tree.
 #[derive(Clone, Copy)]
@@ -23,10 +22,12 @@ pub(crate) struct Found {
 pub(crate) fn look(
     mounted: &Mounted<'_>,
     ino: Option<u32>,
-    met: &mut BTreeSet<u32>,
+    met: &mut MetDirectories,
 ) -> Result<Option<Found>, ProgramFault<'static>>
-    ensures found { IfOk result (λ found. found ≡ found_at mounted.now.state (met_of met.old) ino) }
-    ensures met { OnOk result (met_of met.new ≡ met_by mounted.now.state (met_of met.old) ino) }
+    ensures found { IfOk result
+        (λ found. found ≡ found_at mounted.now.state (remembered met.old) ino) }
+    ensures met { OnOk result
+        (Becomes met.old met.new (met_by mounted.now.state (remembered met.old) ino)) }
     ensures fault { IfErr result (λ fault. fault ≡ ProgramFault.OutOfMemory) }
 {
     let Some(ino) = ino else {
@@ -43,7 +44,7 @@ pub(crate) fn look(
             entered: false,
         }));
     }
-    let entered = met.insert(ino)?;
+    let entered = met.meet(ino)?;
     Ok(Some(Found {
         ino,
         object,

@@ -10,9 +10,8 @@ use crate::pair::Pair;
 use crate::spot::{Trees, put_changes};
 use flashbase::Sink;
 use jmount::{Mounted, ROOT};
-use jreport::ProgramFault;
+use jreport::{MetDirectories, ProgramFault};
 use std::alloc::Global;
-use std::collections::BTreeSet;
 use std::mem;
 
 /// What came of a path: how many lines went out, and the directories whose names come next.
@@ -28,8 +27,8 @@ fn visit<T: Sink>(
     trees: &Trees<'_, '_>,
     path: &[&[u8]],
     inos: (Option<u32>, Option<u32>),
-    met_left: &mut BTreeSet<u32>,
-    met_right: &mut BTreeSet<u32>,
+    met_left: &mut MetDirectories,
+    met_right: &mut MetDirectories,
     sink: &mut T,
 ) -> Result<Visited, ProgramFault<'static>>
     ensures { PutsSpot trees.now.times trees.now.left.now.state trees.now.right.now.state
@@ -58,8 +57,8 @@ struct Walk<'m, 'a> {
     /// What is left of the directories above them, from the root on.
     above: Vec<Pair<'m, 'a>>,
     /// The directories of each tree that were met.
-    met_left: BTreeSet<u32>,
-    met_right: BTreeSet<u32>,
+    met_left: MetDirectories,
+    met_right: MetDirectories,
 }
 
 impl<'m, 'a> Walk<'m, 'a> {
@@ -106,7 +105,8 @@ impl<'m, 'a> Walk<'m, 'a> {
 /// the left one has it, `+ ` where only the right one does, both where kind, permissions, owner,
 /// group, size or target differ, or with `times` the time of change, and `* ` where only the bytes
 /// do. A directory that was met before is not entered. Answers how many lines there are, or the
-/// greatest u64. Takes memory for the way to an object and for the directories that were met.
+/// greatest u64. Takes memory for the way to an object, and of a tree that has not its shape for the
+/// directories that were met.
 pub fn put_differences<'m, 'a, T: Sink>(
     alloc: Global,
     left: &'m Mounted<'a>,
@@ -118,8 +118,8 @@ pub fn put_differences<'m, 'a, T: Sink>(
         (T.taken sink.new) (T.failures sink.old) (T.failures sink.new) result }
 {
     let trees = Trees { left, right, times };
-    let mut met_left = BTreeSet::new(alloc);
-    let mut met_right = BTreeSet::new(alloc);
+    let mut met_left = MetDirectories::new(alloc, left);
+    let mut met_right = MetDirectories::new(alloc, right);
     let root = (Some(ROOT), Some(ROOT));
     let seen = visit(&trees, &[], root, &mut met_left, &mut met_right, sink)?;
     let mut lines = seen.lines;

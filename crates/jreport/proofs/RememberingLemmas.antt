@@ -59,12 +59,12 @@ fresh_both s item todo shape fresh =
 -- ---- after an item
 
 -- either what was met is remembered, or it makes no difference
-record MakesNone (s : State) (one other : Met) (todo : List Item) : Type 0 where
-  shape : IsShaped s
-  fresh : AreFresh s one todo
-  too : AreFresh s other todo
+pub record MakesNone (s : State) (one other : Met) (todo : List Item) : Type 0 where
+  pub shape : IsShaped s
+  pub fresh : AreFresh s one todo
+  pub too : AreFresh s other todo
 
-after_item : (s : State) (old new : MetDirectories) (item : Item) (todo : List Item) → NeedsNone s old (item ∷ todo) → Becomes old new (met_after s (remembered old) item.1)
+pub after_item : (s : State) (old new : MetDirectories) (item : Item) (todo : List Item) → NeedsNone s old (item ∷ todo) → Becomes old new (met_after s (remembered old) item.1)
     → (remembered new ≡ met_after s (remembered old) item.1) ⊎ MakesNone s (remembered new) (met_after s (remembered old) item.1) (todo_after s (remembered old) item todo)
 after_item s old new item todo needs becomes = by (remembers old) refl
   where

@@ -50,6 +50,7 @@ pub use crate::extraction_notes::{attribute_count, put_notes};
 pub use crate::faults::{ProgramFault, fault_text};
 pub use crate::files::content;
 pub use crate::findings::{Found, found_in};
+pub use crate::met::MetDirectories;
 pub use crate::notes::{noted, put_note};
 pub use crate::paths::path_word;
 pub use crate::reason::{Reason, Unopened};

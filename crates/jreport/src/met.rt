@@ -9,13 +9,14 @@ use std::collections::BTreeSet;
 /// The directories that a walk has met. In a tree that has its shape none is met twice, and none is
 /// remembered.
 #[derive(Drop)]
-pub(crate) struct MetDirectories {
-    noted: Option<BTreeSet<u32>>,
+pub struct MetDirectories {
+    /// Those that are remembered; nothing where none ever is.
+    pub noted: Option<BTreeSet<u32>>,
 }
 
 impl MetDirectories {
     /// Those of a walk that begins, which has met none.
-    pub(crate) fn new(alloc: Global, mounted: &Mounted<'_>) -> MetDirectories
+    pub fn new(alloc: Global, mounted: &Mounted<'_>) -> MetDirectories
         ensures { RemembersNone mounted.now.state result }
     {
         let noted = if mounted.has_shape() {
@@ -30,7 +31,7 @@ impl MetDirectories {
     ///
     /// # Errors
     /// Out of memory. What is remembered stays.
-    pub(crate) fn meet(&mut self, ino: u32) -> Result<bool, AllocError>
+    pub fn meet(&mut self, ino: u32) -> Result<bool, AllocError>
         ensures { MeetsDirectory self.old self.new ino result }
     {
         match &mut self.noted {

@@ -1,6 +1,7 @@
 use Rattle.std.proofs.Common.{◌∙◌, ℕ, subst, Ok, Option}
 use Rattle.jdiff.specs.declared.walk.Walk.{Walk}
-use Rattle.jdiff.proofs.StepLemmas.{PutsPairStepOn, roots_entered, roots_failed, places_on, places_end, pair_stopped, differences_failed}
+use Rattle.jdiff.proofs.ReachLemmas.{comes_nearer, differences_failed, needs_below, needs_on, pair_stopped, places_end, places_on, roots_entered, roots_failed, roots_need}
+use Rattle.jdiff.proofs.StepLemmas.{PutsPairStepOn}
 use Rattle.jdiff.proofs.walk.put_differences.Goals as goal
 
 pub returns-in_err-seen : goal.returns-in_err-seen
@@ -10,15 +11,19 @@ returns-in_err-seen g c =
     (g.T.Sink.failures c.args.sink.now) (g.T.Sink.failures c.visit.new.sink) c.from_residual.result fault c.from_residual.ensures.1
     (roots_failed c.args.times c.args.left.now.state c.args.right.now.state c.new-met_left.result c.new-met_right.result c.visit.new.met_left c.visit.new.met_right fault
     (g.T.Sink.taken c.args.sink.now) (g.T.Sink.taken c.visit.new.sink) (g.T.Sink.failures c.args.sink.now) (g.T.Sink.failures c.visit.new.sink)
-    c.new-met_left.ensures.empty c.new-met_right.ensures.empty c.in_err-seen.ensures)
+    c.new-met_left.ensures.0 c.new-met_right.ensures.0 c.in_err-seen.ensures)
 
 pub loop-walk-init : goal.loop-walk-init
 loop-walk-init g c =
     let w : Walk = record { path = c.new.result; left = c.new-2.result; above = c.new-3.result; met_left = c.visit.new.met_left; met_right = c.visit.new.met_right } in
+    let needs = roots_need c.args.left.now.state c.args.right.now.state c.new-met_left.result c.new-met_right.result c.new-met_left.ensures c.new-met_right.ensures in
     record {
+      needs = needs_below c.args.times c.args.left.now.state c.args.right.now.state w c.new-met_left.result c.new-met_right.result c.in_ok-seen.seen
+          (g.T.Sink.taken c.args.sink.now) (g.T.Sink.taken c.visit.new.sink) (g.T.Sink.failures c.args.sink.now) (g.T.Sink.failures c.visit.new.sink)
+          needs c.new.ensures.items c.new-2.ensures c.new-3.ensures.items c.in_ok-seen.ensures;
       so_far = roots_entered c.args.times c.args.left.now.state c.args.right.now.state w c.new-met_left.result c.new-met_right.result c.in_ok-seen.seen
           (g.T.Sink.taken c.args.sink.now) (g.T.Sink.taken c.visit.new.sink) (g.T.Sink.failures c.args.sink.now) (g.T.Sink.failures c.visit.new.sink)
-          c.new-met_left.ensures.empty c.new-met_right.ensures.empty c.new.ensures.items c.new-2.ensures c.new-3.ensures.items c.in_ok-seen.ensures;
+          needs c.new-met_left.ensures.0 c.new-met_right.ensures.0 c.new.ensures.items c.new-2.ensures c.new-3.ensures.items c.in_ok-seen.ensures;
       failed = c.in_ok-seen.ensures.6;
     }
 
@@ -46,15 +51,17 @@ loop-walk-preserved g c =
     let far = c.loop-walk.invariant in
     let put = subst (λ (o : Option ℕ). PutsPairStepOn c.args.times s t w n b d before now (Ok o)) c.in-Some.is c.in_ok-more.ensures in
     record {
-      so_far = places_on c.args.times s t w n a b d c.loop-walk.lines c.in-Some.more c.saturating_add-lines.result before now far.so_far put c.saturating_add-lines.ensures;
-      failed = put.2 ∙ far.failed;
+      needs = needs_on c.args.times s t w n b d before now c.in-Some.more far.needs put;
+      so_far = places_on c.args.times s t w n a b d c.loop-walk.lines c.in-Some.more c.saturating_add-lines.result before now far.needs far.so_far put c.saturating_add-lines.ensures;
+      failed = put.1 ∙ far.failed;
     }
 
 pub loop-walk-smaller : goal.loop-walk-smaller
 loop-walk-smaller g c =
     let put = subst (λ (o : Option ℕ). PutsPairStepOn c.args.times c.args.left.now.state c.args.right.now.state c.loop-walk.walk c.step.new.self (g.T.Sink.taken c.loop-walk.sink) (g.T.Sink.taken c.step.new.sink)
     (g.T.Sink.failures c.loop-walk.sink) (g.T.Sink.failures c.step.new.sink) (Ok o)) c.in-Some.is c.in_ok-more.ensures in
-    put.1
+    comes_nearer c.args.times c.args.left.now.state c.args.right.now.state c.loop-walk.walk c.step.new.self (g.T.Sink.taken c.loop-walk.sink) (g.T.Sink.taken c.step.new.sink)
+    (g.T.Sink.failures c.loop-walk.sink) (g.T.Sink.failures c.step.new.sink) c.in-Some.more c.loop-walk.invariant.needs put
 
 pub returns : goal.returns
 returns g c =

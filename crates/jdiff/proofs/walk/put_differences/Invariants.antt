@@ -1,10 +1,10 @@
 use Rattle.std.proofs.Common.{◌≡◌}
-use Rattle.jdiff.specs.Walking.{steps_to_go}
-use Rattle.jdiff.proofs.StepLemmas.{ReachesPlaces}
+use Rattle.jdiff.proofs.ReachLemmas.{NeedsLeft, ReachesPlaces, steps_to_go}
 use Rattle.jdiff.proofs.walk.put_differences.Given as goal
 
 abbrev pub invariant-loop-walk : goal.invariant-loop-walk
 invariant-loop-walk g l = record {
+  needs : NeedsLeft l.fn.left.state l.fn.right.state l.walk;
   so_far : ReachesPlaces l.fn.times l.fn.left.state l.fn.right.state l.walk (g.T.Sink.taken l.fn.sink) (g.T.Sink.taken l.sink) l.lines;
   failed : g.T.Sink.failures l.sink ≡ g.T.Sink.failures l.fn.sink;
 }
