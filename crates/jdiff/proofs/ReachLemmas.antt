@@ -8,7 +8,7 @@ use Rattle.std.proofs.lemmas.Grind.{flat_map-append}
 use Rattle.flashbase.specs.Device.{PutsPart, next_count}
 use Rattle.flashbase.proofs.DeviceLemmas.{part_before, part_behind}
 use Rattle.jmount.specs.Tree.{State}
-use Rattle.jreport.specs.TreeText.{Item, Met, none_met}
+use Rattle.jreport.specs.TreeText.{Met, none_met}
 use Rattle.jreport.specs.Remembering.{Becomes, RemembersNone, remembered}
 use Rattle.jreport.specs.declared.met.MetDirectories.{MetDirectories}
 use Rattle.jreport.specs.declared.faults.ProgramFault.{ProgramFault}

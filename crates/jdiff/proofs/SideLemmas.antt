@@ -1,5 +1,5 @@
 -- One tree of a walk through two: what the walk does not remember to have met there makes no difference.
-use Rattle.std.proofs.Common.{◌≡◌, ℕ, ◌+◌, ◌≤◌, ◌&&◌, cond, Bool, true, false, List, [], ◌∷◌, ◌++◌, map, length, refl, sym, ap, ◌∙◌, subst, arith, Option, Some, None, inl, inr, ◌⊎◌, ⊎_elim}
+use Rattle.std.proofs.Common.{◌≡◌, ℕ, ◌+◌, ◌≤◌, cond, Bool, true, false, List, [], ◌∷◌, ◌++◌, map, length, sym, ap, ◌∙◌, subst, arith, Option, Some, None, inl, ◌⊎◌, ⊎_elim}
 use Rattle.std.specs.Prelude.{filter_map, option_map}
 use Rattle.std.specs.List.{cons_option}
 use Rattle.std.proofs.lemmas.List.Sums.{length-filter, count_by-le-length}
@@ -7,7 +7,7 @@ use Rattle.jmount.specs.Tree.{State, object, is_there, is_directory, entries_in}
 use Rattle.jmount.specs.Shown.{readable, shown}
 use Rattle.jmount.proofs.ShapeLemmas.{IsShaped}
 use Rattle.jreport.specs.Remembering.{Becomes, remembered}
-use Rattle.jreport.specs.TreeText.{Item, Met, items_of, met_after, todo_after, is_entered}
+use Rattle.jreport.specs.TreeText.{Item, Met, met_after, todo_after, is_entered}
 use Rattle.jreport.specs.declared.met.MetDirectories.{MetDirectories}
 use Rattle.jreport.proofs.AheadLemmas.{names_ahead, next_ahead}
 use Rattle.jreport.proofs.ListedOnceLemmas.{AreFresh, fresh_after, no_mark}
@@ -49,7 +49,7 @@ side_ahead s old new path None todo needs becomes =
     omega (arith, same)
 side_ahead s old new path (Some i) todo needs becomes =
     let then : names_ahead s (remembered new) (items_then s (remembered old) path (Some i) todo)
-        ≡ names_ahead s (met_after s (remembered old) i) (todo_after s (remembered old) (path, i) todo) =
+    ≡ names_ahead s (met_after s (remembered old) i) (todo_after s (remembered old) (path, i) todo) =
     ap (names_ahead s (remembered new)) (entered_items s (remembered old) path i todo) ∙ after_ahead s old new (path, i) todo needs becomes in
     omega (arith, then, next_ahead s (remembered old) (path, i) todo, few_entered s (remembered old) i)
 

@@ -1,33 +1,29 @@
 -- The steps of a walk through two trees.
-use Rattle.std.proofs.Common.{◌≡◌, ℕ, ◌+◌, ◌-◌, ◌^◌, ◌<◌, ◌≤◌, Bool, List, [], ◌∷◌, ◌++◌, length, map, take, min, refl, sym, ap, ◌∙◌, subst, arith, append_assoc, append-nil, Option, Some, None, Result, Ok, Err, Bor, inl, inr, ◌*◌}
+use Rattle.std.proofs.Common.{◌≡◌, ℕ, ◌+◌, ◌-◌, ◌<◌, Bool, List, [], ◌∷◌, ◌++◌, length, map, take, refl, sym, ap, ◌∙◌, subst, arith, append-nil, Option, Some, None, Result, Ok, Err, Bor, inl, inr, ◌*◌}
 use Rattle.std.specs.Prelude.{reverse, sum_by, IsErrAnd}
 use Rattle.std.specs.List.{flat_map}
 use Rattle.std.specs.Io.KnownBytes.{Appends}
-use Rattle.std.proofs.KnownBytes.{Appends-nil, Appends-trans}
+use Rattle.std.proofs.KnownBytes.{Appends-nil}
 use Rattle.std.proofs.lemmas.Grind.{flat_map-append}
 use Rattle.std.proofs.lemmas.List.Sums.{sum_by_push}
 use Rattle.std.proofs.lemmas.List.{map-append, reverse-append, length_push, length-append}
 use Rattle.std.proofs.Math.Seq.{take-append_seam}
-use Rattle.flashbase.specs.Device.{PutsPart, next_count}
-use Rattle.flashbase.proofs.DeviceLemmas.{part_before, part_behind}
+use Rattle.flashbase.specs.Device.{PutsPart}
+use Rattle.flashbase.proofs.DeviceLemmas.{part_before}
 use Rattle.jmount.specs.Tree.{State}
 use Rattle.jmount.specs.Find.{way_up}
-use Rattle.jreport.specs.TreeText.{Met, none_met}
 use Rattle.jreport.specs.Remembering.{remembered}
 use Rattle.jreport.specs.declared.met.MetDirectories.{MetDirectories}
 use Rattle.jreport.specs.declared.faults.ProgramFault.{ProgramFault}
 use Rattle.jreport.specs.declared.faults.ProgramFault.TheVariants as program
 use Rattle.jreport.specs.declared.faults.ProgramFault.TheVariants.{Output, OutOfMemory}
 use Rattle.jdiff.specs.Changes.{changes}
-use Rattle.jdiff.specs.Differing.{PutsPartOfDifferences, PutsDifferences}
 use Rattle.jdiff.specs.Names.{SharedName, names_there, joined}
 use Rattle.jdiff.specs.Pairing.{Place, lines_on, text_on, count_on}
-use Rattle.jdiff.specs.Walking.{Spot, spot_entry, met_by, entered_at, spots_of, spot_place, spots_after, AreSpotPlaces, root_spot, spot_lines, spot_text, spots_up, way_of_pair, spots_left, AreLeft, pairs_open, names_entered, PairGoesUp, PutsPartOfLeft, PutsPairStep}
+use Rattle.jdiff.specs.Walking.{Spot, met_by, entered_at, spots_of, spot_place, spots_after, AreSpotPlaces, spot_lines, spot_text, spots_up, way_of_pair, spots_left, AreLeft, pairs_open, names_entered, PairGoesUp, PutsPartOfLeft, PutsPairStep}
 use Rattle.jdiff.specs.declared.walk.Walk.{Walk}
 use Rattle.jdiff.specs.declared.walk.Visited.{Visited}
-use Rattle.jdiff.proofs.LineLemmas.{changes_few}
-use Rattle.jdiff.proofs.PairedLemmas.{differences_of}
-use Rattle.jdiff.proofs.PlaceLemmas.{joined_long, side_falls, has_places}
+use Rattle.jdiff.proofs.PlaceLemmas.{joined_long, has_places}
 use Rattle.jdiff.proofs.SpotLemmas.{PutsSpotOn}
 
 -- a step, of each part by itself

@@ -5,4 +5,6 @@
 #[cfg(test)]
 mod checks;
 #[cfg(test)]
+mod growth;
+#[cfg(test)]
 mod pairs;

@@ -11,7 +11,7 @@ use std::test::Fail;
 use test_support::{Attributes, DIRECTORY, FILE, Node, SYMLINK, Taker, image_of_nodes};
 
 /// A block with room for a file of two pieces.
-const GEOMETRY: Geometry = Geometry { block: 16384 };
+pub(crate) const GEOMETRY: Geometry = Geometry { block: 16384 };
 
 /// Of an object that is not owned otherwise.
 const PLAIN: Attributes = Attributes {
@@ -22,7 +22,7 @@ const PLAIN: Attributes = Attributes {
 };
 
 /// An image of these nodes.
-fn image_of(alloc: Global, nodes: &[Node<'_>]) -> Result<Vec<u8>, &'static str> {
+pub(crate) fn image_of(alloc: Global, nodes: &[Node<'_>]) -> Result<Vec<u8>, &'static str> {
     image_of_nodes::<LittleEndian>(alloc, nodes, PLAIN).map_err(|_| "no image")
 }
 
@@ -59,7 +59,7 @@ type Row = (
     u64,
 );
 
-const LEFT: &[Node<'static>] = &[
+pub(crate) const LEFT: &[Node<'static>] = &[
     Node::Owned(2, FILE, b"abc", 1, 2, 5),
     Node::Inode(3, DIRECTORY, b""),
     Node::Inode(4, FILE, b"hi"),
@@ -73,7 +73,7 @@ const LEFT: &[Node<'static>] = &[
     Node::Entry(1, 9, b"missing"),
 ];
 
-const RIGHT: &[Node<'static>] = &[
+pub(crate) const RIGHT: &[Node<'static>] = &[
     Node::Owned(2, FILE, b"abd", 1, 2, 7),
     Node::Inode(4, FILE, b""),
     Node::Inode(5, SYMLINK, b"y"),
@@ -86,7 +86,7 @@ const RIGHT: &[Node<'static>] = &[
     Node::Entry(1, 7, b"z"),
 ];
 
-const CHANGED: &str = "* /a at 2\n\
+pub(crate) const CHANGED: &str = "* /a at 2\n\
 - d 0755 0 0 0 /d\n\
 - - 0644 0 0 2 /d/in\n\
 + - 0644 0 0 0 /d.x\n\
@@ -108,16 +108,21 @@ const CHANGED_WITH_TIMES: &str = "- - 0644 1 2 3 5 /a\n\
 + d 0755 0 0 0 0 /z\n";
 
 /// Directory 2 has two names, and itself in it.
-const AGAIN: &[Node<'static>] = &[
+pub(crate) const AGAIN: &[Node<'static>] = &[
     Node::Inode(2, DIRECTORY, b""),
     Node::Entry(1, 2, b"a"),
     Node::Entry(1, 2, b"b"),
     Node::Entry(2, 2, b"c"),
 ];
 
-const ONCE: &[Node<'static>] = &[Node::Inode(2, DIRECTORY, b""), Node::Entry(1, 2, b"a")];
+pub(crate) const ONCE: &[Node<'static>] = &[
+    Node::Inode(2, DIRECTORY, b""),
+    Node::Entry(1, 2, b"a"),
+];
 
-const AGAIN_LINES: &str = "- d 0755 0 0 0 /a/c (again)\n- d 0755 0 0 0 /b (again)\n";
+pub(crate) const AGAIN_LINES: &str = "- d 0755 0 0 0 /a/c (again)\n- d 0755 0 0 0 /b (again)\n";
+
+pub(crate) const AGAIN_ADDED: &str = "+ d 0755 0 0 0 /a/c (again)\n+ d 0755 0 0 0 /b (again)\n";
 
 const OURS: &[Node<'static>] = &[
     Node::Owned(2, FILE, b"abc", 1, 2, 5),
@@ -139,13 +144,14 @@ const HOLES: &[Node<'static>] = &[
     Node::Entry(1, 2, b"c"),
 ];
 
-const ROWS: [Row; 8] = [
+const ROWS: [Row; 9] = [
     (HOLES, HOLES, true, "", 0),
     (&[], &[], true, "", 0),
     (LEFT, LEFT, true, "", 0),
     (LEFT, RIGHT, false, CHANGED, 9),
     (LEFT, RIGHT, true, CHANGED_WITH_TIMES, 10),
     (AGAIN, ONCE, false, AGAIN_LINES, 2),
+    (ONCE, AGAIN, false, AGAIN_ADDED, 2),
     (AGAIN, AGAIN, false, "", 0),
     (OURS, THEIRS, false, OWNERS, 2),
 ];
