@@ -19,7 +19,7 @@ use Rattle.jreport.proofs.RememberingLemmas.{NeedsNone, needs_first}
 use Rattle.jdiff.specs.Differing.{PutsPartOfDifferences, PutsDifferences}
 use Rattle.jdiff.specs.Names.{SharedName, names_there, joined}
 use Rattle.jdiff.specs.Pairing.{Place, lines_on, text_on, count_on}
-use Rattle.jdiff.specs.Walking.{Spot, spot_entry, met_by, entered_at, spot_place, spots_after, AreSpotPlaces, root_spot, spot_lines, spot_text, spots_up, spots_left, AreLeft, pairs_open, names_entered, PassesUp, PutsNext, PutsPartOfLeft}
+use Rattle.jdiff.specs.Walking.{Spot, spot_entry, met_by, entered_at, spot_place, spots_after, AreSpotPlaces, root_spot, spot_lines, spot_text, spots_up, spots_left, AreLeft, pairs_open, entered_names, PassesUp, PutsNextPlace, PutsPartOfLeft}
 use Rattle.jdiff.specs.declared.walk.Walk.{Walk}
 use Rattle.jdiff.specs.declared.walk.Visited.{Visited}
 use Rattle.jdiff.proofs.LineLemmas.{changes_few}
@@ -40,11 +40,11 @@ NeedsLeft s t w = NeedsBoth s t w.met_left w.met_right (spots_left w)
 
 lefts_then : (s t : State) (a b : MetDirectories) (spot : Spot) (rest : List Spot) → filter_map left_item (spots_after s t (remembered a) (remembered b) spot rest)
     ≡ items_then s (remembered a) spot.0 spot.1 (filter_map left_item rest)
-lefts_then s t a b spot rest = left_spots spot.0 (names_entered s a spot.1) (names_entered t b spot.2) rest
+lefts_then s t a b spot rest = left_spots spot.0 (entered_names s a spot.1) (entered_names t b spot.2) rest
 
 rights_then : (s t : State) (a b : MetDirectories) (spot : Spot) (rest : List Spot) → filter_map right_item (spots_after s t (remembered a) (remembered b) spot rest)
     ≡ items_then t (remembered b) spot.0 spot.2 (filter_map right_item rest)
-rights_then s t a b spot rest = right_spots spot.0 (names_entered s a spot.1) (names_entered t b spot.2) rest
+rights_then s t a b spot rest = right_spots spot.0 (entered_names s a spot.1) (entered_names t b spot.2) rest
 
 needs_after : (s t : State) (a b c d : MetDirectories) (spot : Spot) (rest : List Spot) → NeedsBoth s t a b (spot ∷ rest) → Becomes a c (met_by s (remembered a) spot.1)
     → Becomes b d (met_by t (remembered b) spot.2) → NeedsBoth s t c d (spots_after s t (remembered a) (remembered b) spot rest)
@@ -74,7 +74,7 @@ both_ahead s t a b todo = names_ahead s (remembered a) (filter_map left_item tod
 
 ahead_after : (s t : State) (a b c d : MetDirectories) (spot : Spot) (rest : List Spot) → NeedsBoth s t a b (spot ∷ rest) → Becomes a c (met_by s (remembered a) spot.1)
     → Becomes b d (met_by t (remembered b) spot.2)
-    → length (names_entered s a spot.1) + length (names_entered t b spot.2) + both_ahead s t c d (spots_after s t (remembered a) (remembered b) spot rest) ≤ both_ahead s t a b (spot ∷ rest)
+    → length (entered_names s a spot.1) + length (entered_names t b spot.2) + both_ahead s t c d (spots_after s t (remembered a) (remembered b) spot rest) ≤ both_ahead s t a b (spot ∷ rest)
 ahead_after s t a b c d spot rest needs ours theirs =
     let left = ap (names_ahead s (remembered c)) (lefts_then s t a b spot rest) in
     let right = ap (names_ahead t (remembered d)) (rights_then s t a b spot rest) in
@@ -111,8 +111,8 @@ root_here s t w a b v path left above ours theirs =
     ap (λ (p : List (Bor (List ℕ))). spots_up (w.left ∷ reverse w.above.items) (map (λ n. n.now) p)) path
     ∙ ap (λ (l : List SharedName). spots_up (l ∷ reverse w.above.items) []) (left
     ∙ ap (λ (d : Option ℕ). joined (names_there s d) (names_there t v.right)) ours
-    ∙ ap (λ (d : Option ℕ). joined (names_entered s a (Some 1)) (names_there t d)) theirs)
-    ∙ ap (λ (l : List (List SharedName)). spots_up (joined (names_entered s a (Some 1)) (names_entered t b (Some 1)) ∷ reverse l) []) above
+    ∙ ap (λ (d : Option ℕ). joined (entered_names s a (Some 1)) (names_there t d)) theirs)
+    ∙ ap (λ (l : List (List SharedName)). spots_up (joined (entered_names s a (Some 1)) (entered_names t b (Some 1)) ∷ reverse l) []) above
 
 pub roots_need : (s t : State) (a b : MetDirectories) → RemembersNone s a → RemembersNone t b → NeedsBoth s t a b (root_spot ∷ [])
 roots_need s t a b none nothing = record { left = needs_first s a ([], 1) none refl; right = needs_first t b ([], 1) nothing refl }
@@ -184,11 +184,11 @@ up_places s t w n old new count places up are =
 abbrev next_place : State → State → Walk → Spot → Place
 next_place s t w spot = spot_place s t (remembered w.met_left) (remembered w.met_right) spot
 
-next_needs : (times : Bool) (s t : State) (w n : Walk) (old new : Option (List ℕ)) (count : ℕ) (next : PutsNext times s t w n old new count) → NeedsLeft s t w
+next_needs : (times : Bool) (s t : State) (w n : Walk) (old new : Option (List ℕ)) (count : ℕ) (next : PutsNextPlace times s t w n old new count) → NeedsLeft s t w
     → NeedsBoth s t w.met_left w.met_right (next.spot ∷ next.rest)
 next_needs times s t w n old new count next needs = subst (NeedsBoth s t w.met_left w.met_right) next.todo needs
 
-next_places : (times : Bool) (s t : State) (w n : Walk) (old new : Option (List ℕ)) (count : ℕ) (places : List Place) (next : PutsNext times s t w n old new count) → NeedsLeft s t w
+next_places : (times : Bool) (s t : State) (w n : Walk) (old new : Option (List ℕ)) (count : ℕ) (places : List Place) (next : PutsNextPlace times s t w n old new count) → NeedsLeft s t w
     → AreLeft s t n places → AreLeft s t w (next_place s t w next.spot ∷ places)
 next_places times s t w n old new count places next needs are =
     subst (λ (todo : List Spot). AreSpotPlaces s t (remembered w.met_left) (remembered w.met_right) todo (next_place s t w next.spot ∷ places)) (sym next.todo)
@@ -203,7 +203,7 @@ needs_on times s t w n old new before now count needs put =
     subst (λ (m : MetDirectories). NeedsBoth s t m n.met_right (spots_left n)) (sym up.left)
     (subst (λ (m : MetDirectories). NeedsBoth s t w.met_left m (spots_left n)) (sym up.right)
     (subst (NeedsBoth s t w.met_left w.met_right) (sym up.todo) needs)))
-    (λ (next : PutsNext times s t w n old new count).
+    (λ (next : PutsNextPlace times s t w n old new count).
     subst (NeedsBoth s t n.met_left n.met_right) (sym next.todo_then)
     (needs_after s t w.met_left w.met_right n.met_left n.met_right next.spot next.rest (next_needs times s t w n old new count next needs) next.left next.right))
     put.0
@@ -222,14 +222,14 @@ comes_nearer times s t w n old new before now count needs put =
     ∙ ap (λ (m : MetDirectories). both_ahead s t m n.met_right (spots_left w)) up.left
     ∙ ap (λ (m : MetDirectories). both_ahead s t w.met_left m (spots_left w)) up.right in
     omega (arith, same, up.nearer))
-    (λ (next : PutsNext times s t w n old new count).
+    (λ (next : PutsNextPlace times s t w n old new count).
     let here : both_ahead s t w.met_left w.met_right (spots_left w) ≡ both_ahead s t w.met_left w.met_right (next.spot ∷ next.rest) =
     ap (both_ahead s t w.met_left w.met_right) next.todo in
     let then : both_ahead s t n.met_left n.met_right (spots_left n) ≡ both_ahead s t n.met_left n.met_right (spots_after s t (remembered w.met_left) (remembered w.met_right) next.spot next.rest) =
     ap (both_ahead s t n.met_left n.met_right) next.todo_then in
     let falls = ahead_after s t w.met_left w.met_right n.met_left n.met_right next.spot next.rest (next_needs times s t w n old new count next needs) next.left next.right in
     less (both_ahead s t w.met_left w.met_right (spots_left w)) (both_ahead s t n.met_left n.met_right (spots_left n)) _ _
-    (length (names_entered s w.met_left next.spot.1) + length (names_entered t w.met_right next.spot.2)) (pairs_open n) (pairs_open w) here then falls next.nearer)
+    (length (entered_names s w.met_left next.spot.1) + length (entered_names t w.met_right next.spot.2)) (pairs_open n) (pairs_open w) here then falls next.nearer)
     put.0
   where
     less : (a b c d m x y : ℕ) → a ≡ c → b ≡ d → m + d ≤ c → x < y + 2 * m → 2 * b + x < 2 * a + y
@@ -245,7 +245,7 @@ places_on times s t w n a b c count more next before now needs far put sum =
       counted = stayed (count_on times far.done) far.counted up.counted;
       rest = λ places are. far.rest places (up_places s t w n b c more places up are);
     })
-    (λ (put : PutsNext times s t w n b c more).
+    (λ (put : PutsNextPlace times s t w n b c more).
     let place = next_place s t w put.spot in
     let lines = spot_lines times s t w.met_left w.met_right put.spot in
     let alone : lines_on times (place ∷ []) ≡ lines = append-nil lines in

@@ -16,7 +16,7 @@ use Rattle.jreport.proofs.RememberingLemmas.{MakesNone, NeedsNone, after_ahead, 
 use Rattle.jdiff.specs.Entries.{entry_if}
 use Rattle.jdiff.specs.Names.{names_there, joined}
 use Rattle.jdiff.specs.Pairing.{Place}
-use Rattle.jdiff.specs.Walking.{Spot, spot_entry, met_by, entered_at, spots_of, AreSpotPlaces, names_entered}
+use Rattle.jdiff.specs.Walking.{Spot, spot_entry, met_by, entered_at, spots_of, AreSpotPlaces, entered_names}
 use Rattle.jdiff.proofs.PlaceLemmas.{left_item, right_item, item_below, left_spots, right_spots, entered_items}
 
 -- ---- a path that is visited, before what else is still to list
@@ -43,7 +43,7 @@ few_entered s met i = by (is_entered s met i)
 
 pub side_ahead : (s : State) (old new : MetDirectories) (path : List (List ℕ)) (o : Option ℕ) (todo : List Item) → NeedsNone s old (items_with path o todo)
     → Becomes old new (met_by s (remembered old) o)
-    → length (names_entered s old o) + names_ahead s (remembered new) (items_then s (remembered old) path o todo) ≤ names_ahead s (remembered old) (items_with path o todo)
+    → length (entered_names s old o) + names_ahead s (remembered new) (items_then s (remembered old) path o todo) ≤ names_ahead s (remembered old) (items_with path o todo)
 side_ahead s old new path None todo needs becomes =
     let same : names_ahead s (remembered new) todo ≡ names_ahead s (remembered old) todo = ap (λ (m : Met). names_ahead s m todo) (stays_as old new becomes) in
     omega (arith, same)

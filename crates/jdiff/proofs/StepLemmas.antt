@@ -20,7 +20,7 @@ use Rattle.jreport.specs.declared.faults.ProgramFault.TheVariants.{Output, OutOf
 use Rattle.jdiff.specs.Changes.{changes}
 use Rattle.jdiff.specs.Names.{SharedName, names_there, joined}
 use Rattle.jdiff.specs.Pairing.{Place, lines_on, text_on, count_on}
-use Rattle.jdiff.specs.Walking.{Spot, met_by, entered_at, spots_of, spot_place, spots_after, AreSpotPlaces, spot_lines, spot_text, spots_up, way_of_pair, spots_left, AreLeft, pairs_open, names_entered, PairGoesUp, PutsPartOfLeft, PutsPairStep}
+use Rattle.jdiff.specs.Walking.{Spot, met_by, entered_at, spots_of, spot_place, spots_after, AreSpotPlaces, spot_lines, spot_text, spots_up, way_of_pair, spots_left, AreLeft, pairs_open, entered_names, PairGoesUp, PutsPartOfLeft, PutsPairStep}
 use Rattle.jdiff.specs.declared.walk.Walk.{Walk}
 use Rattle.jdiff.specs.declared.walk.Visited.{Visited}
 use Rattle.jdiff.proofs.PlaceLemmas.{joined_long, has_places}
@@ -115,10 +115,10 @@ enter_spots s t w n name i j names is =
     ∙ ap (λ (l : List (List SharedName)). spots_of (way_of_pair w ++ name ∷ []) below ++ spots_up l (way_of_pair w)) reversed
 
 enter_nearer : (s t : State) (w n : Walk) (name : List ℕ) (i j : Option ℕ) (names : List SharedName) → EntersPair s t w n name i j names
-    → pairs_open n < pairs_open w + 2 * (length (names_entered s w.met_left i) + length (names_entered t w.met_right j))
+    → pairs_open n < pairs_open w + 2 * (length (entered_names s w.met_left i) + length (entered_names t w.met_right j))
 enter_nearer s t w n name i j names is =
-    let xs = names_entered s w.met_left i in
-    let ys = names_entered t w.met_right j in
+    let xs = entered_names s w.met_left i in
+    let ys = entered_names t w.met_right j in
     let own : length n.left ≡ length (joined xs ys) = ap length is.left in
     let one : length w.left ≡ length names + 1 = ap length is.read ∙ omega arith in
     let sum : sum_by (λ left. length left) n.above.items ≡ sum_by (λ left. length left) w.above.items + length names =
@@ -135,7 +135,7 @@ enters_pair times s t w n name i j names v old new before now read left above wa
     let is : EntersPair s t w n name i j names = record {
       read = read;
       left = left ∙ ap (λ (d : Option ℕ). joined (names_there s d) (names_there t v.right)) put.1
-          ∙ ap (λ (d : Option ℕ). joined (names_entered s w.met_left i) (names_there t d)) put.2;
+          ∙ ap (λ (d : Option ℕ). joined (entered_names s w.met_left i) (names_there t d)) put.2;
       above = above;
       way = way;
     } in (

@@ -158,8 +158,8 @@ pairs_open w =
     2 * (length w.left + sum_by (λ left. length left) w.above.items) + length w.above.items
 
 -- the names of a directory that is entered
-abbrev pub names_entered : State → MetDirectories → Option ℕ → List (List ℕ × ℕ)
-names_entered s met i = names_there s (entered_at s (remembered met) i)
+abbrev pub entered_names : State → MetDirectories → Option ℕ → List (List ℕ × ℕ)
+entered_names s met i = names_there s (entered_at s (remembered met) i)
 
 -- ---- a step
 
@@ -173,7 +173,7 @@ pub record PassesUp (w w_after : Walk) (old new : Option (List ℕ)) (count : �
   pub counted : count ≡ 0
 
 -- the lines on the next path are put
-pub record PutsNext (times : Bool) (s t : State) (w w_after : Walk) (old new : Option (List ℕ))
+pub record PutsNextPlace (times : Bool) (s t : State) (w w_after : Walk) (old new : Option (List ℕ))
     (count : ℕ) : Type 0 where
   pub spot : Spot
   pub rest : List Spot
@@ -182,8 +182,8 @@ pub record PutsNext (times : Bool) (s t : State) (w w_after : Walk) (old new : O
       ≡ spots_after s t (remembered w.met_left) (remembered w.met_right) spot rest
   pub left : Becomes w.met_left w_after.met_left (met_by s (remembered w.met_left) spot.1)
   pub right : Becomes w.met_right w_after.met_right (met_by t (remembered w.met_right) spot.2)
-  pub nearer : pairs_open w_after < pairs_open w + 2 * (length (names_entered s w.met_left spot.1)
-      + length (names_entered t w.met_right spot.2))
+  pub nearer : pairs_open w_after < pairs_open w + 2 * (length (entered_names s w.met_left spot.1)
+      + length (entered_names t w.met_right spot.2))
   pub put : Appends old new (spot_text times s t w.met_left w.met_right spot)
   pub counted : count ≡ length (spot_lines times s t w.met_left w.met_right spot)
 
@@ -203,7 +203,7 @@ PutsPartOfLeft times s t w old new =
 abbrev pub PutsPairStep : Bool → State → State → Walk → Walk → SinkChange
     → Result (Option ℕ) ProgramFault → Type 0
 PutsPairStep times s t w w_after sink (Ok (Some n)) =
-    (PassesUp w w_after sink.old sink.new n ⊎ PutsNext times s t w w_after sink.old sink.new n)
+    (PassesUp w w_after sink.old sink.new n ⊎ PutsNextPlace times s t w w_after sink.old sink.new n)
     × (sink.now ≡ sink.before)
 PutsPairStep times s t w w_after sink (Ok None) =
     (spots_left w ≡ []) × Appends sink.old sink.new [] × (sink.now ≡ sink.before)
