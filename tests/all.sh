@@ -1,9 +1,10 @@
 #!/usr/bin/env bash
 # Passes all tests: `rt ci` (every proof from nothing, the tests, the program's stored run), and meanwhile the wrong bodies that
 # the prover must refuse, and from when it is made on the program as a user meets it and on what is made to do harm; and the
-# names in the tables of docs. `rt ci` gets a copy of the tree without the wrong bodies, which it would try one after another (tests/edits.py tries
-# many at once), and without the benchmarks, which judge nothing and are proved where they are built. The last lines are where
-# the processor time of `rt ci` and of the wrong bodies went, crate by crate in minutes, and 'N passed, M failed'.
+# names in the tables of docs. `rt ci` gets a copy of the tree without the wrong bodies, which it would try one after another
+# (tests/edits.py tries many at once), and without the benchmarks, which judge nothing and are proved where they are built. The
+# last lines are where the processor time of `rt ci` and of the wrong bodies went, crate by crate in minutes, and 'N passed, M
+# failed'.
 set -uo pipefail
 cd "$(dirname "$0")/.."
 logs=$(mktemp -d)
