@@ -38,7 +38,5 @@ pub use crate::mounted::{Mounted, ROOT};
 pub use crate::mounting::{mount, mount_scanned};
 pub use crate::object::{GREATEST_TARGET, Kind, Object};
 pub use crate::path::{after_slash, is_name};
-pub use crate::shown::{
-    DIRECTORY_BITS, FIFO_BITS, REGULAR_BITS, SOCKET_BITS, SYMLINK_BITS, kind_of, type_bits,
-};
+pub use crate::shown::{DIRECTORY_BITS, FIFO_BITS, REGULAR_BITS, SOCKET_BITS, kind_of, type_bits};
 pub use crate::walk::Objects;

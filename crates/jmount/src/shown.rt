@@ -18,7 +18,7 @@ pub const DIRECTORY_BITS: u32 = 4;
 pub const REGULAR_BITS: u32 = 8;
 
 /// Those of a symlink's.
-pub const SYMLINK_BITS: u32 = 10;
+const SYMLINK_BITS: u32 = 10;
 
 /// Those of a socket's.
 pub const SOCKET_BITS: u32 = 12;

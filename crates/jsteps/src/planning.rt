@@ -26,7 +26,7 @@ use crate::site::{end_of, is_one_entry, look_up, look_up_both, meets_above, reac
 use crate::step::Step;
 use crate::text::Text;
 use flashbase::Part;
-use jmount::{DIRECTORY_BITS, FIFO_BITS, GREATEST_TARGET, REGULAR_BITS, SOCKET_BITS, SYMLINK_BITS};
+use jmount::{DIRECTORY_BITS, GREATEST_TARGET};
 use jscan::Page;
 use std::alloc::{AllocError, Global};
 
