@@ -1,13 +1,9 @@
 //! Listings on bases that hold something. More of them are in tests/program.sh.
 
 use crate::checks::{equal, expect, expect_at};
-use crate::runs::{GEOMETRY, Row, holds, read_files};
+use crate::runs::{Row, emitted, holds};
 use byteorder::LittleEndian;
-use jbuild::{emit, operations};
-use jlisting::listing;
 use jlog::{Place, SessionFault};
-use jmount::mount;
-use jscan::Page;
 use std::alloc::Global;
 use std::test::Fail;
 use test_support::{FORBIDS, LITTLE_MARKER, MADE, Taker};
@@ -94,19 +90,12 @@ fn a_base_that_is_erased(rt: HostRuntime) -> Result<(), Fail> {
 
 /// Why nothing is put for a file on a base. The sink comes back as it was.
 fn refused(alloc: Global, base: &[u8], blocks: u32) -> Result<Option<SessionFault>, Fail> {
-    let parts = read_files(alloc)?;
-    let ops = operations::<LittleEndian>(alloc, listing(alloc, b"create 0644 /b")?, &parts)?;
-    let mounted = mount::<LittleEndian>(alloc, base, GEOMETRY)?;
     let sink = Taker::new(alloc);
-    match emit::<LittleEndian, _>(alloc, &mounted, GEOMETRY, blocks, Page::P4096, &ops, sink) {
-        Ok(_done) => Ok(None),
-        Err((fault, sink)) => {
-            if sink.took(0, &[]) {
-                Ok(Some(fault))
-            } else {
-                Err(Fail::from("the sink is not as it was"))
-            }
-        }
+    match emitted::<LittleEndian, _>(alloc, base, blocks, b"create 0644 /b", sink) {
+        Some(Ok(_done)) => Ok(None),
+        Some(Err((fault, sink))) if sink.took(0, &[]) => Ok(Some(fault)),
+        Some(Err(_)) => Err(Fail::from("the sink is not as it was")),
+        None => Err(Fail::from("the base does not mount")),
     }
 }
 

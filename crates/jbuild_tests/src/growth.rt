@@ -2,14 +2,11 @@
 
 use crate::built::SMALL;
 use crate::checks::{equal, expect};
-use crate::runs::{GEOMETRY, file_of};
+use crate::runs::{Answer, emitted_of, file_of};
 use byteorder::LittleEndian;
 use flashbase::Sink;
-use jbuild::{Emitted, HostFiles, emit, operations, put_accepted};
-use jlisting::listing;
+use jbuild::{Emitted, HostFiles, put_accepted};
 use jlog::{RunReport, SessionFault};
-use jmount::mount;
-use jscan::Page;
 use std::alloc::{AllocError, Global};
 use test_support::{MADE, Matcher, Taker};
 
@@ -31,17 +28,9 @@ fn read_two(alloc: Global) -> Result<HostFiles, AllocError> {
 }
 
 /// What `emit` answers of a row, and nothing where a growth is refused before.
-fn emitted<S: Sink>(
-    alloc: Global,
-    row: &Row<'_>,
-    sink: S,
-) -> Option<Result<(S, Emitted), (SessionFault, S)>> {
+fn emitted<S: Sink>(alloc: Global, row: &Row<'_>, sink: S) -> Option<Answer<S>> {
     let parts = read_two(alloc).ok()?;
-    let lines = listing(alloc, row.text).ok()?;
-    let ops = operations::<LittleEndian>(alloc, lines, &parts).ok()?;
-    let mounted = mount::<LittleEndian>(alloc, row.base, GEOMETRY).ok()?;
-    let page = Page::P4096;
-    Some(emit::<LittleEndian, _>(alloc, &mounted, GEOMETRY, row.blocks, page, &ops, sink))
+    emitted_of::<LittleEndian, S>(alloc, &parts, row.base, row.blocks, row.text, sink)
 }
 
 /// What goes out for a row, or why not all of it does.

@@ -62,13 +62,37 @@ fn are_written(ops: &[Op<'_>], time: u32, wanted: &[Write]) -> bool {
     same
 }
 
+/// The operations of a listing, in an order; nothing where it has none.
+fn ops_of<'b, E: Order>(
+    alloc: Global,
+    text: &'static [u8],
+    parts: &'b HostFiles,
+) -> Option<Vec<Op<'b>>> {
+    let lines = listing(alloc, text).ok()?;
+    operations::<E>(alloc, lines, parts).ok()
+}
+
+/// Adds files, given by their names and bytes.
+fn insert(
+    alloc: Global,
+    parts: &mut HostFiles,
+    files: &[(&'static str, &'static [u8])],
+) -> Result<(), Fail> {
+    for (name, bytes) in files {
+        parts.insert(name.to_string(alloc)?, bytes)?;
+    }
+    Ok(())
+}
+
 #[test]
 fn operations_have_the_bytes_of_their_files(rt: HostRuntime) -> Result<(), Fail> {
     let mut parts = HostFiles::new(rt.alloc());
-    parts.insert("f".to_string(rt.alloc())?, b"old")?;
-    parts.insert("f".to_string(rt.alloc())?, b"new")?;
-    parts.insert("g".to_string(rt.alloc())?, b"")?;
-    let ops = operations::<LittleEndian>(rt.alloc(), listing(rt.alloc(), TEXT)?, &parts)?;
+    insert(
+        rt.alloc(),
+        &mut parts,
+        &[("f", b"old"), ("f", b"new"), ("g", b"")],
+    )?;
+    let ops = ops_of::<LittleEndian>(rt.alloc(), TEXT, &parts).ok_or("no operations")?;
     equal(&rt, ops.len(), 6);
     expect(&rt, are_written(&ops, 7, writes()));
     expect(&rt, matches!(ops.get(4), Some(Op::Remove { time: 7, .. })));
@@ -96,24 +120,24 @@ fn sources() -> &'static [(&'static str, usize, usize, Result<(), LoadFault>)] {
     ]
 }
 
-/// A file, and one that is read from a source; two that fail, and one that is too long, change
-/// nothing.
-fn parts_read(alloc: Global) -> Result<HostFiles, Fail> {
-    let mut parts = HostFiles::new(alloc);
-    parts.insert("f".to_string(alloc)?, b"old")?;
+/// Adds a file, and one that is read from a source; two that fail, and one that is too long,
+/// change nothing.
+fn read(alloc: Global, parts: &mut HostFiles) -> Result<(), Fail> {
+    insert(alloc, parts, &[("f", b"old")])?;
     for &(name, calls, limit, wanted) in sources() {
         let mut source = Giver::failing(b"abcd", 1, calls);
         if parts.read(alloc, name.to_string(alloc)?, &mut source, limit) != wanted {
             return Err("another answer".into());
         }
     }
-    Ok(parts)
+    Ok(())
 }
 
 #[test]
 fn a_file_is_read_behind_the_others(rt: HostRuntime) -> Result<(), Fail> {
-    let parts = parts_read(rt.alloc())?;
-    let ops = operations::<LittleEndian>(rt.alloc(), listing(rt.alloc(), READ)?, &parts)?;
+    let mut parts = HostFiles::new(rt.alloc());
+    read(rt.alloc(), &mut parts)?;
+    let ops = ops_of::<LittleEndian>(rt.alloc(), READ, &parts).ok_or("no operations")?;
     equal(&rt, ops.len(), 4);
     expect(&rt, are_written(&ops, 0, found()));
     Ok(())
@@ -129,33 +153,32 @@ const IN_TURN: &[u8] = b"part /x 0 a\npart /x 1 b\npart /x 2 b\npart /x 3 bc\npa
 
 const TURNS: [&str; 10] = ["a", "b", "b", "", "cc", "d", "b/c", "d", "a", "b"];
 
-/// Files that have their names as bytes; the first `again` of them are read twice.
-fn in_order(alloc: Global, again: usize) -> Result<HostFiles, Fail> {
-    let mut parts = HostFiles::new(alloc);
-    for name in ORDER {
+/// Adds files that have their names as bytes; the first `again` of them are read twice.
+fn insert_in_order(alloc: Global, parts: &mut HostFiles, again: usize) -> Result<(), Fail> {
+    for name in ORDER.iter().chain(ORDER.iter().take(again)) {
         parts.insert(name.to_string(alloc)?, name.as_bytes())?;
     }
-    for name in ORDER.iter().take(again) {
-        parts.insert(name.to_string(alloc)?, name.as_bytes())?;
-    }
-    Ok(parts)
+    Ok(())
+}
+
+/// Whether the operations write the bytes of the files that they name.
+fn are_in_turn(ops: &[Op<'_>]) -> bool {
+    ops.len() == TURNS.len()
+        && ops.iter().zip(TURNS).all(|(op, wanted)| written(op).is_some_and(|write| write.2
+            == wanted.as_bytes()))
 }
 
 #[test]
 fn files_are_found_in_turn_and_out_of_turn(rt: HostRuntime) -> Result<(), Fail> {
     for again in 0..4 {
-        let parts = in_order(rt.alloc(), again)?;
+        let mut parts = HostFiles::new(rt.alloc());
+        insert_in_order(rt.alloc(), &mut parts, again)?;
         for name in ORDER {
             expect(&rt, parts.has(name) && !parts.has("bc"));
         }
         for _ in 0..2 {
-            let lines = listing(rt.alloc(), IN_TURN)?;
-            let ops = operations::<LittleEndian>(rt.alloc(), lines, &parts)?;
-            equal(&rt, ops.len(), TURNS.len());
-            for (op, wanted) in ops.iter().zip(TURNS) {
-                let bytes = written(op).map(|write| write.2);
-                equal(&rt, bytes, Some(wanted.as_bytes()));
-            }
+            let ops = ops_of::<LittleEndian>(rt.alloc(), IN_TURN, &parts);
+            expect(&rt, ops.is_some_and(|ops| are_in_turn(&ops)));
         }
     }
     Ok(())
@@ -164,22 +187,28 @@ fn files_are_found_in_turn_and_out_of_turn(rt: HostRuntime) -> Result<(), Fail> 
 /// Devices, of which one has numbers of 8 bits, and one more.
 const DEVICES: &[u8] = b"device c 0600 4 1 /c\ndevice b 0640 259 65537 /b\n";
 
-/// A device's kind, and the bytes of its number.
-/// Whether the operations of these lines make devices of these kinds and numbers.
-fn has_numbers<E: Order>(alloc: Global, wanted: [(DeviceKind, &[u8]); 2]) -> Result<bool, Fail> {
-    let parts = HostFiles::new(alloc);
-    let ops = operations::<E>(alloc, listing(alloc, DEVICES)?, &parts)?;
+/// Whether operations make devices of these kinds and numbers.
+fn are_devices(ops: &[Op<'_>], wanted: [(DeviceKind, &[u8]); 2]) -> bool {
     let mut same = ops.len() == 2;
     for (op, (kind, bytes)) in ops.iter().zip(wanted) {
         same = same
             && matches!(op, Op::Device { kind: found, number, .. }
                 if *found == kind && number.as_slice() == bytes);
     }
-    Ok(same)
+    same
+}
+
+/// Whether the operations of the lines make devices of these kinds and numbers, in an order.
+fn has_numbers<E: Order>(alloc: Global, wanted: [(DeviceKind, &[u8]); 2]) -> bool {
+    let parts = HostFiles::new(alloc);
+    match ops_of::<E>(alloc, DEVICES, &parts) {
+        Some(ops) => are_devices(&ops, wanted),
+        None => false,
+    }
 }
 
 #[test]
-fn devices_have_numbers_in_the_order_of_an_image(rt: HostRuntime) -> Result<(), Fail> {
+fn devices_have_numbers_in_the_order_of_an_image(rt: HostRuntime) {
     let little: [(DeviceKind, &[u8]); 2] = [
         (DeviceKind::Character, &[1, 4]),
         (DeviceKind::Block, &[1, 3, 1, 16]),
@@ -188,7 +217,6 @@ fn devices_have_numbers_in_the_order_of_an_image(rt: HostRuntime) -> Result<(), 
         (DeviceKind::Character, &[4, 1]),
         (DeviceKind::Block, &[16, 1, 3, 1]),
     ];
-    expect(&rt, has_numbers::<LittleEndian>(rt.alloc(), little)?);
-    expect(&rt, has_numbers::<BigEndian>(rt.alloc(), big)?);
-    Ok(())
+    expect(&rt, has_numbers::<LittleEndian>(rt.alloc(), little));
+    expect(&rt, has_numbers::<BigEndian>(rt.alloc(), big));
 }

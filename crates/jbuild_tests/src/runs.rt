@@ -1,12 +1,14 @@
-//! From the text of a listing to what goes out and is told.
+//! From the text of a listing to what goes out and is told. What may fail while operations or a
+//! mounted image live is a call of its own: each `?` proves anew that all that lives is dropped.
 
-use flashbase::FromWriter;
+use flashbase::{FromWriter, Sink};
 use jbuild::{Emitted, HostFiles, emit, operations, put_accepted};
 use jlisting::listing;
-use jlog::{Place, RunReport, resume_at};
+use jlog::{Place, RunReport, SessionFault, resume_at};
 use jmount::mount;
 use jnode::Order;
 use jscan::{Geometry, Page};
+use jsteps::Op;
 use std::alloc::{AllocError, Global};
 use std::test::Fail;
 
@@ -38,13 +40,77 @@ pub fn file_of(alloc: Global, byte: u8, len: usize) -> Result<Vec<u8>, AllocErro
     Ok(bytes)
 }
 
-/// The files, read.
-pub fn read_files(alloc: Global) -> Result<HostFiles, Fail> {
-    let mut parts = HostFiles::new(alloc);
+fn add_files(alloc: Global, parts: &mut HostFiles) -> Result<(), AllocError> {
     for &(name, byte, len) in files() {
         parts.insert(name.to_string(alloc)?, &file_of(alloc, byte, len)?)?;
     }
-    Ok(parts)
+    Ok(())
+}
+
+/// The files, read.
+pub fn read_files(alloc: Global) -> Result<HostFiles, AllocError> {
+    let mut parts = HostFiles::new(alloc);
+    match add_files(alloc, &mut parts) {
+        Ok(()) => Ok(parts),
+        Err(error) => Err(error),
+    }
+}
+
+/// What `emit` answers.
+pub type Answer<S> = Result<(S, Emitted), (SessionFault, S)>;
+
+/// What `emit` answers for operations on a base, on a flash of so many blocks; nothing where the
+/// base does not mount.
+fn emitted_on<E: Order, S: Sink>(
+    alloc: Global,
+    base: &[u8],
+    blocks: u32,
+    ops: &[Op<'_>],
+    sink: S,
+) -> Option<Answer<S>> {
+    let mounted = mount::<E>(alloc, base, GEOMETRY).ok()?;
+    Some(emit::<E, _>(alloc, &mounted, GEOMETRY, blocks, Page::P4096, ops, sink))
+}
+
+/// The same for a listing that names these files; nothing where it has none, too.
+pub fn emitted_of<E: Order, S: Sink>(
+    alloc: Global,
+    parts: &HostFiles,
+    base: &[u8],
+    blocks: u32,
+    text: &[u8],
+    sink: S,
+) -> Option<Answer<S>> {
+    let lines = listing(alloc, text).ok()?;
+    let ops = operations::<E>(alloc, lines, parts).ok()?;
+    emitted_on::<E, S>(alloc, base, blocks, &ops, sink)
+}
+
+/// The same for a listing that names the files of these tests.
+pub fn emitted<E: Order, S: Sink>(
+    alloc: Global,
+    base: &[u8],
+    blocks: u32,
+    text: &[u8],
+    sink: S,
+) -> Option<Answer<S>> {
+    let parts = read_files(alloc).ok()?;
+    emitted_of::<E, S>(alloc, &parts, base, blocks, text, sink)
+}
+
+/// Where writing goes on from a base.
+fn from_of<E: Order>(alloc: Global, base: &[u8], blocks: u32) -> Option<u32> {
+    let mounted = mount::<E>(alloc, base, GEOMETRY).ok()?;
+    resume_at::<E>(&mounted, GEOMETRY, blocks).ok()
+}
+
+/// The line that tells of a run from an address on.
+fn line_of(alloc: Global, from: u32, report: &RunReport) -> Option<Vec<u8>> {
+    let mut line = FromWriter::new(Vec::new(alloc));
+    match put_accepted(from, report.accepted, &report.places, &mut line) {
+        Ok(()) => Some(line.into_writer()),
+        Err(_) => None,
+    }
 }
 
 /// Runs a listing on a base, on a flash of so many blocks.
@@ -54,31 +120,18 @@ pub fn made<E: Order>(
     blocks: u32,
     text: &[u8],
 ) -> Result<Outcome, Fail> {
-    let parts = read_files(alloc)?;
-    let ops = operations::<E>(alloc, listing(alloc, text)?, &parts)?;
-    let mounted = mount::<E>(alloc, base, GEOMETRY)?;
-    let from = resume_at::<E>(&mounted, GEOMETRY, blocks)?;
+    let from = from_of::<E>(alloc, base, blocks).ok_or("not gone on from")?;
     let sink = FromWriter::new(Vec::new(alloc));
-    let Ok((sink, Emitted { report, blocks })) = emit::<E, _>(
-        alloc,
-        &mounted,
-        GEOMETRY,
-        blocks,
-        Page::P4096,
-        &ops,
-        sink,
-    ) else {
+    let Some(Ok(done)) = emitted::<E, _>(alloc, base, blocks, text, sink) else {
         return Err(Fail::from("not emitted"));
     };
-    let mut line = FromWriter::new(Vec::new(alloc));
-    if put_accepted(from, ops.len(), &report.places, &mut line).is_err() {
-        return Err(Fail::from("no line"));
-    }
+    let (sink, Emitted { report, blocks }) = done;
+    let line = line_of(alloc, from, &report);
     Ok(Outcome {
         output: sink.into_writer(),
         report,
         blocks,
-        line: line.into_writer(),
+        line: line.ok_or("no line")?,
     })
 }
 

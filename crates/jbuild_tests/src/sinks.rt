@@ -1,13 +1,10 @@
 //! Sinks that fail, and sinks that take little.
 
 use crate::checks::{equal, equal_at, expect};
-use crate::runs::{GEOMETRY, made, read_files};
+use crate::runs::{Answer, emitted, made};
 use byteorder::LittleEndian;
-use jbuild::{Emitted, emit, operations, put_accepted};
-use jlisting::listing;
+use jbuild::{Emitted, put_accepted};
 use jlog::{Place, SessionFault};
-use jmount::mount;
-use jscan::Page;
 use std::alloc::Global;
 use std::process::Abort;
 use std::test::Fail;
@@ -15,27 +12,20 @@ use test_support::{MADE, Taker};
 
 const TEXT: &[u8] = b"create 0644 /b\nwrite /b 0 0102\n";
 
-type Answer = Result<(Taker, Emitted), (SessionFault, Taker)>;
-
 /// What goes out for a file on a base of 124 bytes, which is gone on from at 8192.
-fn emitted(alloc: Global, sink: Taker) -> Result<Answer, Fail> {
-    let parts = read_files(alloc)?;
-    let ops = operations::<LittleEndian>(alloc, listing(alloc, TEXT)?, &parts)?;
-    let mounted = mount::<LittleEndian>(alloc, &MADE, GEOMETRY)?;
-    Ok(emit::<LittleEndian, _>(alloc, &mounted, GEOMETRY, 2, Page::P4096, &ops, sink))
+fn put(alloc: Global, sink: Taker) -> Option<Answer<Taker>> {
+    emitted::<LittleEndian, _>(alloc, &MADE, 2, TEXT, sink)
 }
 
 #[test]
 fn a_sink_that_takes_one_byte_a_call(rt: HostRuntime) -> Result<(), Fail> {
     let whole = made::<LittleEndian>(rt.alloc(), &MADE, 2, TEXT)?;
     equal(&rt, whole.output.len(), 8388);
-    let Ok((sink, Emitted { report, .. })) = emitted(
-        rt.alloc(),
-        Taker::limited(rt.alloc(), 1, usize::MAX),
-    )?
-    else {
+    let sink = Taker::limited(rt.alloc(), 1, usize::MAX);
+    let Some(Ok(done)) = put(rt.alloc(), sink) else {
         return Err(Fail::from("not emitted"));
     };
+    let (sink, Emitted { report, .. }) = done;
     expect(&rt, sink.bytes.as_slice() == whole.output.as_slice());
     expect(
         &rt,
@@ -57,9 +47,10 @@ fn fails_at_the_base(
     whole: &[u8],
     limit: usize,
 ) -> Result<(), Fail> {
-    let Err((fault, sink)) = emitted(alloc, Taker::limited(alloc, 4096, limit))? else {
+    let Some(Err(refused)) = put(alloc, Taker::limited(alloc, 4096, limit)) else {
         return Err(Fail::from("it is emitted"));
     };
+    let (fault, sink) = refused;
     equal(rt, fault, SessionFault::Sink);
     equal(rt, (sink.bytes.len(), sink.failures), (limit, 1));
     expect(rt, whole.starts_with(&sink.bytes));
@@ -96,10 +87,10 @@ fn fails_later(
     limit: usize,
     counted: (usize, usize),
 ) -> Result<(), Fail> {
-    let Ok((sink, Emitted { report, blocks })) = emitted(alloc, Taker::limited(alloc, 7, limit))?
-    else {
+    let Some(Ok(done)) = put(alloc, Taker::limited(alloc, 7, limit)) else {
         return Err(Fail::from("not emitted"));
     };
+    let (sink, Emitted { report, blocks }) = done;
     equal(rt, report.stopped, Some(SessionFault::Sink));
     expect(rt, blocks == Ok(None));
     equal(rt, (report.accepted, report.places.len()), counted);
@@ -119,9 +110,16 @@ fn a_sink_that_fails_later(rt: HostRuntime) -> Result<(), Fail> {
 
 /// What a run onto a sink reports as its end, and its sink.
 fn ended(alloc: Global, sink: Taker) -> Result<(Option<SessionFault>, Taker), Fail> {
-    match emitted(alloc, sink)? {
-        Ok((sink, Emitted { report, .. })) => Ok((report.stopped, sink)),
-        Err((fault, sink)) => Ok((Some(fault), sink)),
+    match put(alloc, sink) {
+        Some(Ok(done)) => {
+            let (sink, Emitted { report, .. }) = done;
+            Ok((report.stopped, sink))
+        }
+        Some(Err(refused)) => {
+            let (fault, sink) = refused;
+            Ok((Some(fault), sink))
+        }
+        None => Err(Fail::from("not emitted")),
     }
 }
 

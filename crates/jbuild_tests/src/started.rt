@@ -3,11 +3,12 @@
 use crate::checks::{equal, expect};
 use crate::runs::{GEOMETRY, made, read_files};
 use byteorder::LittleEndian;
-use jbuild::{EmitFault, Emitted, emit_from, operations};
+use jbuild::{EmitFault, Emitted, HostFiles, emit_from, operations};
 use jlisting::listing;
 use jlog::{Flash, SessionFault, Start};
-use jmount::mount;
+use jmount::{Mounted, mount};
 use jscan::Page;
+use jsteps::Op;
 use std::alloc::Global;
 use std::test::Fail;
 use test_support::{MADE, Taker};
@@ -22,13 +23,25 @@ const FLASH: Flash = Flash {
 
 type Answer = Result<(Taker, Emitted), (EmitFault, Taker)>;
 
-/// What goes out for a file on a base of 124 bytes, which is gone on from at 8192.
+/// What goes out for operations on a base of 124 bytes, which is gone on from at 8192.
+fn emitted_on(alloc: Global, ops: &[Op<'_>], sink: Taker) -> Option<Answer> {
+    let mounted = mount::<LittleEndian>(alloc, &MADE, GEOMETRY).ok()?;
+    match Start::<LittleEndian>::of(&mounted, FLASH) {
+        Ok(start) => Some(emit_from(alloc, &start, ops, sink)),
+        Err(_) => None,
+    }
+}
+
+/// What goes out for a file on it.
+fn emitted_of(alloc: Global, parts: &HostFiles, sink: Taker) -> Option<Answer> {
+    let lines = listing(alloc, TEXT).ok()?;
+    let ops = operations::<LittleEndian>(alloc, lines, parts).ok()?;
+    emitted_on(alloc, &ops, sink)
+}
+
 fn emitted(alloc: Global, sink: Taker) -> Result<Answer, Fail> {
     let parts = read_files(alloc)?;
-    let ops = operations::<LittleEndian>(alloc, listing(alloc, TEXT)?, &parts)?;
-    let mounted = mount::<LittleEndian>(alloc, &MADE, GEOMETRY)?;
-    let start = Start::<LittleEndian>::of(&mounted, FLASH)?;
-    Ok(emit_from(alloc, &start, &ops, sink))
+    Ok(emitted_of(alloc, &parts, sink).ok_or("not begun")?)
 }
 
 /// The base, erased flash up to the next block, and there the nodes.

@@ -10,7 +10,6 @@ use jmount::mount;
 use jscan::Page;
 use jsteps::{Op, OpFault};
 use std::alloc::Global;
-use std::test::Fail;
 use test_support::Taker;
 
 pub(crate) const FLASH: Flash = Flash {
@@ -43,70 +42,80 @@ const WEAK_NOTES: &str = "jffs2_image: note: weak 0000007c at 68\n";
 /// Five bytes of which a cut goes unseen.
 pub(crate) const WEAK_BYTES: &[u8] = b"\xBE\xF9\x8E\x24\xFE";
 
-/// Tells operations on an empty base.
+/// Tells operations from where a log goes on.
+fn tell_from<T: Sink>(
+    alloc: Global,
+    start: &Start<'_, '_, LittleEndian>,
+    telling: Telling,
+    ops: &[Op<'_>],
+    sink: &mut T,
+) -> Option<Result<usize, CutsFault>> {
+    let lines = LINES.get(..ops.len())?;
+    Some(put_cuts::<LittleEndian, T>(alloc, start, telling, ops, lines, sink))
+}
+
+/// Tells operations on an empty base; nothing where none can be told.
 fn tell<T: Sink>(
     alloc: Global,
     telling: Telling,
     ops: &[Op<'_>],
     sink: &mut T,
-) -> Result<Result<usize, CutsFault>, Fail> {
-    let mounted = mount::<LittleEndian>(alloc, &[], FLASH.geometry)?;
-    let start = Start::<LittleEndian>::of(&mounted, FLASH)?;
-    let lines = LINES.get(..ops.len()).ok_or("too many")?;
-    Ok(put_cuts::<LittleEndian, T>(alloc, &start, telling, ops, lines, sink))
+) -> Option<Result<usize, CutsFault>> {
+    let mounted = mount::<LittleEndian>(alloc, &[], FLASH.geometry).ok()?;
+    match Start::<LittleEndian>::of(&mounted, FLASH) {
+        Ok(start) => tell_from(alloc, &start, telling, ops, sink),
+        Err(_) => None,
+    }
 }
 
 /// Whether operations of which one node is weak are told so, in both ways.
-fn are_told(alloc: Global, ops: &[Op<'_>], nodes: &str, notes: &str) -> Result<bool, Fail> {
+fn are_told(alloc: Global, ops: &[Op<'_>], nodes: &str, notes: &str) -> bool {
     let mut lines = Taker::new(alloc);
     let mut weak = Taker::new(alloc);
-    let told = tell(alloc, Telling::Nodes, ops, &mut lines)?;
-    let noted = tell(alloc, Telling::WeakNotes, ops, &mut weak)?;
+    let told = tell(alloc, Telling::Nodes, ops, &mut lines);
+    let noted = tell(alloc, Telling::WeakNotes, ops, &mut weak);
     let is_all = lines.took(0, nodes.as_bytes()) && weak.took(0, notes.as_bytes());
-    Ok(is_all && told == Ok(1) && noted == Ok(1))
+    is_all && told == Some(Ok(1)) && noted == Some(Ok(1))
 }
 
 #[test]
-fn operations_are_told(rt: HostRuntime) -> Result<(), Fail> {
+fn operations_are_told(rt: HostRuntime) {
     let ops = [create(), write(b"\xFF\xFF\xFF"), write(WEAK_BYTES)];
-    let is_so = are_told(rt.alloc(), &ops, TOLD, NOTES)?;
-    expect(&rt, is_so);
+    expect(&rt, are_told(rt.alloc(), &ops, TOLD, NOTES));
     let ops = [create(), write(WEAK_BYTES)];
-    let is_so = are_told(rt.alloc(), &ops, WEAK_TOLD, WEAK_NOTES)?;
-    expect(&rt, is_so);
-    Ok(())
+    expect(&rt, are_told(rt.alloc(), &ops, WEAK_TOLD, WEAK_NOTES));
 }
 
 /// The lines of the operations before a refused one stand.
 #[test]
-fn a_refused_operation_ends_it(rt: HostRuntime) -> Result<(), Fail> {
+fn a_refused_operation_ends_it(rt: HostRuntime) {
     let ops = [create(), create(), write(WEAK_BYTES)];
     let mut sink = Taker::new(rt.alloc());
-    let told = tell(rt.alloc(), Telling::Nodes, &ops, &mut sink)?;
+    let told = tell(rt.alloc(), Telling::Nodes, &ops, &mut sink);
     let wanted = CutsFault::Session {
         fault: SessionFault::Refused(OpFault::Exists),
         line: Some(5),
     };
     expect(
         &rt,
-        told == Err(wanted) && sink.took(0, &TOLD.as_bytes()[..104]),
+        told == Some(Err(wanted)) && sink.took(0, &TOLD.as_bytes()[..104]),
     );
-    Ok(())
+}
+
+/// Whether a sink that takes no more than so many bytes ends it, and has them.
+fn ends_at(alloc: Global, ops: &[Op<'_>], limit: usize) -> bool {
+    let mut sink = Taker::limited(alloc, 7, limit);
+    let told = tell(alloc, Telling::Nodes, ops, &mut sink);
+    sink.failures == 1
+        && told == Some(Err(CutsFault::Output))
+        && TOLD.as_bytes().get(..limit) == Some(sink.bytes.as_slice())
 }
 
 /// Each has taken a beginning of the text.
 #[test]
-fn sinks_that_fail_within(rt: HostRuntime) -> Result<(), Fail> {
+fn sinks_that_fail_within(rt: HostRuntime) {
     let ops = [create(), write(b"\xFF\xFF\xFF"), write(WEAK_BYTES)];
     for limit in [0, 51, 52, 103, 104, 155, 156, 207, 208, 227, 228, 287] {
-        let mut sink = Taker::limited(rt.alloc(), 7, limit);
-        let told = tell(rt.alloc(), Telling::Nodes, &ops, &mut sink)?;
-        let wanted = TOLD.as_bytes().get(..limit).ok_or("short")?;
-        expect_at(
-            &rt,
-            told == Err(CutsFault::Output) && sink.took(1, wanted),
-            limit,
-        );
+        expect_at(&rt, ends_at(rt.alloc(), &ops, limit), limit);
     }
-    Ok(())
 }

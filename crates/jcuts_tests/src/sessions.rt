@@ -1,14 +1,17 @@
 //! A session that goes on with another sink, and tells where it goes on.
 
 use crate::checks::expect;
+use crate::cuts::FLASH;
 use byteorder::LittleEndian;
-use jlog::Session;
+use jlog::{Session, Start};
 use jmount::mount;
 use jscan::Geometry;
 use jsteps::{Op, Text};
 use std::alloc::Global;
 use std::test::Fail;
 use test_support::{MADE, Taker};
+
+type Log<'a> = Session<'a, LittleEndian, Taker>;
 
 pub(crate) const GEOMETRY: Geometry = Geometry { block: 8192 };
 
@@ -39,11 +42,7 @@ fn is_written(sink: &Taker) -> bool {
 }
 
 /// Runs an operation, and answers where the session then goes on, if it does.
-fn applied(
-    alloc: Global,
-    session: &mut Session<'_, LittleEndian, Taker>,
-    op: &Op<'_>,
-) -> Option<u32> {
+fn applied(alloc: Global, session: &mut Log<'_>, op: &Op<'_>) -> Option<u32> {
     match session.apply(alloc, op) {
         Ok(_) => Some(session.cursor()),
         Err(_) => None,
@@ -52,20 +51,21 @@ fn applied(
 
 /// Whether the file's nodes are in the first sink and those of its bytes in the second, and the
 /// session goes on behind each.
-fn is_apart(alloc: Global) -> Result<bool, Fail> {
-    let mounted = mount::<LittleEndian>(alloc, &[], GEOMETRY)?;
-    let sink = Taker::new(alloc);
-    let mut session = Session::<LittleEndian, _>::resume(alloc, &mounted, GEOMETRY, 1, sink)?;
+fn is_apart(alloc: Global, start: &Start<'_, '_, LittleEndian>) -> bool {
+    let Ok(mut session) = Log::begin(alloc, start, Taker::new(alloc)) else {
+        return false;
+    };
     let made = applied(alloc, &mut session, &create());
     let first = session.replace_sink(Taker::new(alloc));
     let written = applied(alloc, &mut session, &write(b"\xFF\xFF\xFF"));
     let second = session.finish();
-    Ok(made == Some(124) && written == Some(196) && first.took(0, &MADE) && is_written(&second))
+    made == Some(124) && written == Some(196) && first.took(0, &MADE) && is_written(&second)
 }
 
 #[test]
 fn each_sink_has_its_bytes(rt: HostRuntime) -> Result<(), Fail> {
-    let is_so = is_apart(rt.alloc())?;
-    expect(&rt, is_so);
+    let mounted = mount::<LittleEndian>(rt.alloc(), &[], GEOMETRY)?;
+    let start = Start::<LittleEndian>::of(&mounted, FLASH)?;
+    expect(&rt, is_apart(rt.alloc(), &start));
     Ok(())
 }

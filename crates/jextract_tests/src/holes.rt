@@ -1,26 +1,10 @@
 //! Files that are holes, whole or in part. Images that claim great files are in tests/folders.py.
 
 use crate::checks::expect;
-use crate::images::{LARGE, image_of};
-use crate::recorder::Recorder;
-use byteorder::LittleEndian;
-use flashbase::FromWriter;
-use jextract::{Totals, extract};
-use jmount::mount;
-use jscan::Geometry;
+use crate::making::extracted;
 use std::alloc::Global;
 use std::test::Fail;
 use test_support::{FILE, Node};
-
-/// What is made of an image.
-fn made(alloc: Global, nodes: &[Node<'_>], geometry: Geometry) -> Result<(String, Totals), Fail> {
-    let image = image_of(alloc, nodes)?;
-    let mounted = mount::<LittleEndian>(alloc, &image, geometry)?;
-    let mut folder = Recorder::new(alloc, u64::MAX, u64::MAX);
-    let mut notes = FromWriter::new(Vec::new(alloc));
-    let totals = extract(alloc, &mounted, false, &mut folder, &mut notes)?;
-    Ok((folder.lines, totals))
-}
 
 /// Which bytes of 4,096 zeros, 4,096 letters and 4,098 zeros a file has, and how its content ends.
 fn contents() -> &'static [(usize, usize, &'static str)] {
@@ -37,7 +21,7 @@ fn contents() -> &'static [(usize, usize, &'static str)] {
 /// Whether what is made of a file of these bytes ends so.
 fn ends_with(alloc: Global, content: &[u8], shown: &str) -> Result<bool, Fail> {
     let nodes = [Node::Inode(2, FILE, content), Node::Entry(1, 2, b"f")];
-    let (lines, _) = made(alloc, &nodes, LARGE)?;
+    let lines = extracted(alloc, &nodes, None, false)?.lines;
     let end = format!(in alloc; "{shown} 644 7 5\nattributes  755 0 0\n")?;
     Ok(lines.ends_with(end.as_str()))
 }

@@ -10,6 +10,8 @@ mod holes;
 #[cfg(test)]
 mod images;
 #[cfg(test)]
+mod making;
+#[cfg(test)]
 mod parts;
 #[cfg(test)]
 mod recorder;

@@ -2,10 +2,9 @@
 
 use crate::checks::equal;
 use crate::images::{LARGE, image_of};
-use crate::recorder::Recorder;
+use crate::making::extracted;
 use byteorder::LittleEndian;
-use flashbase::FromWriter;
-use jextract::{Part, PartFault, extract_part, part_at};
+use jextract::{Part, PartFault, part_at};
 use jmount::{FindFault, mount};
 use std::alloc::Global;
 use std::process::Abort;
@@ -39,23 +38,6 @@ const TREE: &[Node<'static>] = &[
     Node::Entry(1, 99, b"x"),
     Node::Entry(1, 9, b"z"),
 ];
-
-/// What is made of the part at a path, how many objects are left out and how many lose bits, and
-/// what is told.
-fn extracted(
-    alloc: Global,
-    path: &[u8],
-    owners: bool,
-) -> Result<(String, (u64, u64), Vec<u8>), Fail> {
-    let image = image_of(alloc, TREE)?;
-    let mounted = mount::<LittleEndian>(alloc, &image, LARGE)?;
-    let part = part_at(alloc, &mounted, path)?;
-    let mut folder = Recorder::new(alloc, u64::MAX, u64::MAX);
-    let mut notes = FromWriter::new(Vec::new(alloc));
-    let totals = extract_part(alloc, &mounted, &part, owners, &mut folder, &mut notes)?;
-    let counted = (totals.left_out, totals.lost_bits);
-    Ok((folder.lines, counted, notes.into_writer()))
-}
 
 /// A path, what is made of the part there, how many objects are left out and how many lose bits,
 /// and what is told.
@@ -146,10 +128,10 @@ fn rows() -> &'static [Row] {
 /// Stops the test unless this is made and told of a part.
 fn is_made(rt: &impl Abort, alloc: Global, row: &Row) -> Result<(), Fail> {
     let (path, made, counted, told) = row;
-    let (lines, totals, notes) = extracted(alloc, path, false)?;
-    equal(rt, lines.as_str(), *made);
-    equal(rt, totals, *counted);
-    equal(rt, notes.as_slice(), told.as_bytes());
+    let found = extracted(alloc, TREE, Some(*path), false)?;
+    equal(rt, found.lines.as_str(), *made);
+    equal(rt, found.counted, *counted);
+    equal(rt, found.notes.as_slice(), told.as_bytes());
     Ok(())
 }
 
@@ -163,10 +145,10 @@ fn worked_parts(rt: HostRuntime) -> Result<(), Fail> {
 
 #[test]
 fn owners_of_a_part(rt: HostRuntime) -> Result<(), Fail> {
-    let (lines, _, _) = extracted(rt.alloc(), b"/z", true)?;
+    let made = extracted(rt.alloc(), TREE, Some(b"/z"), true)?;
     equal(
         &rt,
-        lines.as_str(),
+        made.lines.as_str(),
         "directory \nfile z\ncontent z [z] 4755 7 5 1000:1001\nattributes  755 0 0 0:0\n",
     );
     Ok(())

@@ -1,32 +1,13 @@
 //! Worked trees: what is made of them, and what is told. Many levels are in tests/folders.py.
 
 use crate::checks::{equal, expect};
-use crate::images::{LARGE, PLAIN, image_of};
-use crate::recorder::{Recorder, is_made_once};
-use byteorder::LittleEndian;
-use flashbase::FromWriter;
-use jextract::extract;
-use jmount::mount;
+use crate::images::PLAIN;
+use crate::making::extracted;
+use crate::recorder::is_made_once;
 use std::alloc::Global;
 use std::process::Abort;
 use std::test::Fail;
 use test_support::{DIRECTORY, FILE, Node, SYMLINK};
-
-/// What is made of an image, how many objects are left out and how many lose bits, and what is
-/// told.
-fn extracted(
-    alloc: Global,
-    nodes: &[Node<'_>],
-    owners: bool,
-) -> Result<(String, (u64, u64), Vec<u8>), Fail> {
-    let image = image_of(alloc, nodes)?;
-    let mounted = mount::<LittleEndian>(alloc, &image, LARGE)?;
-    let mut folder = Recorder::new(alloc, u64::MAX, u64::MAX);
-    let mut notes = FromWriter::new(Vec::new(alloc));
-    let totals = extract(alloc, &mounted, owners, &mut folder, &mut notes)?;
-    let counted = (totals.left_out, totals.lost_bits);
-    Ok((folder.lines, counted, notes.into_writer()))
-}
 
 /// Nodes, what is made of them, how many objects are left out and how many lose bits, and what is
 /// told.
@@ -156,10 +137,10 @@ fn rows() -> &'static [Row] {
 /// Stops the test unless this is made and told of a tree.
 fn is_made(rt: &impl Abort, alloc: Global, row: &Row) -> Result<(), Fail> {
     let (nodes, made, counted, told) = row;
-    let (lines, totals, notes) = extracted(alloc, nodes, false)?;
-    equal(rt, lines.as_str(), *made);
-    equal(rt, totals, *counted);
-    equal(rt, notes.as_slice(), told.as_bytes());
+    let found = extracted(alloc, nodes, None, false)?;
+    equal(rt, found.lines.as_str(), *made);
+    equal(rt, found.counted, *counted);
+    equal(rt, found.notes.as_slice(), told.as_bytes());
     Ok(())
 }
 
@@ -173,8 +154,8 @@ fn worked_trees(rt: HostRuntime) -> Result<(), Fail> {
 
 /// Whether no path is made twice of a tree, with its owners.
 fn is_each_made_once(alloc: Global, row: &Row) -> Result<bool, Fail> {
-    let (lines, _, _) = extracted(alloc, row.0, true)?;
-    Ok(is_made_once(alloc, lines.as_str())?)
+    let made = extracted(alloc, row.0, None, true)?;
+    Ok(is_made_once(alloc, made.lines.as_str())?)
 }
 
 #[test]
@@ -192,10 +173,10 @@ fn no_path_is_made_twice(rt: HostRuntime) -> Result<(), Fail> {
 #[test]
 fn owners_where_they_are_asked_for(rt: HostRuntime) -> Result<(), Fail> {
     let nodes = [Node::Inode(2, FILE, b"x"), Node::Entry(1, 2, b"f")];
-    let (lines, _, _) = extracted(rt.alloc(), &nodes, true)?;
+    let made = extracted(rt.alloc(), &nodes, None, true)?;
     equal(
         &rt,
-        lines.as_str(),
+        made.lines.as_str(),
         "directory \nfile f\ncontent f [x] 644 7 5 1000:1001\nattributes  755 0 0 0:0\n",
     );
     Ok(())
@@ -218,10 +199,10 @@ fn bits_that_go_with_owners(rt: HostRuntime) -> Result<(), Fail> {
         Node::Entry(1, 5, b"f"),
         Node::Entry(1, 6, b"g"),
     ];
-    let (lines, totals, _) = extracted(rt.alloc(), &nodes, false)?;
+    let without = extracted(rt.alloc(), &nodes, None, false)?;
     equal(
         &rt,
-        lines.as_str(),
+        without.lines.as_str(),
         "directory \n\
 file a\n\
 content a [x] 755 7 5\n\
@@ -236,10 +217,16 @@ file g\n\
 content g [x] 1644 7 5\n\
 attributes  755 0 0\n",
     );
-    equal(&rt, totals, (0, 4));
-    let (lines, totals, _) = extracted(rt.alloc(), &nodes, true)?;
-    expect(&rt, lines.contains("content a [x] 4755 7 5 1000:1001\n"));
-    expect(&rt, lines.contains("attributes f 3775 7 5 1000:1001\n"));
-    equal(&rt, totals, (0, 0));
+    equal(&rt, without.counted, (0, 4));
+    let with = extracted(rt.alloc(), &nodes, None, true)?;
+    expect(
+        &rt,
+        with.lines.contains("content a [x] 4755 7 5 1000:1001\n"),
+    );
+    expect(
+        &rt,
+        with.lines.contains("attributes f 3775 7 5 1000:1001\n"),
+    );
+    equal(&rt, with.counted, (0, 0));
     Ok(())
 }

@@ -366,14 +366,19 @@ fn ops_in_time(alloc: Global, lines: &[&'static str]) -> Result<Vec<Op<'static>>
     Ok(ops)
 }
 
+/// What a file puts that has no bytes.
+fn run_file<E: Order>(alloc: Global) -> Result<Outcome, Fail> {
+    let ops = ops_of(alloc, &["create /a 644"], BY)?;
+    run_paged::<E>(alloc, &[], ONE, &ops)
+}
+
 /// The image that a case goes on from: nothing, or that of a file, without the last bytes of its
 /// name's node.
 fn base_of<E: Order>(alloc: Global, case: &Case) -> Result<Vec<u8>, Fail> {
     if !case.goes_on {
         return Ok(Vec::new(alloc));
     }
-    let ops = ops_of(alloc, &["create /a 644"], BY)?;
-    let mut base = run_paged::<E>(alloc, &[], ONE, &ops)?.output;
+    let mut base = run_file::<E>(alloc)?.output;
     base.truncate(100);
     Ok(base)
 }
@@ -402,25 +407,25 @@ fn log_of(alloc: Global, case: &Case, base: &[u8], run: Outcome) -> Result<Log, 
     })
 }
 
-/// The plain file system after so many of the steps.
-fn state_of(alloc: Global, case: &Case, count: usize) -> Result<Plain, Fail> {
-    let mut state = Plain::new(alloc);
+/// Takes so many of the steps.
+fn take_steps(alloc: Global, state: &mut Plain, case: &Case, count: usize) -> Result<(), Fail> {
     if case.goes_on {
         state.take(alloc, &Change::Make(FILE, 0, 0))?;
     }
     for change in case.steps.iter().take(count) {
         state.take(alloc, change)?;
     }
-    Ok(state)
+    Ok(())
 }
 
-/// The plain file systems after none of the steps, after one, and so on.
-fn states_of(alloc: Global, case: &Case) -> Result<Vec<Plain>, Fail> {
-    let mut states = Vec::new(alloc);
+/// Adds the plain file systems after none of the steps, after one, and so on.
+fn push_states(alloc: Global, states: &mut Vec<Plain>, case: &Case) -> Result<(), Fail> {
     for count in 0..case.steps.len() + 1 {
-        states.push(state_of(alloc, case, count)?)?;
+        let mut state = Plain::new(alloc);
+        take_steps(alloc, &mut state, case, count)?;
+        states.push(state)?;
     }
-    Ok(states)
+    Ok(())
 }
 
 /// Which pairs of lengths are tried of the markers of blocks that were not written past them: all
@@ -434,30 +439,55 @@ fn marker_lens(blocks: u32, k: usize) -> (usize, usize) {
     }
 }
 
-/// The first number of bytes after which an image mounts otherwise than as the steps whose nodes
-/// are whole say.
-fn first_wrong<E: Order>(
+/// Whether an image mounts as a plain file system.
+fn shows<E: Order>(alloc: Global, image: &[u8], geometry: Geometry, state: &Plain) -> bool {
+    let mut room = [0u8; 20_000];
+    match mount::<E>(alloc, image, geometry) {
+        Ok(mounted) => state.is_shown(&mounted, &mut room),
+        Err(_) => false,
+    }
+}
+
+/// Whether what is left after so many bytes mounts as the steps whose nodes are whole say, with
+/// each pair of lengths of the markers.
+fn is_right<E: Order>(
     alloc: Global,
     case: &Case,
     log: &Log,
     states: &[Plain],
-) -> Result<Option<usize>, Fail> {
-    let mut image = Vec::new(alloc);
-    let mut room = vec![in alloc; 0u8; 20_000]?;
-    for end in log.from..log.bytes.len() + 1 {
-        let k = end.saturating_sub(log.from);
-        let count = case.whole.iter().filter(|whole| **whole <= k).count();
-        let state = states.get(count).ok_or("no state")?;
-        let (first, last) = marker_lens(case.flash.blocks, k);
-        for pair in first..last {
-            log.leave::<E>(&mut image, end, (pair % 13, pair / 13 % 13))?;
-            let mounted = mount::<E>(alloc, &image, case.flash.geometry)?;
-            if log.count_whole(&image) != count || !state.is_shown(&mounted, &mut room) {
-                return Ok(Some(k));
-            }
+    k: usize,
+    image: &mut Vec<u8>,
+) -> bool {
+    let count = case.whole.iter().filter(|whole| **whole <= k).count();
+    let Some(state) = states.get(count) else {
+        return false;
+    };
+    let end = log.from.saturating_add(k);
+    let (first, last) = marker_lens(case.flash.blocks, k);
+    for pair in first..last {
+        let left = log.leave::<E>(image, end, (pair % 13, pair / 13 % 13));
+        if left.is_none()
+            || log.count_whole(image) != count
+            || !shows::<E>(alloc, image, case.flash.geometry, state)
+        {
+            return false;
         }
     }
-    Ok(None)
+    true
+}
+
+/// The first number of bytes after which an image mounts otherwise.
+fn first_wrong<E: Order>(alloc: Global, case: &Case, log: &Log, states: &[Plain]) -> Option<usize> {
+    let mut image = Vec::new(alloc);
+    let count = log.bytes.len().saturating_sub(log.from);
+    (0..count + 1).find(|k| !is_right::<E>(alloc, case, log, states, *k, &mut image))
+}
+
+/// Whether each image that is left of a log mounts as it is to.
+fn mounts_as_told<E: Order>(alloc: Global, case: &Case, log: &Log) -> Result<bool, Fail> {
+    let mut states = Vec::new(alloc);
+    push_states(alloc, &mut states, case)?;
+    Ok(first_wrong::<E>(alloc, case, log, &states).is_none())
 }
 
 /// What a case puts onto its base.
@@ -476,8 +506,7 @@ fn survives<E: Order>(alloc: Global, case: &Case) -> Result<bool, Fail> {
     let run = run_case::<E>(alloc, case, &base)?;
     let is_long = run.output.len() == case.len;
     let log = log_of(alloc, case, &base, run)?;
-    let states = states_of(alloc, case)?;
-    Ok(is_long && first_wrong::<E>(alloc, case, &log, &states)?.is_none())
+    Ok(is_long && mounts_as_told::<E>(alloc, case, &log)?)
 }
 
 fn all_survive(rt: &impl Abort, alloc: Global, cases: &[Case]) -> Result<(), Fail> {
@@ -507,16 +536,23 @@ fn what_is_left_after_each_byte(rt: HostRuntime) -> Result<(), Fail> {
 }
 
 /// What a file puts whose bytes have the checksum of as many erased ones.
-fn weak_output(alloc: Global) -> Result<Vec<u8>, Fail> {
-    let made = Op::Write {
-        time: 0,
-        path: Text::lent(b"/a"),
-        offset: 0,
-        bytes: Text::lent(b"\xBE\xF9\x8E\x24\xFE"),
-    };
-    let mut ops = ops_of(alloc, &["create /a 644"], BY)?;
-    ops.push(made)?;
-    Ok(run_paged::<LittleEndian>(alloc, &[], ONE, &ops)?.output)
+fn run_weak(alloc: Global) -> Result<Outcome, Fail> {
+    let ops = [
+        Op::Create {
+            time: 0,
+            path: Text::lent(b"/a"),
+            mode: 0o644,
+            uid: 0,
+            gid: 0,
+        },
+        Op::Write {
+            time: 0,
+            path: Text::lent(b"/a"),
+            offset: 0,
+            bytes: Text::lent(b"\xBE\xF9\x8E\x24\xFE"),
+        },
+    ];
+    run_paged::<LittleEndian>(alloc, &[], ONE, &ops)
 }
 
 const DAMAGED: Finding = Finding {
@@ -547,7 +583,7 @@ fn weak_cuts() -> &'static [(usize, &'static [u8], bool)] {
 /// mount as the data.
 #[test]
 fn a_weak_cut(rt: HostRuntime) -> Result<(), Fail> {
-    let output = weak_output(rt.alloc())?;
+    let output = run_weak(rt.alloc())?.output;
     for &(k, bytes, is_damaged) in weak_cuts() {
         let image = output.get(..k).unwrap_or(&[]);
         expect_at(&rt, has_bytes(rt.alloc(), image, bytes, is_damaged)?, k);

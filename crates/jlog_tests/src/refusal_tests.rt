@@ -1,15 +1,18 @@
 //! Where sessions may go on, and what would hold an operation.
 
+ghost use Rattle.jnode.specs.declared.order.Endian.TheVariants.{Little};
+ghost use Rattle.jmount.specs.Mounts.{IsMountOf};
+
 use crate::checks::{equal, equal_at};
 use crate::sessions::BY;
 use byteorder::LittleEndian;
 use jlog::{Session, SessionFault, resume_at};
-use jmount::mount;
+use jmount::{Mounted, mount};
 use jscan::Geometry;
 use jsteps::{Op, OpFault};
 use std::alloc::Global;
 use std::test::Fail;
-use test_operations::{op_of, ops_of};
+use test_operations::ops_of;
 use test_support::{FORBIDS, Taker};
 
 const GEOMETRY: Geometry = Geometry { block: 8192 };
@@ -60,54 +63,64 @@ fn where_writing_may_go_on(rt: HostRuntime) -> Result<(), Fail> {
     Ok(())
 }
 
-/// What a session tells of the blocks of an operation, once it ran others.
+type Log<'a> = Session<'a, LittleEndian, Taker>;
+
+/// What a session tells of the blocks of the last operation, once it ran those before.
 fn told_by(
     alloc: Global,
-    mut session: Session<'_, LittleEndian, Taker>,
-    before: &[Op<'_>],
-    next: &Op<'_>,
+    mut session: Log<'_>,
+    ops: &[Op<'_>],
 ) -> Result<Option<u32>, SessionFault> {
-    let _ = session.run(alloc, before);
-    session.blocks_for(alloc, next)
+    match ops.split_last() {
+        Some((next, before)) => {
+            let _ = session.run(alloc, before);
+            session.blocks_for(alloc, next)
+        }
+        None => Ok(None),
+    }
 }
 
-/// The same of lines, on an image without nodes and onto a sink that takes so many bytes.
+/// The same of a session on a mounted image, whose sink takes so many bytes.
+fn told_on(
+    alloc: Global,
+    mounted: &Mounted<'_>,
+    ops: &[Op<'_>],
+    limit: usize,
+) -> Result<Option<u32>, SessionFault>
+    requires { IsMountOf Little 8192 mounted.now }
+{
+    let session = Log::resume(alloc, mounted, GEOMETRY, 1, Taker::limited(alloc, 7, limit))?;
+    told_by(alloc, session, ops)
+}
+
+/// The same of lines, on an image without nodes.
 fn told_after(
     alloc: Global,
-    before: &'static [&'static str],
-    line: &'static str,
-    limit: usize,
-) -> Result<Result<Option<u32>, SessionFault>, Fail> {
-    let before = ops_of(alloc, before, BY)?;
-    let next = op_of(line, BY).ok_or("no operation")?;
-    let mounted = mount::<LittleEndian>(alloc, &[], GEOMETRY)?;
-    let sink = Taker::limited(alloc, 7, limit);
-    let session = Session::<LittleEndian, _>::resume(alloc, &mounted, GEOMETRY, 1, sink)?;
-    Ok(told_by(alloc, session, &before, &next))
+    mounted: &Mounted<'_>,
+    lines: &'static [&'static str],
+) -> Option<Result<Option<u32>, SessionFault>>
+    requires { IsMountOf Little 8192 mounted.now }
+{
+    let ops = ops_of(alloc, lines, BY).ok()?;
+    Some(told_on(alloc, mounted, &ops, 124))
 }
 
-/// Operations before, the next one, and what is told of its blocks.
-type Row = (
-    &'static [&'static str],
-    &'static str,
-    Result<Option<u32>, SessionFault>,
-);
+/// Operations, and what is told of the blocks of the last one.
+type Row = (&'static [&'static str], Result<Option<u32>, SessionFault>);
 
 fn blocks_told() -> &'static [Row] {
     &[
-        (&[], "create /a 644", Ok(Some(1))),
-        (&["create /a 644"], "write /a 0 0", Ok(Some(0))),
-        (&["create /a 644"], "write /a 0 4000", Ok(Some(1))),
-        (&["create /a 644"], "write /a 0 8192", Ok(Some(2))),
-        (&["create /a 644"], "write /a 0 20000", Ok(Some(4))),
+        (&["create /a 644"], Ok(Some(1))),
+        (&["create /a 644", "write /a 0 0"], Ok(Some(0))),
+        (&["create /a 644", "write /a 0 4000"], Ok(Some(1))),
+        (&["create /a 644", "write /a 0 8192"], Ok(Some(2))),
+        (&["create /a 644", "write /a 0 20000"], Ok(Some(4))),
         (
-            &["create /a 644"],
-            "create /a 644",
+            &["create /a 644", "create /a 644"],
             Err(SessionFault::Refused(OpFault::Exists)),
         ),
         (
-            &["create /a 644", "write /a 0 10"],
-            "write /a 0 0",
+            &["create /a 644", "write /a 0 10", "write /a 0 0"],
             Err(SessionFault::Broken),
         ),
     ]
@@ -115,9 +128,10 @@ fn blocks_told() -> &'static [Row] {
 
 #[test]
 fn the_blocks_that_hold_an_operation(rt: HostRuntime) -> Result<(), Fail> {
-    for &(before, line, want) in blocks_told() {
-        let found = told_after(rt.alloc(), before, line, 124)?;
-        equal_at(&rt, found, want, (before.len(), line));
+    let mounted = mount::<LittleEndian>(rt.alloc(), &[], GEOMETRY)?;
+    for &(lines, want) in blocks_told() {
+        let found = told_after(rt.alloc(), &mounted, lines);
+        equal_at(&rt, found, Some(want), lines);
     }
     Ok(())
 }

@@ -1,7 +1,10 @@
-//! Operations run onto an image.
+//! Operations run onto an image. What may fail while a mounted image or a session lives is a call
+//! of its own: each `?` proves anew that all that lives is dropped.
 
-use jlog::{Flash, Place, RunReport, Session};
-use jmount::mount;
+ghost use Rattle.jmount.specs.Mounts.{IsMountOf};
+
+use jlog::{Flash, Place, RunReport, Session, SessionFault};
+use jmount::{Mounted, mount};
 use jnode::Order;
 use jsteps::Op;
 use std::alloc::Global;
@@ -40,13 +43,41 @@ fn run_in<E: Order>(
     ops: &[Op<'_>],
 ) -> Result<Outcome, Fail> {
     let report = session.run(alloc, ops);
-    if session.base() != image {
-        return Err(Fail::from("another base"));
+    let is_kept = session.base() == image;
+    let output = session.finish().bytes;
+    if is_kept {
+        Ok(Outcome { output, report })
+    } else {
+        Err(Fail::from("another base"))
     }
-    Ok(Outcome {
-        output: session.finish().bytes,
-        report,
-    })
+}
+
+/// A session on a mounted image that keeps what it puts.
+fn session_on<'a, E: Order>(
+    alloc: Global,
+    mounted: &Mounted<'a>,
+    flash: Flash,
+) -> Result<Session<'a, E, Taker>, SessionFault>
+    requires { IsMountOf E.order flash.geometry.block mounted.now }
+{
+    let Flash {
+        geometry,
+        blocks,
+        page,
+    } = flash;
+    Session::<E, _>::resume_paged(alloc, mounted, geometry, blocks, page, Taker::new(alloc))
+}
+
+fn run_on<E: Order>(
+    alloc: Global,
+    mounted: &Mounted<'_>,
+    flash: Flash,
+    ops: &[Op<'_>],
+) -> Result<Outcome, Fail>
+    requires { IsMountOf E.order flash.geometry.block mounted.now }
+{
+    let session = session_on::<E>(alloc, mounted, flash)?;
+    run_in::<E>(alloc, mounted.image(), session, ops)
 }
 
 /// Runs operations onto an image, by pages.
@@ -57,16 +88,7 @@ pub fn run_paged<E: Order>(
     ops: &[Op<'_>],
 ) -> Result<Outcome, Fail> {
     let mounted = mount::<E>(alloc, image, flash.geometry)?;
-    let sink = Taker::new(alloc);
-    let session = Session::<E, _>::resume_paged(
-        alloc,
-        &mounted,
-        flash.geometry,
-        flash.blocks,
-        flash.page,
-        sink,
-    )?;
-    run_in::<E>(alloc, image, session, ops)
+    run_on::<E>(alloc, &mounted, flash, ops)
 }
 
 /// Adds what a later call did.
@@ -92,6 +114,26 @@ fn run_parts<E: Order>(
     Ok(report)
 }
 
+fn run_in_turn_on<E: Order>(
+    alloc: Global,
+    mounted: &Mounted<'_>,
+    flash: Flash,
+    ops: &[Op<'_>],
+) -> Result<Outcome, Fail>
+    requires { IsMountOf E.order flash.geometry.block mounted.now }
+{
+    let (Some(first), Some(next), Some(rest)) = (ops.get(..2), ops.get(2), ops.get(3..)) else {
+        return Err(Fail::from("too few"));
+    };
+    let mut session = session_on::<E>(alloc, mounted, flash)?;
+    let report = run_parts(alloc, &mut session, first, next, rest);
+    let output = session.finish().bytes;
+    Ok(Outcome {
+        output,
+        report: report?,
+    })
+}
+
 /// Runs operations onto an image in three calls of one session: the first two, the next one alone,
 /// and the others.
 pub fn run_in_turn<E: Order>(
@@ -100,22 +142,6 @@ pub fn run_in_turn<E: Order>(
     flash: Flash,
     ops: &[Op<'_>],
 ) -> Result<Outcome, Fail> {
-    let (Some(first), Some(next), Some(rest)) = (ops.get(..2), ops.get(2), ops.get(3..)) else {
-        return Err(Fail::from("too few"));
-    };
     let mounted = mount::<E>(alloc, image, flash.geometry)?;
-    let sink = Taker::new(alloc);
-    let mut session = Session::<E, _>::resume_paged(
-        alloc,
-        &mounted,
-        flash.geometry,
-        flash.blocks,
-        flash.page,
-        sink,
-    )?;
-    let report = run_parts(alloc, &mut session, first, next, rest)?;
-    Ok(Outcome {
-        output: session.finish().bytes,
-        report,
-    })
+    run_in_turn_on::<E>(alloc, &mounted, flash, ops)
 }

@@ -12,6 +12,8 @@ use std::test::Fail;
 use test_operations::op_of;
 use test_support::{FORBIDS, MADE, Taker};
 
+type Log<'a> = Session<'a, LittleEndian, Taker>;
+
 /// The bytes of a block, the number of blocks, a page, and where writing goes on.
 type Row = (u32, u32, Page, Result<u32, SessionFault>);
 
@@ -81,29 +83,46 @@ fn where_a_session_begins(rt: HostRuntime) -> Result<(), Fail> {
     begin(&rt, rt.alloc(), &FORBIDS, on_what_forbids())
 }
 
+/// Whether a session's nodes of a new file go to these places.
+fn goes_to(alloc: Global, session: &mut Log<'_>, places: &[(u32, u32)]) -> bool {
+    let Some(op) = op_of("create /b 644", BY) else {
+        return false;
+    };
+    match session.apply(alloc, &op) {
+        Ok(applied) => applied
+            .places
+            .iter()
+            .map(|place| (place.addr, place.totlen))
+            .eq(places.iter().copied()),
+        Err(_) => false,
+    }
+}
+
+fn begins_at(rt: &impl Abort, alloc: Global, start: &Start<'_, '_, LittleEndian>) {
+    let Ok(mut session) = Log::begin(alloc, start, Taker::new(alloc)) else {
+        return expect(rt, false);
+    };
+    expect(rt, session.base() == MADE.as_slice());
+    equal(rt, session.cursor(), 16_384);
+    let is_put = goes_to(alloc, &mut session, &[(16_396, 68), (16_464, 41)]);
+    expect(rt, is_put);
+    equal(rt, session.cursor(), 16_508);
+    equal(rt, session.finish().bytes.len(), 124);
+}
+
 /// It has the base, and writes behind it, by the flash's blocks.
 #[test]
 fn a_session_that_begins(rt: HostRuntime) -> Result<(), Fail> {
-    let alloc = rt.alloc();
     let flash = Flash {
         geometry: Geometry { block: 16_384 },
         blocks: 2,
         page: Page::P8192,
     };
-    let mounted = mount::<LittleEndian>(alloc, &MADE, flash.geometry)?;
-    let start = Start::<LittleEndian>::of(&mounted, flash)?;
-    let Ok(mut session) = Session::<LittleEndian, _>::begin(alloc, &start, Taker::new(alloc)) else {
-        return Err(Fail::from("out of memory"));
-    };
-    expect(&rt, session.base() == MADE.as_slice());
-    equal(&rt, session.cursor(), start.address());
-    let applied = session.apply(alloc, &op_of("create /b 644", BY).ok_or("no operation")?)?;
-    let places = applied
-        .places
-        .iter()
-        .map(|place| (place.addr, place.totlen));
-    expect(&rt, places.eq([(16_396, 68), (16_464, 41)]));
-    equal(&rt, session.cursor(), 16_508);
-    equal(&rt, session.finish().bytes.len(), 124);
+    let mounted = mount::<LittleEndian>(rt.alloc(), &MADE, flash.geometry)?;
+    let start = Start::<LittleEndian>::of(&mounted, flash);
+    expect(&rt, start.is_ok());
+    if let Ok(start) = start {
+        begins_at(&rt, rt.alloc(), &start);
+    }
     Ok(())
 }

@@ -2,7 +2,6 @@
 
 use jlog::Place;
 use jnode::{Order, marker_bytes};
-use std::test::Fail;
 
 /// A log that was written whole, onto a flash of one or two blocks.
 #[derive(Drop)]
@@ -34,10 +33,10 @@ impl Log {
         image: &mut Vec<u8>,
         end: usize,
         markers: (usize, usize),
-    ) -> Result<(), Fail> {
+    ) -> Option<()> {
         image.clear();
-        image.extend_from_slice(self.bytes.get(..end).ok_or("past the end")?)?;
-        image.resize(self.flash, 0xFF)?;
+        image.extend_from_slice(self.bytes.get(..end)?).ok()?;
+        image.resize(self.flash, 0xFF).ok()?;
         for (start, len) in [(0usize, markers.0), (self.block, markers.1)] {
             if self.from <= start
                 && end <= start.saturating_add(12)
@@ -46,7 +45,7 @@ impl Log {
                 mark::<E>(image, start, len);
             }
         }
-        Ok(())
+        Some(())
     }
 
     /// How many nodes are whole in an image.

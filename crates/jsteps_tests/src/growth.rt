@@ -177,24 +177,29 @@ impl Pair {
         let op = op_of(line, BY)?;
         self.take_op(alloc, &op)
     }
+
+    /// Takes all operations, and tells how many steps there were; none where something is not as it
+    /// should be.
+    fn take_lines(&mut self, alloc: Global) -> Option<usize> {
+        let mut count = 0usize;
+        for &line in lines() {
+            count = count.wrapping_add(self.take_line(alloc, line)?);
+        }
+        // (a growth that is refused here is none of a call that is tried)
+        if self.is_same(alloc).unwrap_or(true) {
+            Some(count)
+        } else {
+            None
+        }
+    }
 }
 
-/// Takes all operations, and tells how many steps there were; none where something is not as it
-/// should be.
+/// The same of two indexes of a mounted image.
 fn steps_taken(alloc: Global, mounted: &Mounted<'_>) -> Option<usize> {
     let tried = index_of(alloc, mounted)?;
     let other = index_of(alloc, mounted)?;
     let mut pair = Pair { tried, other };
-    let mut count = 0usize;
-    for &line in lines() {
-        count = count.wrapping_add(pair.take_line(alloc, line)?);
-    }
-    // (a growth that is refused here is none of a call that is tried)
-    if pair.is_same(alloc).unwrap_or(true) {
-        Some(count)
-    } else {
-        None
-    }
+    pair.take_lines(alloc)
 }
 
 /// Passes with each allocation failing in turn too. Where the memory for the image or its mount is
