@@ -1,6 +1,6 @@
 -- The whole walk.
 use Rattle.std.proofs.Common.{◌≡◌, ℕ, ◌+◌, ◌-◌, ◌==◌, cond, Bool, true, false, List, [], ◌∷◌, ◌++◌, length, take, append_assoc, append-nil, refl, sym, ap, ◌∙◌, subst, arith, Option, Some, None, Result, Ok, Err, Bor, map, if◌then◌else◌}
-use Rattle.std.specs.Prelude.{min, ◌^◌, count_by, flat_map, is_some, option_map, String, string_bytes, reverse, IsErrAnd}
+use Rattle.std.specs.Prelude.{sum_by, min, ◌^◌, count_by, flat_map, is_some, option_map, String, string_bytes, reverse, IsErrAnd}
 use Rattle.std.specs.Ordering.{nat_cmp}
 use Rattle.std.specs.BTreeMap.{BTreeMap, get, is_at}
 use Rattle.std.specs.Map.{lookup}
@@ -12,22 +12,23 @@ use Rattle.std.proofs.lemmas.Bool.Decides.{nat_tests}
 use Rattle.flashbase.specs.Device.{PutsPart, next_count}
 use Rattle.flashbase.proofs.DeviceLemmas.{part_behind}
 use Rattle.flashbase.specs.Sinks.{SinkChange}
-use Rattle.jmount.specs.Tree.{State, entries_in}
+use Rattle.jmount.specs.Tree.{State, all_entries, entries_in}
 use Rattle.jextract.specs.Extracts.{AreTreeOutcomes, Extracts, DoesPart}
 use Rattle.jextract.specs.Folders.{Failures, FolderChange, Made, ReportsMore, refused_once}
 use Rattle.jextract.specs.Making.{firsts_of}
 use Rattle.jextract.specs.Outcomes.{Task, Outcome, FirstPaths, AreOutcomes, AreFirstOutcomes, all_lines, all_made, root_made, failures_after, is_refusal, outcome_line, root_alone, tasks_in, tasks_of, Complete}
 use Rattle.jname.specs.Live.{Key}
 use Rattle.jextract.specs.Parts.{part_along}
-use Rattle.jextract.specs.Walking.{Advances, Sight, Had, Stopped, StopsBy, Steps, Fills, counted_up, no_totals, totals_up, tasks_up, extraction_todo}
+use Rattle.jextract.specs.Walking.{Advances, IsOnWay, Knows, Open, open_of, Sight, Had, Stopped, StopsBy, Steps, Fills, counted_up, no_totals, totals_up, tasks_up, extraction_todo}
 use Rattle.jextract.specs.declared.extracting.Walk.{Walk}
 use Rattle.jextract.specs.declared.fault.ExtractFault.{ExtractFault}
 use Rattle.jextract.specs.declared.fault.ExtractFault.TheVariants as fault
 use Rattle.jextract.specs.declared.totals.Totals.{Totals}
 use Rattle.jextract.proofs.PartLemmas.{entries_along}
 use Rattle.std.proofs.KnownBytes.{Appends-nil}
+use Rattle.jextract.proofs.SpentLemmas.{knows_first}
 use Rattle.jextract.proofs.StepLemmas.{failures-full}
-use Rattle.jextract.proofs.WalkLemmas.{had_none}
+use Rattle.jextract.proofs.WalkLemmas.{had_none, unmade_first}
 
 pub ReportsMore-trans : (a b c : Option (List Made)) (xs ys : List Made) → ReportsMore a b xs → ReportsMore b c ys → ReportsMore a c (xs ++ ys)
 ReportsMore-trans None b c xs ys p q = tt
@@ -82,21 +83,24 @@ advances_more s owners f g h x y z xs ys one two = (
 -- a walk that has come so far
 abbrev pub Reached : State → List Key → Bool → Walk → Sight → Sight → Type 0
 Reached s part owners w old now =
-    (outcomes : List Outcome) × Had old now outcomes × Advances (part_along part s) owners root_alone (tasks_in (part_along part s) [] 1) (firsts_of w.firsts) (extraction_todo part w) outcomes
+    (outcomes : List Outcome) × (made : FirstPaths) × IsOnWay s made w × Had old now outcomes
+    × Advances (part_along part s) owners root_alone (tasks_in (part_along part s) [] 1) made (extraction_todo part w) outcomes
 
-pub reaches_on : (s : State) (part : List Key) (owners : Bool) (w n : Walk) (old now next : Sight) → Reached s part owners w old now → Steps s part owners w n now next (Ok true) → Reached s part owners n old next
+pub reaches_on : (s : State) (part : List Key) (owners : Bool) (w n : Walk) (old now next : Sight) (far : Reached s part owners w old now) → Steps s part owners far.1 w n (now, next) (Ok true) → Reached s part owners n old next
 reaches_on s part owners w n old now next far step = (
   far.0 ++ step.0,
-  had_more old now next far.0 step.0 far.1 step.1,
-  advances_more (part_along part s) owners root_alone (firsts_of w.firsts) (firsts_of n.firsts) (tasks_in (part_along part s) [] 1) (extraction_todo part w) (extraction_todo part n) far.0 step.0 far.2 step.2,
+  step.1,
+  step.2,
+  had_more old now next far.0 step.0 far.3 step.3,
+  advances_more (part_along part s) owners root_alone far.1 step.1 (tasks_in (part_along part s) [] 1) (extraction_todo part w) (extraction_todo part n) far.0 step.0 far.4 step.4,
 )
 
-pub reaches_end : (s : State) (part : List Key) (owners : Bool) (w n : Walk) (old now next : Sight) → Reached s part owners w old now → Steps s part owners w n now next (Ok false)
+pub reaches_end : (s : State) (part : List Key) (owners : Bool) (w n : Walk) (old now next : Sight) (far : Reached s part owners w old now) → Steps s part owners far.1 w n (now, next) (Ok false)
     → (outcomes : List Outcome) × AreTreeOutcomes (part_along part s) owners outcomes × Had old next outcomes
 reaches_end s part owners w n old now next far step =
     let all = far.0 ++ step.0 in
-    let way = advances_more (part_along part s) owners root_alone (firsts_of w.firsts) (firsts_of n.firsts) (tasks_in (part_along part s) [] 1) (extraction_todo part w) [] far.0 step.0 far.2 step.2 in
-    (all, subst (AreTreeOutcomes (part_along part s) owners) (append-nil all) (way.0 [] refl), had_more old now next far.0 step.0 far.1 step.1)
+    let way = advances_more (part_along part s) owners root_alone far.1 step.1 (tasks_in (part_along part s) [] 1) (extraction_todo part w) [] far.0 step.0 far.4 step.3 in
+    (all, subst (AreTreeOutcomes (part_along part s) owners) (append-nil all) (way.0 [] refl), had_more old now next far.0 step.0 far.3 step.2)
 
 -- it stopped, after what was had
 stopped_more : (s : State) (owners : Bool) (f h : FirstPaths) (x y : List Task) (xs : List Outcome) (old now next : Sight) → Had old now xs → Advances s owners f x h y xs
@@ -121,10 +125,10 @@ stops_later s owners f h x y xs old now next why had advances = by why
     by fault.NoSpace stop = (stopped_more s owners f h x y xs old now next had advances stop.0, stop.1 ∙ had.3, stop.2 ∙ ap next_count full)
     by fault.OutOfMemory stop = (stopped_more s owners f h x y xs old now next had advances stop.0, stop.1 ∙ had.3, stop.2 ∙ full)
 
-pub reaches_fault : (s : State) (part : List Key) (owners : Bool) (w : Walk) (old now next : Sight) (f : ExtractFault) → Reached s part owners w old now
-    → StopsBy (part_along part s) owners (firsts_of w.firsts) (extraction_todo part w) now next f → StopsBy (part_along part s) owners root_alone (tasks_in (part_along part s) [] 1) old next f
+pub reaches_fault : (s : State) (part : List Key) (owners : Bool) (w : Walk) (old now next : Sight) (f : ExtractFault) (far : Reached s part owners w old now)
+    → StopsBy (part_along part s) owners far.1 (extraction_todo part w) now next f → StopsBy (part_along part s) owners root_alone (tasks_in (part_along part s) [] 1) old next f
 reaches_fault s part owners w old now next f far stop =
-    stops_later (part_along part s) owners root_alone (firsts_of w.firsts) (tasks_in (part_along part s) [] 1) (extraction_todo part w) far.0 old now next f far.1 far.2 stop
+    stops_later (part_along part s) owners root_alone far.1 (tasks_in (part_along part s) [] 1) (extraction_todo part w) far.0 old now next f far.3 far.4 stop
 
 -- ---- the folder was made, and then the tree in it
 
@@ -199,9 +203,24 @@ root_known empty first text none blank updates = λ t j. one j t
         ∙ ap (λ (b : Bool). option_map string_bytes (cond b (Some text) None)) (is_one j)
         ∙ by (1 == j)
 
+-- at its start the walk is on its way: the root alone was made, and is known
+first_on_way : (s : State) (w : Walk) → w.ino ≡ 1 → w.left ≡ entries_in s 1 → w.above.items ≡ [] → firsts_of w.firsts ≡ root_alone → w.unread ≡ all_entries s → IsOnWay s root_alone w
+first_on_way s w ino left above firsts unread =
+    let dirs : (1, entries_in s 1) ∷ [] ≡ open_of w =
+    ap (λ (d : ℕ). (d, entries_in s 1) ∷ []) (sym ino) ∙ ap (λ (l : List (List ℕ × ℕ)). (w.ino, l) ∷ []) (sym left) ∙ ap (λ (l : List Open). (w.ino, w.left) ∷ reverse l) (sym above) in
+    let own : length w.left ≡ length (entries_in s 1) = ap (λ l. length l) left in
+    let none : sum_by (λ (d : Open). length d.1) w.above.items ≡ 0 = ap (sum_by (λ d. length d.1)) above in
+    let all : length w.unread ≡ length (all_entries s) = ap (λ l. length l) unread in
+    let count = unmade_first s in
+    record {
+      knows = subst (Knows s root_alone (firsts_of w.firsts)) dirs
+          (subst (λ (f : FirstPaths). Knows s root_alone f ((1, entries_in s 1) ∷ [])) (sym firsts) (knows_first s));
+      enough = omega arith;
+    }
+
 pub reached_first : (s : State) (part : List Key) (owners : Bool) (w : Walk) (old : Sight) → w.path.items ≡ [] → w.ino ≡ 1 → w.left ≡ entries_in s 1 → w.above.items ≡ []
-    → firsts_of w.firsts ≡ root_alone → Reached s part owners w old old
-reached_first s part owners w old path ino left above firsts =
+    → firsts_of w.firsts ≡ root_alone → w.unread ≡ all_entries s → Reached s part owners w old old
+reached_first s part owners w old path ino left above firsts unread =
     let p = part_along part s in
     let todo : extraction_todo part w ≡ tasks_in p [] 1 =
     ap (λ (p : List (Bor (List ℕ))). tasks_up part ((w.ino, w.left) ∷ reverse w.above.items) (map (λ n. n.now) p)) path
@@ -210,10 +229,12 @@ reached_first s part owners w old path ino left above firsts =
     ∙ ap (λ (l : List (List ℕ × ℕ)). tasks_up part ((1, l) ∷ []) []) left
     ∙ ap (λ (l : List (List ℕ × ℕ)). tasks_of [] l ++ Complete [] 1 ∷ []) (sym (entries_along part s 1)) in (
       [],
+      root_alone,
+      first_on_way s w ino left above firsts unread,
       had_none old,
       (
-        λ rest are. subst (λ (f : FirstPaths). AreOutcomes p owners f (tasks_in p [] 1) rest) firsts (subst (λ (t : List Task). AreOutcomes p owners (firsts_of w.firsts) t rest) todo are),
-        λ rest are. subst (λ (f : FirstPaths). AreFirstOutcomes p owners f (tasks_in p [] 1) rest) firsts (subst (λ (t : List Task). AreFirstOutcomes p owners (firsts_of w.firsts) t rest) todo are),
+        λ rest are. subst (λ (t : List Task). AreOutcomes p owners root_alone t rest) todo are,
+        λ rest are. subst (λ (t : List Task). AreFirstOutcomes p owners root_alone t rest) todo are,
       ),
     )
 

@@ -5,9 +5,11 @@ pub mod FillLemmas
 pub mod InsideLemmas
 pub mod LinkLemmas
 pub mod MakingLemmas
+pub mod OnWayLemmas
 pub mod OnceLemmas
 pub mod PartLemmas
 pub mod PathLemmas
+pub mod SpentLemmas
 pub mod StepLemmas
 pub mod WalkLemmas
 pub mod WayLemmas

@@ -1,11 +1,11 @@
 -- Making one object: what a call of the folder does of a plan.
-use Rattle.std.proofs.Common.{◌≡◌, ℕ, ◌<◌, ◌≤◌, ◌&&◌, Bool, true, false, not, ◌==◌, nat_lt, nat_le, List, [], ◌∷◌, length, take, append-nil, refl, sym, ap, ◌∙◌, subst, arith, inl, inr, ◌⊎◌, Option, Some, None, Result, Ok, Err, Bor, cond, if◌then◌else◌}
+use Rattle.std.proofs.Common.{◌≡◌, ℕ, ◌<◌, ◌≤◌, ◌&&◌, Bool, true, false, not, ◌==◌, nat_lt, nat_le, List, [], ◌∷◌, length, take, append-nil, refl, sym, ap, ◌∙◌, subst, arith, inl, inr, ◌⊎◌, ⊎_elim, Option, Some, None, Result, Ok, Err, Bor, if◌then◌else◌}
 use Rattle.std.specs.Prelude.{IfOk, IsErrAnd, IsUtf8}
 use Rattle.std.specs.List.{list_all}
 use Rattle.std.specs.Str.{is_utf8}
 use Rattle.std.specs.Prelude.{String, string_bytes, option_map, option_copied}
 use Rattle.std.specs.Ordering.{nat_cmp}
-use Rattle.std.specs.BTreeMap.{BTreeMap, get, is_at}
+use Rattle.std.specs.BTreeMap.{BTreeMap, get}
 use Rattle.std.specs.declared.alloc.Global.{Global}
 use Rattle.std.specs.Option.{option_or}
 use Rattle.std.proofs.lemmas.Grind.{common_steps}
@@ -18,7 +18,7 @@ use Rattle.jmount.specs.declared.object.Object.{Object}
 use Rattle.jmount.specs.declared.object.Kind.{Kind}
 use Rattle.jmount.specs.declared.object.Kind.TheVariants as k
 use Rattle.jextract.specs.Folders.{Failures, FolderChange, refused_once, Made, Deed, Link, Symlink, ReportsMore, Counts}
-use Rattle.jextract.specs.Making.{Does, DoesSome, Follows, HasBegun, IsPathOf, FirstsAfter, Works, fault_of, firsts_of}
+use Rattle.jextract.specs.Making.{Does, DoesSome, Follows, HasBegun, IsPathOf, FirstsAfter, NotesFirst, Works, fault_of, firsts_of}
 use Rattle.jextract.specs.Outcomes.{Plan, Do, LeaveOut, Task, Make, path_of_task, Outcome, FirstPaths, FollowsPlan, firsts_if, firsts_with, made_at, is_refusal, is_directory_kind, is_target, loses_bits, lost_at, lost_made, plan_again, plan_anew, plan_at, plan_made, plan_of, plan_symlink, attributes_of}
 use Rattle.jextract.specs.Paths.{greatest_path, host_path, relative_path, text_if}
 use Rattle.jextract.specs.declared.folder.Attributes.{Attributes}
@@ -243,33 +243,12 @@ link_keeps_firsts firsts path text first i at there =
     one j true is = ap (λ (b : Bool). option_or (firsts j) (if b then Some text else None)) is ∙ known (firsts j) (flip j is)
     one j false is = ap (λ (b : Bool). option_or (firsts j) (if b then Some text else None)) is ∙ other (firsts j)
 
-pub firsts_kept : {T : Type 0} (firsts : FirstPaths) (path : List (List ℕ)) (text first : List ℕ) (i : ℕ) (r : Result T MakeFault) → host_path path ≡ Ok text → firsts i ≡ Some first
-    → FirstsAfter firsts firsts path i r
-firsts_kept firsts path text first i (Ok x) at there = link_keeps_firsts firsts path text first i at there
-firsts_kept firsts path text first i (Err e) at there = refl
+pub firsts_kept : {T : Type 0} (s : State) (firsts : FirstPaths) (path : List (List ℕ)) (text first : List ℕ) (i : ℕ) (r : Result T MakeFault) → host_path path ≡ Ok text → firsts i ≡ Some first
+    → FirstsAfter s firsts firsts path i r
+firsts_kept s firsts path text first i (Ok x) at there = inl (link_keeps_firsts firsts path text first i at there)
+firsts_kept s firsts path text first i (Err e) at there = refl
 
-is_at_is : (i q : ℕ) → is_at (nat_cmp i) q ≡ (i == q)
-is_at_is i q = grind (arith, nat_tests)
-
-pub first_added : (old new : BTreeMap ℕ (String Global)) (i : ℕ) (text : String Global) (path : List (List ℕ)) → host_path path ≡ Ok (string_bytes text) → firsts_of old i ≡ None
-    → ((q : ℕ) → get nat_cmp new q ≡ cond (is_at (nat_cmp i) q) (Some text) (get nat_cmp old q)) → firsts_of new ≡ firsts_if (firsts_of old) path i None
-first_added old new i text path at none updates =
-    (λ t j. one j (i == j) refl t) ∙ ap (λ (p : Result (List ℕ) Reason). firsts_with (firsts_of old) p i) (sym at)
-  where
-    here : (j : ℕ) → i == j ≡ true → firsts_of old j ≡ None
-    here j is = ap (firsts_of old) (grind (arith, nat_tests)) ∙ none
-
-    found : (j : ℕ) (b : Bool) → i == j ≡ b → firsts_of new j ≡ option_map string_bytes (cond b (Some text) (get nat_cmp old j))
-    found j b is = ap (option_map string_bytes) (updates j ∙ ap (λ (c : Bool). cond c (Some text) (get nat_cmp old j)) (is_at_is i j ∙ is))
-
-    unmoved : (o : Option (List ℕ)) → o ≡ option_or o None
-    unmoved None = refl
-    unmoved (Some x) = refl
-
-    one : (j : ℕ) (same : Bool) → i == j ≡ same → firsts_of new j ≡ option_or (firsts_of old j) (if i == j then Some (string_bytes text) else None)
-    one j true is =
-        found j true is
-        ∙ ap (λ (o : Option (List ℕ)). option_or o (Some (string_bytes text))) (sym (here j is))
-        ∙ ap (λ (b : Bool). option_or (firsts_of old j) (if b then Some (string_bytes text) else None)) (sym is)
-    one j false is =
-        found j false is ∙ unmoved (firsts_of old j) ∙ ap (λ (b : Bool). option_or (firsts_of old j) (if b then Some (string_bytes text) else None)) (sym is)
+pub first_noted : {T : Type 0} (s : State) (old new : FirstPaths) (path : List (List ℕ)) (text : List ℕ) (i : ℕ) (x : T) → host_path path ≡ Ok text
+    → NotesFirst {T = Unit {0}} {E = MakeFault} s old new text i (Ok (tt {0})) → FirstsAfter {T = T} s old new path i (Ok x)
+first_noted s old new path text i x at notes =
+    ⊎_elim (λ (added : new ≡ firsts_with old (Ok text) i). inl (added ∙ ap (λ (p : Result (List ℕ) Reason). firsts_with old p i) (sym at))) (λ one. inr one) notes

@@ -141,7 +141,7 @@ stands_one deeds (Complete way i ∷ next ∷ todo) stands = absurd stands
 
 -- ---- the names of a directory differ
 
-abbrev Differ : List (List ℕ × ℕ) → Type 0
+abbrev pub Differ : List (List ℕ × ℕ) → Type 0
 Differ [] = ⊤
 Differ (e ∷ es) = Others e.0 es × Differ es
 
@@ -154,7 +154,7 @@ differ dir (e ∷ es) sorted = by (e.0.0 == dir) refl (differ dir es (T_second (
     by true is rest = (others dir e.0 es (eqb-true e.0.0 dir is) (T_first (below_all key_cmp e.0 es) (is_sorted key_cmp es) sorted), rest)
     by false is rest = rest
 
-names_differ : (s : State) (i : ℕ) → Differ (entries_in s i)
+pub names_differ : (s : State) (i : ℕ) → Differ (entries_in s i)
 names_differ s i = differ i (entries s.names) (entries_sorted s.names)
 
 -- ---- the names of a directory that lead to a path

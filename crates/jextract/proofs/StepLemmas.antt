@@ -1,5 +1,5 @@
 -- The steps of the walk.
-use Rattle.std.proofs.Common.{◌≡◌, ℕ, ◌+◌, ◌-◌, ◌≤◌, Bool, true, false, List, [], ◌∷◌, ◌++◌, length, map, take, append_assoc, append-nil, refl, sym, ap, ◌∙◌, subst, arith, Option, Result, Ok, Err, Bor, if◌then◌else◌}
+use Rattle.std.proofs.Common.{◌≡◌, ℕ, ◌+◌, ◌-◌, Bool, true, false, List, [], ◌∷◌, ◌++◌, length, map, take, append_assoc, append-nil, refl, sym, ap, ◌∙◌, subst, arith, Option, Result, Ok, Err, Bor, if◌then◌else◌}
 use Rattle.std.specs.Prelude.{reverse, sum_by, IsErrAnd}
 use Rattle.std.specs.Io.KnownBytes.{Appends}
 use Rattle.std.proofs.KnownBytes.{Appends-nil}
@@ -15,14 +15,19 @@ use Rattle.jextract.specs.Making.{firsts_of}
 use Rattle.jextract.specs.Outcomes.{Task, Make, Complete, Outcome, FirstPaths, AreOutcomes, AreFirstOutcomes, tasks_of, tasks_in, all_lines, failures_after, is_refusal}
 use Rattle.jname.specs.Live.{Key}
 use Rattle.jextract.specs.Parts.{is_in_part, part_along}
-use Rattle.jextract.specs.Walking.{Advances, Sight, Had, StopsBy, Visits, Completes, ExtractionGoesUp, Steps, names_in_part, todo_then, extraction_todo, tasks_up, extraction_way, unmade}
+use Rattle.jextract.specs.Walking.{Advances, IsOnWay, Knows, open_of, Sight, Had, StopsBy, Visits, Completes, ExtractionGoesUp, Steps, names_in_part, todo_then, extraction_todo, tasks_up, extraction_way}
 use Rattle.jextract.specs.declared.extracting.Walk.{Walk}
 use Rattle.jextract.specs.declared.fault.ExtractFault.{ExtractFault}
 use Rattle.jextract.specs.declared.fault.ExtractFault.TheVariants as fault
 use Rattle.jextract.specs.declared.totals.Totals.{Totals}
 use Rattle.jextract.proofs.MakingLemmas.{ReportsMore-nil}
 use Rattle.jextract.proofs.PartLemmas.{entries_along}
+use Rattle.jextract.proofs.SpentLemmas.{gone_up}
 use Rattle.jextract.proofs.WalkLemmas.{had_none}
+
+-- a name of the tree: its directory, itself and its number
+abbrev pub Name : Type 0
+Name = ℕ × List ℕ × ℕ
 
 -- ---- the tasks of a name
 
@@ -64,46 +69,46 @@ advances_to s owners firsts then_ todo other todo_ todo_other outcomes a c advan
     subst (λ (t : List Task). Advances s owners firsts t then_ todo_other outcomes) a
     (subst (λ (t : List Task). Advances s owners firsts todo then_ t outcomes) c advances)
 
-pub stays : (s : State) (part : List Key) (owners : Bool) (w n : Walk) (name : List ℕ) (i : ℕ) (old new : Sight) → w.left ≡ (name, i) ∷ n.left → is_in_part part w.ino name ≡ true
-    → n.ino ≡ w.ino → n.above.items ≡ w.above.items → extraction_way n ≡ extraction_way w → unmade s (firsts_of n.firsts) ≤ unmade s (firsts_of w.firsts)
-    → Visits (part_along part s) owners (firsts_of w.firsts) (firsts_of n.firsts) (Make (extraction_way w ++ name ∷ []) i) old new (Ok false)
-    → Steps s part owners w n old new (Ok true)
-stays s part owners w n name i old new read is ino above way fewer visits =
-    let left : length w.left ≡ length n.left + 1 = ap (λ l. length l) read ∙ omega arith in
-    let sum : sum_by (λ (d : ℕ × List (List ℕ × ℕ)). length d.1) n.above.items ≡ sum_by (λ (d : ℕ × List (List ℕ × ℕ)). length d.1) w.above.items = ap (sum_by (λ d. length d.1)) above in
+pub stays : (s : State) (part : List Key) (owners : Bool) (made made_then : FirstPaths) (w n : Walk) (name : List ℕ) (i : ℕ) (x : Name) (old new : Sight) → w.left ≡ (name, i) ∷ n.left → is_in_part part w.ino name ≡ true
+    → n.ino ≡ w.ino → n.above.items ≡ w.above.items → extraction_way n ≡ extraction_way w → w.unread ≡ x ∷ n.unread → IsOnWay s made_then n
+    → Visits (part_along part s) owners made made_then (Make (extraction_way w ++ name ∷ []) i) old new (Ok false)
+    → Steps s part owners made w n (old, new) (Ok true)
+stays s part owners made made_then w n name i x old new read is ino above way unread on_way visits =
+    let fewer : length w.unread ≡ length n.unread + 1 = ap (λ l. length l) unread ∙ omega arith in
     let deep : length n.above.items ≡ length w.above.items = ap (λ l. length l) above in (
       visits.0,
+      made_then,
+      on_way,
       visits.1,
-      advances_to (part_along part s) owners (firsts_of w.firsts) (firsts_of n.firsts) (Make (extraction_way w ++ name ∷ []) i ∷ names_left part w n.left) (extraction_todo part w)
+      advances_to (part_along part s) owners made made_then (Make (extraction_way w ++ name ∷ []) i ∷ names_left part w n.left) (extraction_todo part w)
           (names_left part w n.left) (extraction_todo part n) visits.0 (todo_read part w name i n.left read is) (stays_todo part w n n.left refl ino above way)
           (visits.2 (names_left part w n.left)),
       omega arith,
     )
 
 -- a name that is not in the part is passed over
-pub skips : (s : State) (part : List Key) (owners : Bool) (w n : Walk) (name : List ℕ) (i : ℕ) (old : Sight) → w.left ≡ (name, i) ∷ n.left → is_in_part part w.ino name ≡ false
-    → n.ino ≡ w.ino → n.above.items ≡ w.above.items → extraction_way n ≡ extraction_way w → n.firsts ≡ w.firsts → Steps s part owners w n old old (Ok true)
-skips s part owners w n name i old read is ino above way firsts =
-    let left : length w.left ≡ length n.left + 1 = ap (λ l. length l) read ∙ omega arith in
-    let sum : sum_by (λ (d : ℕ × List (List ℕ × ℕ)). length d.1) n.above.items ≡ sum_by (λ (d : ℕ × List (List ℕ × ℕ)). length d.1) w.above.items = ap (sum_by (λ d. length d.1)) above in
+pub skips : (s : State) (part : List Key) (owners : Bool) (made : FirstPaths) (w n : Walk) (name : List ℕ) (i : ℕ) (x : Name) (old : Sight) → w.left ≡ (name, i) ∷ n.left → is_in_part part w.ino name ≡ false
+    → n.ino ≡ w.ino → n.above.items ≡ w.above.items → extraction_way n ≡ extraction_way w → w.unread ≡ x ∷ n.unread → IsOnWay s made n → Steps s part owners made w n (old, old) (Ok true)
+skips s part owners made w n name i x old read is ino above way unread on_way =
+    let fewer : length w.unread ≡ length n.unread + 1 = ap (λ l. length l) unread ∙ omega arith in
     let deep : length n.above.items ≡ length w.above.items = ap (λ l. length l) above in
-    let same : unmade s (firsts_of n.firsts) ≡ unmade s (firsts_of w.firsts) = ap (λ m. unmade s (firsts_of m)) firsts in
-    let todo : extraction_todo part n ≡ extraction_todo part w = sym (stays_todo part w n n.left refl ino above way) ∙ todo_skipped part w name i n.left read is in
-    let made : firsts_of n.firsts ≡ firsts_of w.firsts = ap firsts_of firsts in (
+    let todo : extraction_todo part n ≡ extraction_todo part w = sym (stays_todo part w n n.left refl ino above way) ∙ todo_skipped part w name i n.left read is in (
       [],
+      made,
+      on_way,
       had_none old,
       (
-        λ rest are. subst (λ (f : FirstPaths). AreOutcomes (part_along part s) owners f (extraction_todo part w) rest) made (subst (λ (t : List Task). AreOutcomes (part_along part s) owners (firsts_of n.firsts) t rest) todo are),
-        λ rest are. subst (λ (f : FirstPaths). AreFirstOutcomes (part_along part s) owners f (extraction_todo part w) rest) made (subst (λ (t : List Task). AreFirstOutcomes (part_along part s) owners (firsts_of n.firsts) t rest) todo are),
+        λ rest are. subst (λ (t : List Task). AreOutcomes (part_along part s) owners made t rest) todo are,
+        λ rest are. subst (λ (t : List Task). AreFirstOutcomes (part_along part s) owners made t rest) todo are,
       ),
       omega arith,
     )
 
-pub enters : (s : State) (part : List Key) (owners : Bool) (w n : Walk) (name : List ℕ) (i : ℕ) (names : List (List ℕ × ℕ)) (old new : Sight) → w.left ≡ (name, i) ∷ names → is_in_part part w.ino name ≡ true
+pub enters : (s : State) (part : List Key) (owners : Bool) (made made_then : FirstPaths) (w n : Walk) (name : List ℕ) (i : ℕ) (names : List (List ℕ × ℕ)) (x : Name) (old new : Sight) → w.left ≡ (name, i) ∷ names → is_in_part part w.ino name ≡ true
     → n.ino ≡ i → n.left ≡ entries_in s i → n.above.items ≡ w.above.items ++ (w.ino, names) ∷ [] → extraction_way n ≡ extraction_way w ++ name ∷ []
-    → unmade s (firsts_of n.firsts) + length (entries_in s i) ≤ unmade s (firsts_of w.firsts)
-    → Visits (part_along part s) owners (firsts_of w.firsts) (firsts_of n.firsts) (Make (extraction_way w ++ name ∷ []) i) old new (Ok true) → Steps s part owners w n old new (Ok true)
-enters s part owners w n name i names old new read is ino left above way fewer visits =
+    → w.unread ≡ x ∷ n.unread → IsOnWay s made_then n
+    → Visits (part_along part s) owners made made_then (Make (extraction_way w ++ name ∷ []) i) old new (Ok true) → Steps s part owners made w n (old, new) (Ok true)
+enters s part owners made made_then w n name i names x old new read is ino left above way unread on_way visits =
     let rest = names_left part w names in
     let inside = entries_in (part_along part s) i in
     let back : way_up (extraction_way n) ≡ extraction_way w =
@@ -120,14 +125,13 @@ enters s part owners w n name i names old new read is ino left above way fewer v
     ∙ ap (λ (l : List (List ℕ × ℕ)). tasks_of (extraction_way n) l ++ Complete (extraction_way n) i ∷ rest) (entries_along part s i ∙ ap (names_in_part part i) (sym left))
     ∙ ap (λ (j : ℕ). tasks_of (extraction_way n) (names_in_part part j n.left) ++ Complete (extraction_way n) j ∷ rest) (sym ino)
     ∙ ap (λ (t : List Task). tasks_of (extraction_way n) (names_in_part part n.ino n.left) ++ Complete (extraction_way n) n.ino ∷ t) up in
-    let own : length n.left ≡ length (entries_in s i) = ap (λ l. length l) left in
-    let one : length w.left ≡ length names + 1 = ap (λ l. length l) read ∙ omega arith in
-    let sum : sum_by (λ (d : ℕ × List (List ℕ × ℕ)). length d.1) n.above.items ≡ sum_by (λ (d : ℕ × List (List ℕ × ℕ)). length d.1) w.above.items + length names =
-    ap (sum_by (λ d. length d.1)) above ∙ sum_by_push (λ (d : ℕ × List (List ℕ × ℕ)). length d.1) w.above.items (w.ino, names) in
+    let fewer : length w.unread ≡ length n.unread + 1 = ap (λ l. length l) unread ∙ omega arith in
     let deep : length n.above.items ≡ length w.above.items + 1 = ap (λ l. length l) above ∙ length_push w.above.items (w.ino, names) in (
       visits.0,
+      made_then,
+      on_way,
       visits.1,
-      advances_to (part_along part s) owners (firsts_of w.firsts) (firsts_of n.firsts) (Make (extraction_way w ++ name ∷ []) i ∷ rest) (extraction_todo part w)
+      advances_to (part_along part s) owners made made_then (Make (extraction_way w ++ name ∷ []) i ∷ rest) (extraction_todo part w)
           (tasks_in (part_along part s) (extraction_way w ++ name ∷ []) i ++ rest) (extraction_todo part n) visits.0
           (todo_read part w name i names read is) todo (visits.2 rest),
       omega arith,
@@ -135,19 +139,19 @@ enters s part owners w n name i names old new read is ino left above way fewer v
 
 -- ---- faults
 
-pub step_at_fault : (s : State) (part : List Key) (owners : Bool) (w n : Walk) (old new : Sight) (f : ExtractFault) (r : Result Bool ExtractFault) → IsErrAnd r (λ e. e ≡ f)
-    → StopsBy (part_along part s) owners (firsts_of w.firsts) (extraction_todo part w) old new f → Steps s part owners w n old new r
-step_at_fault s part owners w n old new f (Ok x) err stops = absurd err
-step_at_fault s part owners w n old new f (Err e) err stops = subst (λ (x : ExtractFault). StopsBy (part_along part s) owners (firsts_of w.firsts) (extraction_todo part w) old new x) (sym err) stops
+pub step_at_fault : (s : State) (part : List Key) (owners : Bool) (made : FirstPaths) (w n : Walk) (old new : Sight) (f : ExtractFault) (r : Result Bool ExtractFault) → IsErrAnd r (λ e. e ≡ f)
+    → StopsBy (part_along part s) owners made (extraction_todo part w) old new f → Steps s part owners made w n (old, new) r
+step_at_fault s part owners made w n old new f (Ok x) err stops = absurd err
+step_at_fault s part owners made w n old new f (Err e) err stops = subst (λ (x : ExtractFault). StopsBy (part_along part s) owners made (extraction_todo part w) old new x) (sym err) stops
 
 pub stops_before : (s : State) (owners : Bool) (firsts : FirstPaths) (todo : List Task) (old : Sight) → StopsBy s owners firsts todo old old fault.OutOfMemory
 stops_before s owners firsts todo old = (([], tt {0}, ReportsMore-nil old.made, (0, Appends-nil old.told)), refl, refl)
 
-pub visit_failed : (s : State) (part : List Key) (owners : Bool) (w n : Walk) (name : List ℕ) (i : ℕ) (names : List (List ℕ × ℕ)) (firsts_then : FirstPaths) (old new : Sight) (f : ExtractFault)
-    → w.left ≡ (name, i) ∷ names → is_in_part part w.ino name ≡ true → Visits s owners (firsts_of w.firsts) firsts_then (Make (extraction_way w ++ name ∷ []) i) old new (Err f)
-    → StopsBy s owners (firsts_of w.firsts) (extraction_todo part w) old new f
-visit_failed s part owners w n name i names firsts_then old new f read is visits =
-    subst (λ (t : List Task). StopsBy s owners (firsts_of w.firsts) t old new f) (todo_read part w name i names read is) (visits (names_left part w names))
+pub visit_failed : (s : State) (part : List Key) (owners : Bool) (made : FirstPaths) (w n : Walk) (name : List ℕ) (i : ℕ) (names : List (List ℕ × ℕ)) (firsts_then : FirstPaths) (old new : Sight) (f : ExtractFault)
+    → w.left ≡ (name, i) ∷ names → is_in_part part w.ino name ≡ true → Visits s owners made firsts_then (Make (extraction_way w ++ name ∷ []) i) old new (Err f)
+    → StopsBy s owners made (extraction_todo part w) old new f
+visit_failed s part owners made w n name i names firsts_then old new f read is visits =
+    subst (λ (t : List Task). StopsBy s owners made t old new f) (todo_read part w name i names read is) (visits (names_left part w names))
 
 whole_part : (old new : Option (List ℕ)) (line : List ℕ) → Appends old new line → PutsPart old new line
 whole_part old new line put = (length line, subst (Appends old new) (sym (take_whole line)) put)
@@ -178,72 +182,84 @@ stops_after s owners firsts firsts_then todo todo_ outcomes old new had advances
   ap (λ (f : Failures). f.full) had.1 ∙ failures-full old.failures outcomes,
 )
 
-pub visited_then_stops : (s : State) (part : List Key) (owners : Bool) (w : Walk) (name : List ℕ) (i : ℕ) (names : List (List ℕ × ℕ)) (firsts_then : FirstPaths) (old new : Sight) (entered : Bool)
-    → w.left ≡ (name, i) ∷ names → is_in_part part w.ino name ≡ true → Visits s owners (firsts_of w.firsts) firsts_then (Make (extraction_way w ++ name ∷ []) i) old new (Ok entered)
-    → StopsBy s owners (firsts_of w.firsts) (extraction_todo part w) old new fault.OutOfMemory
-visited_then_stops s part owners w name i names firsts_then old new entered read is visits =
+pub visited_then_stops : (s : State) (part : List Key) (owners : Bool) (made : FirstPaths) (w : Walk) (name : List ℕ) (i : ℕ) (names : List (List ℕ × ℕ)) (firsts_then : FirstPaths) (old new : Sight) (entered : Bool)
+    → w.left ≡ (name, i) ∷ names → is_in_part part w.ino name ≡ true → Visits s owners made firsts_then (Make (extraction_way w ++ name ∷ []) i) old new (Ok entered)
+    → StopsBy s owners made (extraction_todo part w) old new fault.OutOfMemory
+visited_then_stops s part owners made w name i names firsts_then old new entered read is visits =
     let rest = names_left part w names in
-    subst (λ (t : List Task). StopsBy s owners (firsts_of w.firsts) t old new fault.OutOfMemory) (todo_read part w name i names read is)
-    (stops_after s owners (firsts_of w.firsts) firsts_then (Make (extraction_way w ++ name ∷ []) i ∷ rest) (todo_then s (Make (extraction_way w ++ name ∷ []) i) entered rest) visits.0 old new visits.1 (visits.2 rest))
+    subst (λ (t : List Task). StopsBy s owners made t old new fault.OutOfMemory) (todo_read part w name i names read is)
+    (stops_after s owners made firsts_then (Make (extraction_way w ++ name ∷ []) i ∷ rest) (todo_then s (Make (extraction_way w ++ name ∷ []) i) entered rest) visits.0 old new visits.1 (visits.2 rest))
 
 -- ---- where no name is left
 
 todo_left : (part : List Key) (w : Walk) → w.left ≡ [] → more_of part w ≡ extraction_todo part w
 todo_left part w none = ap (names_left part w) (sym none)
 
-pub leave_failed : (s : State) (part : List Key) (owners : Bool) (w : Walk) (old new : Sight) (f : ExtractFault) → w.left ≡ [] → Completes s owners (extraction_way w) w.ino old new (Err f)
-    → StopsBy s owners (firsts_of w.firsts) (extraction_todo part w) old new f
-leave_failed s part owners w old new f none completes =
-    subst (λ (t : List Task). StopsBy s owners (firsts_of w.firsts) t old new f) (todo_left part w none)
-    (completes (firsts_of w.firsts) (tasks_up part (reverse w.above.items) (way_up (extraction_way w))))
+pub leave_failed : (s : State) (part : List Key) (owners : Bool) (made : FirstPaths) (w : Walk) (old new : Sight) (f : ExtractFault) → w.left ≡ [] → Completes s owners (extraction_way w) w.ino old new (Err f)
+    → StopsBy s owners made (extraction_todo part w) old new f
+leave_failed s part owners made w old new f none completes =
+    subst (λ (t : List Task). StopsBy s owners made t old new f) (todo_left part w none)
+    (completes made (tasks_up part (reverse w.above.items) (way_up (extraction_way w))))
 
 -- the walk went up, whatever it counts
 abbrev pub Up : Walk → Walk → Bool → Type 0
-Up w n true = (w.above.items ≡ n.above.items ++ (n.ino, n.left) ∷ []) × (extraction_way n ≡ way_up (extraction_way w)) × (n.firsts ≡ w.firsts)
-Up w n false = (w.above.items ≡ []) × (n.firsts ≡ w.firsts)
+Up w n true = (w.above.items ≡ n.above.items ++ (n.ino, n.left) ∷ []) × (extraction_way n ≡ way_up (extraction_way w)) × (n.firsts ≡ w.firsts) × (n.unread ≡ w.unread)
+Up w n false = w.above.items ≡ []
 
-pub leaves : (s : State) (part : List Key) (owners : Bool) (w n : Walk) (old new : Sight) (done up : Bool) → w.left ≡ [] → Completes (part_along part s) owners (extraction_way w) w.ino old new (Ok done)
-    → Up w n up → Steps s part owners w n old new (Ok up)
-leaves s part owners w n old new done false none completes up =
+-- it goes on, then, as far as it did before
+goes_up : (s : State) (made : FirstPaths) (w n : Walk) → w.left ≡ [] → Up w n true → IsOnWay s made w → IsOnWay s made n
+goes_up s made w n none up on_way =
+    let back : reverse w.above.items ≡ open_of n = ap reverse up.0 ∙ reverse-append n.above.items ((n.ino, n.left) ∷ []) in
+    let sum : sum_by (λ (d : ℕ × List (List ℕ × ℕ)). length d.1) w.above.items ≡ sum_by (λ (d : ℕ × List (List ℕ × ℕ)). length d.1) n.above.items + length n.left =
+    ap (sum_by (λ d. length d.1)) up.0 ∙ sum_by_push (λ (d : ℕ × List (List ℕ × ℕ)). length d.1) n.above.items (n.ino, n.left) in
+    let left : length w.left ≡ 0 = ap (λ l. length l) none in
+    let unread : length n.unread ≡ length w.unread = ap (λ l. length l) up.3 in
+    let enough = on_way.enough in
+    record {
+      knows = subst (Knows s made (firsts_of n.firsts)) back (subst (λ (f : FirstPaths). Knows s made f (reverse w.above.items)) (sym (ap firsts_of up.2)) (gone_up s made (firsts_of w.firsts) (w.ino, w.left) (reverse w.above.items) on_way.knows));
+      enough = omega arith;
+    }
+
+pub leaves : (s : State) (part : List Key) (owners : Bool) (made : FirstPaths) (w n : Walk) (old new : Sight) (done up : Bool) → w.left ≡ [] → Completes (part_along part s) owners (extraction_way w) w.ino old new (Ok done)
+    → Up w n up → IsOnWay s made w → Steps s part owners made w n (old, new) (Ok up)
+leaves s part owners made w n old new done false none completes up on_way =
     let rest = tasks_up part (reverse w.above.items) (way_up (extraction_way w)) in
-    let empty : rest ≡ [] = ap (λ (above : List (ℕ × List (List ℕ × ℕ))). tasks_up part (reverse above) (way_up (extraction_way w))) up.0 in (
+    let empty : rest ≡ [] = ap (λ (above : List (ℕ × List (List ℕ × ℕ))). tasks_up part (reverse above) (way_up (extraction_way w))) up in (
       completes.0,
+      made,
       completes.1,
-      subst (λ (f : FirstPaths). Advances (part_along part s) owners (firsts_of w.firsts) (extraction_todo part w) f [] completes.0) (sym (ap firsts_of up.1))
-          (advances_to (part_along part s) owners (firsts_of w.firsts) (firsts_of w.firsts) (more_of part w) (extraction_todo part w) rest [] completes.0 (todo_left part w none) empty (completes.2 (firsts_of w.firsts) rest)),
+      advances_to (part_along part s) owners made made (more_of part w) (extraction_todo part w) rest [] completes.0 (todo_left part w none) empty (completes.2 made rest),
     )
-leaves s part owners w n old new done true none completes up =
+leaves s part owners made w n old new done true none completes up on_way =
     let rest = tasks_up part (reverse w.above.items) (way_up (extraction_way w)) in
     let todo : rest ≡ extraction_todo part n =
     ap (λ (above : List (ℕ × List (List ℕ × ℕ))). tasks_up part (reverse above) (way_up (extraction_way w))) up.0
     ∙ ap (λ (above : List (ℕ × List (List ℕ × ℕ))). tasks_up part above (way_up (extraction_way w))) (reverse-append n.above.items ((n.ino, n.left) ∷ []))
     ∙ ap (tasks_up part ((n.ino, n.left) ∷ reverse n.above.items)) (sym up.1) in
-    let left : length w.left ≡ 0 = ap (λ l. length l) none in
-    let sum : sum_by (λ (d : ℕ × List (List ℕ × ℕ)). length d.1) w.above.items ≡ sum_by (λ (d : ℕ × List (List ℕ × ℕ)). length d.1) n.above.items + length n.left =
-    ap (sum_by (λ d. length d.1)) up.0 ∙ sum_by_push (λ (d : ℕ × List (List ℕ × ℕ)). length d.1) n.above.items (n.ino, n.left) in
     let deep : length w.above.items ≡ length n.above.items + 1 = ap (λ l. length l) up.0 ∙ length_push n.above.items (n.ino, n.left) in
-    let made : unmade s (firsts_of n.firsts) ≡ unmade s (firsts_of w.firsts) = ap (λ m. unmade s (firsts_of m)) up.2 in (
+    let unread : length n.unread ≡ length w.unread = ap (λ l. length l) up.3 in (
       completes.0,
+      made,
+      goes_up s made w n none up on_way,
       completes.1,
-      subst (λ (f : FirstPaths). Advances (part_along part s) owners (firsts_of w.firsts) (extraction_todo part w) f (extraction_todo part n) completes.0) (sym (ap firsts_of up.2))
-          (advances_to (part_along part s) owners (firsts_of w.firsts) (firsts_of w.firsts) (more_of part w) (extraction_todo part w) rest (extraction_todo part n) completes.0 (todo_left part w none) todo (completes.2 (firsts_of w.firsts) rest)),
+      advances_to (part_along part s) owners made made (more_of part w) (extraction_todo part w) rest (extraction_todo part n) completes.0 (todo_left part w none) todo (completes.2 made rest),
       omega arith,
     )
 
 -- a step that ends with this count
-pub step_left : (s : State) (part : List Key) (owners : Bool) (w n : Walk) (old seen : Sight) (on : Bool) → n.totals ≡ seen.totals → Steps s part owners w n old seen (Ok on)
-    → Steps s part owners w n old (record { made = seen.made; failures = seen.failures; told = seen.told; told_failures = seen.told_failures; totals = n.totals }) (Ok on)
-step_left s part owners w n old seen on is steps =
-    subst (λ (k : Totals). Steps s part owners w n old (record { made = seen.made; failures = seen.failures; told = seen.told; told_failures = seen.told_failures; totals = k }) (Ok on)) (sym is) steps
+pub step_left : (s : State) (part : List Key) (owners : Bool) (made : FirstPaths) (w n : Walk) (old seen : Sight) (on : Bool) → n.totals ≡ seen.totals → Steps s part owners made w n (old, seen) (Ok on)
+    → Steps s part owners made w n (old, record { made = seen.made; failures = seen.failures; told = seen.told; told_failures = seen.told_failures; totals = n.totals }) (Ok on)
+step_left s part owners made w n old seen on is steps =
+    subst (λ (k : Totals). Steps s part owners made w n (old, record { made = seen.made; failures = seen.failures; told = seen.told; told_failures = seen.told_failures; totals = k }) (Ok on)) (sym is) steps
 
 -- the same, of a walk that knows another count before it goes up
-pub leaves_as : (s : State) (part : List Key) (owners : Bool) (w m n : Walk) (old new : Sight) (done up : Bool) → w.left ≡ [] → extraction_way m ≡ extraction_way w → m.above.items ≡ w.above.items → m.firsts ≡ w.firsts
-    → Completes (part_along part s) owners (extraction_way w) w.ino old new (Ok done) → ExtractionGoesUp m n up → m.totals ≡ new.totals
-    → Steps s part owners w n old (record { made = new.made; failures = new.failures; told = new.told; told_failures = new.told_failures; totals = n.totals }) (Ok up)
-leaves_as s part owners w m n old new done false none way above firsts completes up count =
-    step_left s part owners w n old new false (up.2 ∙ count) (leaves s part owners w n old new done false none completes (sym above ∙ up.0, up.1 ∙ firsts))
-leaves_as s part owners w m n old new done true none way above firsts completes up count =
-    step_left s part owners w n old new true (up.3 ∙ count) (leaves s part owners w n old new done true none completes (sym above ∙ up.0, up.1 ∙ ap way_up way, up.2 ∙ firsts))
+pub leaves_as : (s : State) (part : List Key) (owners : Bool) (made : FirstPaths) (w m n : Walk) (old new : Sight) (done up : Bool) → w.left ≡ [] → extraction_way m ≡ extraction_way w → m.above.items ≡ w.above.items
+    → m.firsts ≡ w.firsts → m.unread ≡ w.unread → Completes (part_along part s) owners (extraction_way w) w.ino old new (Ok done) → ExtractionGoesUp m n up → m.totals ≡ new.totals → IsOnWay s made w
+    → Steps s part owners made w n (old, record { made = new.made; failures = new.failures; told = new.told; told_failures = new.told_failures; totals = n.totals }) (Ok up)
+leaves_as s part owners made w m n old new done false none way above firsts unread completes up count on_way =
+    step_left s part owners made w n old new false (up.2 ∙ count) (leaves s part owners made w n old new done false none completes (sym above ∙ up.0) on_way)
+leaves_as s part owners made w m n old new done true none way above firsts unread completes up count on_way =
+    step_left s part owners made w n old new true (up.3 ∙ count) (leaves s part owners made w n old new done true none completes (sym above ∙ up.0, up.1 ∙ ap way_up way, up.2 ∙ firsts, up.4 ∙ unread) on_way)
 
 -- ---- the way to an object
 

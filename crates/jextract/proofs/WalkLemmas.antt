@@ -1,24 +1,27 @@
 -- The walk through a tree that is extracted.
-use Rattle.std.proofs.Common.{◌≡◌, ℕ, ◌+◌, ◌≤◌, ◌&&◌, ◌==◌, cond, Bool, true, false, List, [], ◌∷◌, length, append-nil, refl, sym, ap, ◌∙◌, subst, arith, inl, inr, Option, Some, None, Result, Ok, Err, if◌then◌else◌}
+use Rattle.std.proofs.Common.{◌≡◌, ℕ, ◌+◌, ◌≤◌, ◌&&◌, ◌==◌, cond, Bool, true, false, List, [], ◌∷◌, length, append-nil, refl, sym, ap, ◌∙◌, subst, arith, inl, inr, ⊎_elim, Option, Some, None, Result, Ok, Err, if◌then◌else◌}
 use Rattle.std.specs.Prelude.{is_some, is_none, count_by, option_map, IsErrAnd}
 use Rattle.std.specs.Option.{option_or}
 use Rattle.std.specs.Io.KnownBytes.{Appends}
 use Rattle.std.proofs.KnownBytes.{Appends-nil}
 use Rattle.std.proofs.lemmas.Bool.Decides.{nat_tests}
-use Rattle.std.specs.FinMap.{entries}
+use Rattle.std.specs.FinMap.{FinMap, entries}
+use Rattle.std.proofs.lemmas.List.{length-map}
 use Rattle.std.proofs.lemmas.List.Sums.{sum_by-cons}
 use Rattle.flashbase.specs.Device.{PutsPart}
 use Rattle.flashbase.specs.Sinks.{SinkChange}
-use Rattle.jmount.specs.Tree.{State, ObjectOf, object, has_bits, directory_bits, entries_in, is_directory, type_bits}
+use Rattle.jmount.specs.Tree.{State, all_entries, ObjectOf, object, has_bits, directory_bits, entries_in, is_directory, type_bits}
 use Rattle.jmount.specs.Shown.{kind_of, readable, shown}
 use Rattle.jmount.specs.declared.object.Kind.{Kind}
 use Rattle.jmount.specs.declared.object.Kind.TheVariants as kind
 use Rattle.jmount.specs.declared.object.Object.{Object}
 use Rattle.jextract.specs.Folders.{Failures, FolderChange, ReportsMore, refused_once}
 use Rattle.jextract.specs.Making.{HasBegun, Works, FirstsAfter, count_after}
-use Rattle.jextract.specs.Outcomes.{Task, Make, Complete, path_of_task, Outcome, FirstPaths, Plan, FollowsPlan, IsOutcomeOf, attributes_of, is_directory_kind, is_refusal, plan_of, plan_made, tasks_after, todo_if, firsts_after, firsts_if, firsts_with, line_if_left_out, outcome_line}
+use Rattle.jextract.specs.Outcomes.{root_alone, Task, Make, Complete, path_of_task, Outcome, FirstPaths, Plan, FollowsPlan, IsOutcomeOf, attributes_of, is_directory_kind, is_refusal, plan_of, plan_made, lost_made, tasks_after, todo_if, firsts_after, firsts_if, firsts_with, line_if_left_out, outcome_line}
 use Rattle.jextract.specs.Paths.{host_path}
-use Rattle.jextract.specs.Walking.{Settles, Advances, Sight, Had, Stopped, StopsBy, Visits, Completes, todo_then, totals_up, unmade}
+use Rattle.jname.specs.Live.{key_cmp}
+use Rattle.jextract.specs.Parts.{with_names}
+use Rattle.jextract.specs.Walking.{Settles, NotesVisit, VisitsKnown, Advances, Sight, Had, Stopped, StopsBy, Visits, Completes, todo_then, totals_up, unmade}
 use Rattle.jextract.specs.declared.fault.ExtractFault.{ExtractFault}
 use Rattle.jextract.specs.declared.fault.ExtractFault.TheVariants as fault
 use Rattle.jextract.specs.declared.making.MakeFault.{MakeFault}
@@ -169,6 +172,19 @@ unmade_entered s firsts text i new =
     one (Some x) at true e gone = let none = gone refl in absurd (cc)
     one (Some x) at false e gone = refl
 
+count_all : {X : Type 0} (xs : List X) → count_by (λ x. true) xs ≡ length xs
+count_all [] = refl
+count_all {X = X} (x ∷ xs) = let more = count_all xs in omega (arith, sum_by-cons (λ (y : X). cond true 1 0) x xs)
+
+-- at the start the names of the root alone are to be read, and all others are still to come
+pub unmade_first : (s : State) → unmade s root_alone + length (entries_in s 1) ≤ length (all_entries s)
+unmade_first s =
+    let nothing : FirstPaths = λ i. None in
+    let entered : unmade s root_alone + length (entries_in s 1) ≡ unmade s nothing = unmade_entered s nothing [] 1 refl in
+    let all : unmade s nothing ≡ length (entries s.names) = count_all (entries s.names) in
+    let same : length (all_entries s) ≡ length (entries s.names) = length-map (entries s.names) (λ e. (e.0.0, e.0.1, e.1)) in
+    omega arith
+
 unmade_after : (s : State) (firsts : FirstPaths) (path : Result (List ℕ) Reason) (i : ℕ) → unmade s (firsts_with firsts path i) ≤ unmade s firsts
 unmade_after s firsts (Err why) i = omega arith
 unmade_after s firsts (Ok text) i =
@@ -243,8 +259,13 @@ advances_as s owners firsts todo other then_ then_other todo_ todo_other outcome
     (subst (λ (f : FirstPaths). Advances s owners firsts todo f todo_other outcomes) b
     (subst (λ (t : List Task). Advances s owners firsts todo then_ t outcomes) c advances))
 
+-- what was made after an object was made, or was not
+abbrev pub made_after : FirstPaths → List (List ℕ) → ℕ → Result Bool MakeFault → FirstPaths
+made_after made path i (Ok x) = firsts_if made path i None
+made_after made path i (Err f) = made
+
 pub visit_made : (s : State) (owners : Bool) (firsts firsts_then : FirstPaths) (path : List (List ℕ)) (i : ℕ) (old new : Sight) (r : Result Bool MakeFault) (done : Bool)
-    → Works s owners firsts (Make path i) (folder_change old new) r → FirstsAfter firsts firsts_then path i r
+    → Works s owners firsts (Make path i) (folder_change old new) r → firsts_then ≡ made_after firsts path i r
     → Settles r path (notes_change old new) old.totals new.totals (Ok done)
     → Visits s owners firsts firsts_then (Make path i) old new (Ok (done && is_directory s i))
 visit_made s owners firsts firsts_then path i old new (Err make.NoSpace) done works after tells = absurd tells
@@ -286,8 +307,76 @@ visit_made s owners firsts firsts_then path i old new (Ok x) done works after te
         let count = unmade_entered s firsts is_new.1.0 i is_new.0 in
         subst (λ (p : Result (List ℕ) Reason). unmade s (firsts_with firsts p i) + length (entries_in s i) ≤ unmade s firsts) (sym is_new.1.1) (omega (arith, count))
 
-pub visits_at_fault : (s : State) (owners : Bool) (firsts firsts_then : FirstPaths) (path : List (List ℕ)) (i : ℕ) (old new : Sight) (f : ExtractFault) (r : Result Bool ExtractFault)
-    → IsErrAnd r (λ e. e ≡ f) → Visits s owners firsts firsts_then (Make path i) old new (Err f) → Visits s owners firsts firsts_then (Make path i) old new r
-visits_at_fault s owners firsts firsts_then path i old new f (Ok x) err visits = absurd err
-visits_at_fault s owners firsts firsts_then path i old new f (Err e) err visits =
-    subst (λ (x : ExtractFault). Visits s owners firsts firsts_then (Make path i) old new (Err x)) (sym err) visits
+-- ---- what is known of an object is enough
+
+plan_as : (s : State) (owners : Bool) (known made : FirstPaths) (i : ℕ) (x : Option Object) → known i ≡ made i → plan_made s owners known i x ≡ plan_made s owners made i x
+plan_as s owners known made i None same = refl
+plan_as s owners known made i (Some o) same = ap (λ (first : Option (List ℕ)). plan_of first o.kind (readable s i) (attributes_of owners o)) same
+
+outcome_as : (s : State) (owners : Bool) (known made : FirstPaths) (path : List (List ℕ)) (i : ℕ) (o : Outcome) → known i ≡ made i → IsOutcomeOf s owners known (Make path i) o → IsOutcomeOf s owners made (Make path i) o
+outcome_as s owners known made path i o same is = (
+  is.0,
+  subst (λ (p : Plan). FollowsPlan (host_path path) p o) (plan_as s owners known made i (option_map shown (object s i)) same) is.1,
+  is.2 ∙ ap (λ (first : Option (List ℕ)). is_none o.left_out && lost_made owners first (option_map shown (object s i))) same,
+)
+
+begun_as : (s : State) (owners : Bool) (known made : FirstPaths) (path : List (List ℕ)) (i : ℕ) (old new : Sight) → known i ≡ made i → HasBegun s owners known (Make path i) old.made new.made
+    → HasBegun s owners made (Make path i) old.made new.made
+begun_as s owners known made path i old new same (inl none) = inl none
+begun_as s owners known made path i old new same (inr begun) = inr (begun.0, outcome_as s owners known made path i begun.0 same begun.1, begun.2)
+
+pub works_as : (s : State) (owners : Bool) (known made : FirstPaths) (path : List (List ℕ)) (i : ℕ) (old new : Sight) (r : Result Bool MakeFault) → known i ≡ made i
+    → Works s owners known (Make path i) (folder_change old new) r → Works s owners made (Make path i) (folder_change old new) r
+works_as s owners known made path i old new (Ok lost) same works = (works.0, outcome_as s owners known made path i works.0 same works.1, works.2, works.3, works.4, works.5)
+works_as s owners known made path i old new (Err (make.LeftOut why)) same works = (works.0, outcome_as s owners known made path i works.0 same works.1, works.2, works.3, works.4, works.5)
+works_as s owners known made path i old new (Err make.NoSpace) same works = (begun_as s owners known made path i old new same works.0, works.1)
+works_as s owners known made path i old new (Err make.OutOfMemory) same works = (begun_as s owners known made path i old new same works.0, works.1)
+
+-- ---- what is remembered of it
+
+path_of_done : (path : Result (List ℕ) Reason) (plan : Plan) (o : Outcome) → FollowsPlan path plan o → o.left_out ≡ None → (text : List ℕ) × (path ≡ Ok text)
+path_of_done (Ok text) plan o follows left = (text, refl)
+path_of_done (Err why) plan o follows left = let other = follows.1 in absurd (cc)
+
+new_directory : (s : State) (owners : Bool) (made : FirstPaths) (path : List (List ℕ)) (i : ℕ) (o : Outcome) → IsOutcomeOf s owners made (Make path i) o → o.left_out ≡ None → is_directory s i ≡ true → made i ≡ None
+new_directory s owners made path i o is left dir =
+    let there = directory_there (object s i) dir in
+    let plan : plan_made s owners made i (option_map shown (object s i)) ≡ plan_of (made i) kind.Directory (readable s i) (attributes_of owners there.0) =
+    ap (plan_made s owners made i) there.1 ∙ ap (λ (k : Kind). plan_of (made i) k (readable s i) (attributes_of owners there.0)) there.2 in
+    (made_is_new (made i) (host_path path) (readable s i) o there.0 owners (subst (λ (p : Plan). FollowsPlan (host_path path) p o) plan is.1) left).0
+
+pub remembers : (s : State) (owners : Bool) (made known known_then : FirstPaths) (path : List (List ℕ)) (i : ℕ) (old new : Sight) (r : Result Bool MakeFault) (done : Bool)
+    → Works s owners made (Make path i) (folder_change old new) r → FirstsAfter s known known_then path i r
+    → Settles r path (notes_change old new) old.totals new.totals (Ok done) → NotesVisit s made (made_after made path i r) (known, known_then) i (done && is_directory s i)
+remembers s owners made known known_then path i old new (Err make.NoSpace) done works after tells = absurd tells
+remembers s owners made known known_then path i old new (Err make.OutOfMemory) done works after tells = absurd tells
+remembers s owners made known known_then path i old new (Err (make.LeftOut why)) done works after tells = inl (ap (λ (b : Bool). b && is_directory s i) tells.0, refl, after)
+remembers s owners made known known_then path i old new (Ok x) done works after tells =
+    let text = path_of_done (host_path path) (plan_made s owners made i (option_map shown (object s i))) works.0 works.1.1 works.2 in
+    let entered : done && is_directory s i ≡ is_directory s i = ap (λ (b : Bool). b && is_directory s i) tells.0 in
+    inr (
+      text.0,
+      ap (λ (p : Result (List ℕ) Reason). firsts_with made p i) text.1,
+      λ is. new_directory s owners made path i works.0 works.1 works.2 (sym entered ∙ is),
+      ⊎_elim (λ (added : known_then ≡ firsts_if known path i None). inl (added ∙ ap (λ (p : Result (List ℕ) Reason). firsts_with known p i) text.1)) (λ one. inr one) after,
+    )
+
+-- ---- an object that is visited, of a part of a tree
+
+pub visit_known : (s : State) (names : FinMap key_cmp ℕ) (owners : Bool) (made known known_then : FirstPaths) (path : List (List ℕ)) (i : ℕ) (old new : Sight) (r : Result Bool MakeFault) (done : Bool)
+    → known i ≡ made i → Works s owners known (Make path i) (folder_change old new) r → FirstsAfter s known known_then path i r
+    → Settles r path (notes_change old new) old.totals new.totals (Ok done)
+    → VisitsKnown s (with_names s names) owners made (known, known_then) (Make path i) (old, new) (Ok (done && is_directory s i))
+visit_known s names owners made known known_then path i old new r done same works after tells =
+    let so = works_as s owners known made path i old new r same works in (
+      made_after made path i r,
+      visit_made (with_names s names) owners made (made_after made path i r) path i old new r done so refl tells,
+      (visit_made s owners made (made_after made path i r) path i old new r done so refl tells).3,
+      remembers s owners made known known_then path i old new r done so after tells,
+    )
+
+pub known_at_fault : (s p : State) (owners : Bool) (made known known_then : FirstPaths) (path : List (List ℕ)) (i : ℕ) (old new : Sight) (f : ExtractFault) (r : Result Bool ExtractFault)
+    → IsErrAnd r (λ e. e ≡ f) → Visits p owners made made (Make path i) old new (Err f) → VisitsKnown s p owners made (known, known_then) (Make path i) (old, new) r
+known_at_fault s p owners made known known_then path i old new f (Ok x) err visits = absurd err
+known_at_fault s p owners made known known_then path i old new f (Err e) err visits =
+    subst (λ (x : ExtractFault). Visits p owners made made (Make path i) old new (Err x)) (sym err) visits

@@ -1,5 +1,5 @@
 -- What a call that extracts a file system does to the folder and to the notes.
-use Rattle.std.specs.Prelude.{◌≡◌, ℕ, Bool, List, [], take, Option, Result, Ok, Err}
+use Rattle.std.specs.Prelude.{◌≡◌, ℕ, Bool, List, [], take, Result, Ok, Err}
 use Rattle.std.specs.Io.KnownBytes.{Appends}
 use Rattle.flashbase.specs.Device.{PutsPart, next_count}
 use Rattle.flashbase.specs.Sinks.{SinkChange}

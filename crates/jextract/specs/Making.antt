@@ -4,8 +4,9 @@ use Rattle.std.specs.declared.alloc.Global.{Global}
 use Rattle.std.specs.Ordering.{nat_cmp}
 use Rattle.std.specs.BTreeMap.{BTreeMap, get}
 use Rattle.jmount.specs.Tree.{State}
+use Rattle.jmount.specs.Shape.{HasOneName}
 use Rattle.jextract.specs.Folders.{Failures, FolderChange, refused_once, full_once, counted_fault, Made, ReportsMore, Deed}
-use Rattle.jextract.specs.Outcomes.{Plan, Do, LeaveOut, Task, Outcome, FirstPaths, IsOutcomeOf, made_at, is_refusal, firsts_if}
+use Rattle.jextract.specs.Outcomes.{Plan, Do, LeaveOut, Task, Outcome, FirstPaths, IsOutcomeOf, made_at, is_refusal, firsts_if, firsts_with}
 use Rattle.jextract.specs.declared.folder.FolderFault.{FolderFault}
 use Rattle.jextract.specs.declared.folder.FolderFault.TheVariants as folder
 use Rattle.jextract.specs.declared.reason.Reason.{Reason}
@@ -89,8 +90,17 @@ Works s owners firsts task change (Err OutOfMemory) =
 abbrev pub firsts_of : BTreeMap ℕ (String Global) → FirstPaths
 firsts_of paths = λ i. option_map string_bytes (get nat_cmp paths i)
 
--- those after a task at a path, which was done or was not
-abbrev pub FirstsAfter : {T : Type 0} → FirstPaths → FirstPaths → List (List ℕ) → ℕ
+-- Those after an object was made at the path of a text. That of an object with one name need not be
+-- among them.
+abbrev pub NotesFirst : {T E : Type 0} → State → FirstPaths → FirstPaths → List ℕ → ℕ
+    → Result T E → Type 0
+NotesFirst s old new text i (Ok _) =
+    (new ≡ firsts_with old (Ok text) i) ⊎ ((new ≡ old) × HasOneName s i)
+NotesFirst s old new text i (Err _) = new ≡ old
+
+-- Those after a task at a path, which was done or was not.
+abbrev pub FirstsAfter : {T : Type 0} → State → FirstPaths → FirstPaths → List (List ℕ) → ℕ
     → Result T MakeFault → Type 0
-FirstsAfter old new path i (Ok _) = new ≡ firsts_if old path i None
-FirstsAfter old new path i (Err _) = new ≡ old
+FirstsAfter s old new path i (Ok _) =
+    (new ≡ firsts_if old path i None) ⊎ ((new ≡ old) × HasOneName s i)
+FirstsAfter s old new path i (Err _) = new ≡ old

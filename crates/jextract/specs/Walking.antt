@@ -1,17 +1,18 @@
 -- The walk through a tree that is extracted: what is still to be done, and what a step of it does.
-use Rattle.std.specs.Prelude.{◌≡◌, ℕ, ◌+◌, ◌-◌, ◌*◌, ◌<◌, ◌≤◌, ◌^◌, ◌==◌, min, Bool, true, false, List, [], ◌∷◌, ◌++◌, length, map, reverse, sum_by, count_by, filter, flat_map, Option, Some, is_some, is_none, Result, Ok, Err, if◌then◌else◌}
+use Rattle.std.specs.Prelude.{◌≡◌, ◌≢◌, ◌⊎◌, ⊤, Contains, ℕ, ◌+◌, ◌-◌, ◌*◌, ◌<◌, ◌≤◌, ◌^◌, ◌==◌, min, Bool, true, false, List, [], ◌∷◌, ◌++◌, length, map, reverse, sum_by, count_by, filter, flat_map, Option, Some, None, is_some, is_none, Result, Ok, Err, if◌then◌else◌}
 use Rattle.std.specs.FinMap.{entries}
 use Rattle.std.specs.Io.KnownBytes.{Appends}
 use Rattle.flashbase.specs.Device.{PutsPart, next_count}
 use Rattle.flashbase.specs.Sinks.{SinkChange}
-use Rattle.jmount.specs.Tree.{State, entries_in}
+use Rattle.jmount.specs.Tree.{State, named, entries_in}
 use Rattle.jmount.specs.Find.{way_up}
+use Rattle.jmount.specs.Shape.{HasOneName}
 use Rattle.jextract.specs.Folders.{Failures, Made, ReportsMore}
 use Rattle.jextract.specs.Making.{firsts_of}
 use Rattle.jextract.specs.Extracts.{AreTreeOutcomes}
 use Rattle.jname.specs.Live.{Key}
 use Rattle.jextract.specs.Parts.{is_in_part, part_along}
-use Rattle.jextract.specs.Outcomes.{root_alone, Task, Make, Complete, path_of_task, ino_of_task, Outcome, FirstPaths, AreOutcomes, AreFirstOutcomes, tasks_in, tasks_of, all_lines, failures_after, line_if_left_out}
+use Rattle.jextract.specs.Outcomes.{root_alone, firsts_with, Task, Complete, path_of_task, ino_of_task, Outcome, FirstPaths, AreOutcomes, AreFirstOutcomes, tasks_in, tasks_of, all_lines, failures_after, line_if_left_out}
 use Rattle.jextract.specs.declared.extracting.Walk.{Walk}
 use Rattle.jextract.specs.declared.making.MakeFault.{MakeFault}
 use Rattle.jextract.specs.declared.making.MakeFault.TheVariants as make
@@ -78,6 +79,38 @@ extraction_way w = map (λ name. name.now) w.path.items
 abbrev pub extraction_todo : List Key → Walk → List Task
 extraction_todo way w = tasks_up way ((w.ino, w.left) ∷ reverse w.above.items) (extraction_way w)
 
+-- ---- what is not remembered
+
+-- a directory that the walk is in, and what is left of it
+abbrev pub Open : Type 0
+Open = ℕ × List (List ℕ × ℕ)
+
+abbrev pub open_of : Walk → List Open
+open_of w = (w.ino, w.left) ∷ reverse w.above.items
+
+-- no two of them are one
+abbrev pub AreApart : List Open → Type 0
+AreApart [] = ⊤
+AreApart (d ∷ above) = ((e : Open) → Contains above e → d.0 ≢ e.0) × AreApart above
+
+-- what is left of a directory are the last of its names
+abbrev pub AreLastNames : State → Open → Type 0
+AreLastNames s d = (read : List (List ℕ × ℕ)) × (entries_in s d.0 ≡ read ++ d.1)
+
+-- the one name of an object was gone through, in a directory that was made
+pub record IsSpent (s : State) (made : FirstPaths) (dirs : List Open) (i : ℕ) : Type 0 where
+  pub one : HasOneName s i
+  pub below : (d : ℕ) (n : List ℕ) → named s d n ≡ Some i → is_some (made d) ≡ true
+  pub gone : (d : Open) (n : List ℕ) → Contains dirs d → Contains d.1 (n, i) → ⊥
+
+-- Of each object the path is known at which it was made first, or it has one name, which was gone
+-- through.
+pub record Knows (s : State) (made known : FirstPaths) (dirs : List Open) : Type 0 where
+  pub there : (d : Open) → Contains dirs d → is_some (made d.0) ≡ true
+  pub apart : AreApart dirs
+  pub left : (d : Open) → Contains dirs d → AreLastNames s d
+  pub each : (i : ℕ) → (known i ≡ made i) ⊎ IsSpent s made dirs i
+
 -- ---- how far it is to the end
 
 -- the names whose directory was not made
@@ -85,12 +118,18 @@ abbrev pub unmade : State → FirstPaths → ℕ
 unmade s firsts = count_by (λ e. is_none (firsts e.0.0)) (entries s.names)
 
 -- the names that the walk has not read, those of directories that it may make among them
-abbrev pub extraction_names_left : State → Walk → ℕ
-extraction_names_left s w = unmade s (firsts_of w.firsts) + length w.left
+abbrev pub extraction_names_left : State → FirstPaths → Walk → ℕ
+extraction_names_left s made w = unmade s made + length w.left
     + sum_by (λ directory. length directory.1) w.above.items
 
-abbrev pub extraction_steps_left : State → Walk → ℕ
-extraction_steps_left s w = 2 * extraction_names_left s w + length w.above.items
+abbrev pub extraction_steps_left : Walk → ℕ
+extraction_steps_left w = 2 * length w.unread + length w.above.items
+
+-- A walk is on its way: of what was made it knows what it needs, and it may read as many names as
+-- there may still be.
+pub record IsOnWay (s : State) (made : FirstPaths) (w : Walk) : Type 0 where
+  pub knows : Knows s made (firsts_of w.firsts) (open_of w)
+  pub enough : extraction_names_left s made w ≤ length w.unread
 
 -- ---- a part of the walk
 
@@ -111,6 +150,10 @@ pub record Sight : Type 0 where
   pub told : Option (List ℕ)
   pub told_failures : ℕ
   pub totals : Totals
+
+-- before a part of a walk, and after it
+abbrev pub Sights : Type 0
+Sights = Sight × Sight
 
 -- these outcomes were had
 abbrev pub Had : Sight → Sight → List Outcome → Type 0
@@ -157,6 +200,29 @@ Visits s owners firsts firsts_then task old new (Ok entered) =
 Visits s owners firsts firsts_then task old new (Err fault) =
     (todo : List Task) → StopsBy s owners firsts (task ∷ todo) old new fault
 
+-- what is known before a visit, and after it
+abbrev pub KnownPaths : Type 0
+KnownPaths = FirstPaths × FirstPaths
+
+-- The object was made, or it was left out. If it was made, its path is known, or it has one name.
+abbrev pub NotesVisit : State → FirstPaths → FirstPaths → KnownPaths → ℕ → Bool → Type 0
+NotesVisit s made made_then known i entered =
+    ((entered ≡ false) × (made_then ≡ made) × (known.1 ≡ known.0))
+    ⊎ ((text : List ℕ) × (made_then ≡ firsts_with made (Ok text) i)
+    × (entered ≡ true → made i ≡ None)
+    × ((known.1 ≡ firsts_with known.0 (Ok text) i) ⊎ ((known.1 ≡ known.0) × HasOneName s i)))
+
+-- The object of a task is visited in a part of a tree, and what is known of it was enough.
+abbrev pub VisitsKnown : State → State → Bool → FirstPaths → KnownPaths → Task → Sights
+    → Result Bool ExtractFault → Type 0
+VisitsKnown s part owners made known task seen (Ok entered) = (made_then : FirstPaths)
+    × Visits part owners made made_then task seen.0 seen.1 (Ok entered)
+    × (unmade s made_then + (if entered then length (entries_in s (ino_of_task task)) else 0)
+    ≤ unmade s made)
+    × NotesVisit s made made_then known (ino_of_task task) entered
+VisitsKnown s part owners made known task seen (Err fault) =
+    Visits part owners made made task seen.0 seen.1 (Err fault)
+
 -- a directory is completed, whatever was made before
 abbrev pub Completes : State → Bool → List (List ℕ) → ℕ → Sight → Sight → Result Bool ExtractFault
     → Type 0
@@ -171,7 +237,7 @@ Completes s owners path i old new (Err fault) = (firsts : FirstPaths) (todo : Li
 abbrev pub ExtractionGoesUp : Walk → Walk → Bool → Type 0
 ExtractionGoesUp w w_after true = (w.above.items ≡ w_after.above.items
     ++ (w_after.ino, w_after.left) ∷ []) × (extraction_way w_after ≡ way_up (extraction_way w))
-    × (w_after.firsts ≡ w.firsts) × (w_after.totals ≡ w.totals)
+    × (w_after.firsts ≡ w.firsts) × (w_after.totals ≡ w.totals) × (w_after.unread ≡ w.unread)
 ExtractionGoesUp w w_after false =
     (w.above.items ≡ []) × (w_after.firsts ≡ w.firsts) × (w_after.totals ≡ w.totals)
 
@@ -180,22 +246,23 @@ abbrev pub Enters : {T : Type 0} → State → ℕ → Walk → Walk → Result 
 Enters s i w w_after (Ok _) = (w_after.left ≡ entries_in s i) × (w_after.ino ≡ i)
     × (w_after.above.items ≡ w.above.items ++ (w.ino, w.left) ∷ [])
     × (w_after.path ≡ w.path) × (w_after.firsts ≡ w.firsts) × (w_after.totals ≡ w.totals)
+    × (w_after.unread ≡ w.unread)
 Enters s i w w_after (Err fault) = fault ≡ OutOfMemory
 
 -- A step of a walk through the part along a way. `false`: nothing is still to be done.
-abbrev pub Steps : State → List Key → Bool → Walk → Walk → Sight → Sight → Result Bool ExtractFault
-    → Type 0
-Steps s way owners w w_after old new (Ok true) =
-    (outcomes : List Outcome) × Had old new outcomes
-    × Advances (part_along way s) owners (firsts_of w.firsts) (extraction_todo way w)
-    (firsts_of w_after.firsts) (extraction_todo way w_after) outcomes
-    × (extraction_steps_left s w_after < extraction_steps_left s w)
-Steps s way owners w w_after old new (Ok false) =
-    (outcomes : List Outcome) × Had old new outcomes
-    × Advances (part_along way s) owners (firsts_of w.firsts) (extraction_todo way w)
-    (firsts_of w_after.firsts) [] outcomes
-Steps s way owners w w_after old new (Err fault) = StopsBy (part_along way s) owners
-    (firsts_of w.firsts) (extraction_todo way w) old new fault
+abbrev pub Steps : State → List Key → Bool → FirstPaths → Walk → Walk → Sights
+    → Result Bool ExtractFault → Type 0
+Steps s way owners made w w_after seen (Ok true) =
+    (outcomes : List Outcome) × (made_then : FirstPaths) × IsOnWay s made_then w_after
+    × Had seen.0 seen.1 outcomes
+    × Advances (part_along way s) owners made (extraction_todo way w) made_then
+    (extraction_todo way w_after) outcomes
+    × (extraction_steps_left w_after < extraction_steps_left w)
+Steps s way owners made w w_after seen (Ok false) =
+    (outcomes : List Outcome) × (made_then : FirstPaths) × Had seen.0 seen.1 outcomes
+    × Advances (part_along way s) owners made (extraction_todo way w) made_then [] outcomes
+Steps s way owners made w w_after seen (Err fault) = StopsBy (part_along way s) owners made
+    (extraction_todo way w) seen.0 seen.1 fault
 
 -- the tree is made in a folder that was made
 abbrev pub Fills : State → Bool → Sight → Sight → Result Totals ExtractFault → Type 0

@@ -5,13 +5,13 @@ ghost use Rattle.std.specs.Prelude.{ℕ};
 ghost use Rattle.std.specs.FinMap.{FinMap};
 ghost use Rattle.jname.specs.Live.{key_cmp};
 ghost use Rattle.jextract.specs.Extracts.{Extracts};
-ghost use Rattle.jextract.specs.Outcomes.{Make, root_alone};
+ghost use Rattle.jextract.specs.Outcomes.{FirstPaths, Make, root_alone};
 ghost use Rattle.jextract.specs.PartsOf.{IsPart, part_of};
 ghost use Rattle.jextract.specs.Parts.{is_in_part, is_on_way, is_way, keys_of, part_along, part_alone, with_names};
 ghost use Rattle.jextract.specs.declared.fault.ExtractFault.TheVariants.{OutOfMemory};
 ghost use Rattle.jmount.specs.Tree as tree;
 ghost use Rattle.jextract.specs.Making.{firsts_of};
-ghost use Rattle.jextract.specs.Walking.{Completes, Enters, Fills, ExtractionGoesUp, Steps, Settles, Visits, no_totals, totals_up};
+ghost use Rattle.jextract.specs.Walking.{Completes, Enters, Fills, ExtractionGoesUp, IsOnWay, Steps, Settles, VisitsKnown, no_totals, totals_up};
 ghost use Rattle.flashbase.specs.Sinks.{change_of};
 
 use crate::fault::ExtractFault;
@@ -22,7 +22,7 @@ use crate::parts::Part;
 use crate::totals::Totals;
 use flashbase::Sink;
 use jmount::{Kind, Mounted, ROOT};
-use jname::Of;
+use jname::{All, Of};
 use std::alloc::Global;
 use std::collections::BTreeMap;
 use std::mem;
@@ -123,23 +123,27 @@ fn visit<F: Folder, N: Sink>(
     folder: &mut F,
     notes: &mut N,
 ) -> Result<bool, ExtractFault>
-    // Whatever the names of directories are: a part of the tree has others.
-    ensures visits { (names : FinMap key_cmp ℕ) → Visits (with_names mounted.now.state names) owners
-        (firsts_of firsts.old) (firsts_of firsts.new) (Make (map (λ name. name.now) path.now) ino)
-        (record {
-          made = F.made folder.old;
-          failures = F.failures folder.old;
-          told = N.taken notes.old;
-          told_failures = N.failures notes.old;
-          totals = totals.old;
-        })
-        (record {
-          made = F.made folder.new;
-          failures = F.failures folder.new;
-          told = N.taken notes.new;
-          told_failures = N.failures notes.new;
-          totals = totals.new;
-        }) result }
+    // Whatever the names of directories are: a part of the tree has others. And whatever else was
+    // made: that it is known of this object is enough.
+    ensures visits { (names : FinMap key_cmp ℕ) (made : FirstPaths)
+        → firsts_of firsts.old ino ≡ made ino
+        → VisitsKnown mounted.now.state (with_names mounted.now.state names) owners made
+        (firsts_of firsts.old, firsts_of firsts.new) (Make (map (λ name. name.now) path.now) ino) (
+          record {
+            made = F.made folder.old;
+            failures = F.failures folder.old;
+            told = N.taken notes.old;
+            told_failures = N.failures notes.old;
+            totals = totals.old;
+          },
+          record {
+            made = F.made folder.new;
+            failures = F.failures folder.new;
+            told = N.taken notes.new;
+            told_failures = N.failures notes.new;
+            totals = totals.new;
+          },
+        ) result }
     ensures entered { IfOk result
         (λ entered. entered ≡ true → tree.is_directory mounted.now.state ino ≡ true) }
 {
@@ -191,8 +195,10 @@ struct Walk<'m, 'a> {
     left: Of<'m, 'a>,
     /// The directories above it, from the root on, and what is left of each.
     above: Vec<(u32, Of<'m, 'a>)>,
-    /// The path at which each object was made first.
+    /// The path at which each object was made first that has several names.
     firsts: BTreeMap<u32, String>,
+    /// The names of the tree, of which as many are left as may still be read: none is read twice.
+    unread: All<'m, 'a>,
     /// What is counted so far.
     totals: Totals,
 }
@@ -222,21 +228,23 @@ impl<'m, 'a> Walk<'m, 'a> {
         folder: &mut F,
         notes: &mut N,
     ) -> Result<bool, ExtractFault>
-        ensures { Steps mounted.now.state (keys_of way.now) owners self.old self.new
-            (record {
-              made = F.made folder.old;
-              failures = F.failures folder.old;
-              told = N.taken notes.old;
-              told_failures = N.failures notes.old;
-              totals = self.old.totals;
-            })
-            (record {
-              made = F.made folder.new;
-              failures = F.failures folder.new;
-              told = N.taken notes.new;
-              told_failures = N.failures notes.new;
-              totals = self.new.totals;
-            }) result }
+        ensures { (made : FirstPaths) → IsOnWay mounted.now.state made self.old
+            → Steps mounted.now.state (keys_of way.now) owners made self.old self.new (
+              record {
+                made = F.made folder.old;
+                failures = F.failures folder.old;
+                told = N.taken notes.old;
+                told_failures = N.failures notes.old;
+                totals = self.old.totals;
+              },
+              record {
+                made = F.made folder.new;
+                failures = F.failures folder.new;
+                told = N.taken notes.new;
+                told_failures = N.failures notes.new;
+                totals = self.new.totals;
+              },
+            ) result }
     {
         let Some((name, ino)) = self.left.next() else {
             leave(
@@ -251,6 +259,7 @@ impl<'m, 'a> Walk<'m, 'a> {
             )?;
             return Ok(self.go_up());
         };
+        let _ = self.unread.next();
         if !is_in_part(way, self.ino, name) {
             return Ok(true);
         }
@@ -326,6 +335,7 @@ fn fill<F: Folder, N: Sink>(
         left: mounted.entries(ROOT),
         above: Vec::new(alloc),
         firsts,
+        unread: mounted.names(),
         totals: Totals::none(),
     };
     while walk.step(alloc, mounted, way, owners, folder, notes)? {}
@@ -428,8 +438,8 @@ fn fill_part<F: Folder, N: Sink>(
 /// bytes of a file are all zero, a hole is left. Owners are given only where `owners` asks for
 /// them, and without them no set-id bit of a mode. What the host refuses is left out, with all
 /// below it, and so are devices, FIFOs, sockets, names that lead nowhere, and names and targets
-/// that no host takes. Takes memory for the way to an object and for a path for each object, and
-/// for no file's bytes.
+/// that no host takes. Takes memory for the way to an object and for a path for each object that
+/// has several names, and for no file's bytes.
 ///
 /// # Errors
 /// `Folder`: the folder itself is refused, and nothing is done. `Notes`: the notes failed;

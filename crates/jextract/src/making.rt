@@ -1,13 +1,14 @@
 //! Making one object.
 
-ghost use Rattle.std.specs.Prelude.{◌≡◌, ◌==◌, ◌&&◌, not, [], ◌∷◌, Some, None, IfOk, MatchOption, false, true, length, map, option_map};
+ghost use Rattle.std.specs.Prelude.{◌≡◌, ◌==◌, ◌&&◌, not, [], ◌∷◌, Some, None, IfErr, IfOk, MatchOption, false, true, length, map, option_map, string_bytes};
 ghost use Rattle.std.specs.List.{list_all};
 ghost use Rattle.jmount.specs.Shown.{readable, shown};
 ghost use Rattle.jmount.specs.Tree as tree;
 ghost use Rattle.jextract.specs.Cells.{cells_of};
 ghost use Rattle.jextract.specs.Folders.{Content, File};
-ghost use Rattle.jextract.specs.Making.{Does, FirstsAfter, Follows, Works, firsts_of};
+ghost use Rattle.jextract.specs.Making.{Does, FirstsAfter, Follows, NotesFirst, Works, firsts_of};
 ghost use Rattle.jextract.specs.Outcomes.{Complete, Make, attributes_of, is_directory_kind, is_target, loses_bits, lost_completed, made_at, mode_given, plan_again, plan_anew, plan_completed, plan_symlink, reason_of};
+ghost use Rattle.jextract.specs.declared.making.MakeFault.TheVariants.{OutOfMemory};
 
 use crate::contents::put_contents;
 use crate::folder::{Attributes, Folder, FolderFault, Owner};
@@ -243,7 +244,27 @@ fn make_again<F: Folder>(
     Ok(())
 }
 
-/// Makes the object that a path leads to. Answers whether it lost a set-id bit.
+/// Notes where an object was made, if several names stand for it.
+fn note_first(
+    mounted: &Mounted<'_>,
+    ino: u32,
+    path: String,
+    firsts: &mut BTreeMap<u32, String>,
+) -> Result<(), MakeFault>
+    requires there { tree.is_there mounted.now.state ino ≡ true }
+    requires fresh { firsts_of firsts.old ino ≡ None }
+    ensures notes { NotesFirst mounted.now.state (firsts_of firsts.old) (firsts_of firsts.new)
+        (string_bytes path) ino result }
+    ensures fault { IfErr result (λ fault. fault ≡ OutOfMemory) }
+{
+    if mounted.has_several_names(ino) {
+        firsts.insert(ino, path)?;
+    }
+    Ok(())
+}
+
+/// Makes the object that a path leads to, and notes where, if it has further names. Answers whether
+/// it lost a set-id bit.
 pub(crate) fn make<F: Folder>(
     alloc: Global,
     mounted: &Mounted<'_>,
@@ -261,7 +282,7 @@ pub(crate) fn make<F: Folder>(
           before = F.failures folder.old;
           now = F.failures folder.new;
         }) result }
-    ensures firsts { FirstsAfter (firsts_of firsts.old) (firsts_of firsts.new)
+    ensures firsts { FirstsAfter mounted.now.state (firsts_of firsts.old) (firsts_of firsts.new)
         (map (λ name. name.now) names.now) ino result }
 {
     let path = host_path(alloc, names)?;
@@ -274,7 +295,7 @@ pub(crate) fn make<F: Folder>(
     }
     let attributes = attributes_of(&object, owners);
     make_anew(mounted, ino, &object, path.as_str(), attributes, folder)?;
-    firsts.insert(ino, path)?;
+    note_first(mounted, ino, path, firsts)?;
     Ok(loses_when_made(owners, &object))
 }
 

@@ -18,6 +18,7 @@ pub mod CollectedLemmas
 pub mod StoredLemmas
 pub mod StoringLemmas
 pub mod KeptLemmas
+pub mod SeveralLemmas
 pub mod PieceLemmas
 pub mod ReadLemmas
 pub mod TopLemmas

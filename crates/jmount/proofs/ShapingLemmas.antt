@@ -56,17 +56,17 @@ Gains old new k = (q : ℕ) → contains nat_cmp new q ≡ cond (eq_by_cmp nat_c
 abbrev pub Loses : BTreeSet ℕ → BTreeSet ℕ → ℕ → Type 0
 Loses old new k = (q : ℕ) → contains nat_cmp new q ≡ cond (eq_by_cmp nat_cmp k q) false (contains nat_cmp old q)
 
-gained : (old new : BTreeSet ℕ) (k q : ℕ) → Gains old new k → contains nat_cmp new q ≡ true → (k ≡ q) ⊎ (contains nat_cmp old q ≡ true)
+pub gained : (old new : BTreeSet ℕ) (k q : ℕ) → Gains old new k → contains nat_cmp new q ≡ true → (k ≡ q) ⊎ (contains nat_cmp old q ≡ true)
 gained old new k q u h = by_test (eq_by_cmp nat_cmp k q) (λ t. inl (same_number k q t)) (λ f. inr (sym (u q ∙ ap (λ (b : Bool). cond b true (contains nat_cmp old q)) f) ∙ h))
 
-gains_it : (old new : BTreeSet ℕ) (k : ℕ) → Gains old new k → contains nat_cmp new k ≡ true
+pub gains_it : (old new : BTreeSet ℕ) (k : ℕ) → Gains old new k → contains nat_cmp new k ≡ true
 gains_it old new k u = u k ∙ ap (λ (b : Bool). cond b true (contains nat_cmp old k)) (itself k)
 
 either_true : (b c : Bool) → c ≡ true → cond b true c ≡ true
 either_true true c h = refl
 either_true false c h = h
 
-gains_more : (old new : BTreeSet ℕ) (k q : ℕ) → Gains old new k → contains nat_cmp old q ≡ true → contains nat_cmp new q ≡ true
+pub gains_more : (old new : BTreeSet ℕ) (k q : ℕ) → Gains old new k → contains nat_cmp old q ≡ true → contains nat_cmp new q ≡ true
 gains_more old new k q u h = u q ∙ either_true (eq_by_cmp nat_cmp k q) (contains nat_cmp old q) h
 
 loses_it : (old new : BTreeSet ℕ) (k : ℕ) → Loses old new k → contains nat_cmp new k ≡ false
@@ -108,7 +108,7 @@ of_all s e there =
     subst (λ (e : Name). named s e.0 e.1 ≡ Some e.2) found.2 (named_by s found.0.0 found.0.1 found.1)
 
 -- no name comes twice
-not_again : (es : List (Key × ℕ)) → T (is_sorted key_cmp es) → (done rest : List Name) (e x : Name) → map flat es ≡ done ++ x ∷ rest → Contains done e → e.0 ≡ x.0 → e.1 ≡ x.1 → ⊥
+pub not_again : (es : List (Key × ℕ)) → T (is_sorted key_cmp es) → (done rest : List Name) (e x : Name) → map flat es ≡ done ++ x ∷ rest → Contains done e → e.0 ≡ x.0 → e.1 ≡ x.1 → ⊥
 not_again es sorted [] rest e x is there same_dir same_name = Contains-none e there
 not_again [] sorted (d ∷ done) rest e x is there same_dir same_name = nothing (done ++ x ∷ rest) is
   where
@@ -141,7 +141,7 @@ pub record AreNoted (s : State) (done rest : List Name) (noted : BTreeSet ℕ) :
   pub each : (e : Name) → Contains done e → IsBelow s e.2 → contains nat_cmp noted e.2 ≡ true
   pub single : (e f : Name) → Contains done e → Contains done f → e.2 ≡ f.2 → IsBelow s e.2 → (e.0 ≡ f.0) × (e.1 ≡ f.1)
 
-none_is : (set : BTreeSet ℕ) (i : ℕ) → set.keys ≡ [] → contains nat_cmp set i ≡ true → ⊥
+pub none_is : (set : BTreeSet ℕ) (i : ℕ) → set.keys ≡ [] → contains nat_cmp set i ≡ true → ⊥
 none_is set i empty h = Contains-none i (subst (λ (ks : List ℕ). Contains ks i) empty (in_keys set i h))
 
 pub none_noted : (s : State) (rest : List Name) (noted : BTreeSet ℕ) → rest ≡ all_entries s → noted.keys ≡ [] → AreNoted s [] rest noted
@@ -152,7 +152,7 @@ none_noted s rest noted is empty = record {
   single = λ e f there. absurd (Contains-none e there);
 }
 
-one_of : (done : List Name) (x e : Name) → Contains (done ++ x ∷ []) e → Contains done e ⊎ (x ≡ e)
+pub one_of : (done : List Name) (x e : Name) → Contains (done ++ x ∷ []) e → Contains done e ⊎ (x ≡ e)
 one_of done x e there = ⊎_elim (λ before. inl before) (λ last. ⊎_elim (λ is. inr is) (λ none. absurd (Contains-none e none)) (Contains-cases x [] e last)) (Contains-append_cases done (x ∷ []) e there)
 
 moved : (s : State) (done rest : List Name) (x : Name) → all_entries s ≡ done ++ x ∷ rest → all_entries s ≡ (done ++ x ∷ []) ++ rest

@@ -3,6 +3,11 @@ use Rattle.std.specs.Prelude.{◌≡◌, ◌≢◌, ℕ, true, List, [], Some, O
 use Rattle.jmount.specs.Tree.{Tree, named, is_directory}
 use Rattle.jmount.specs.Find.{walk}
 
+-- at most one name stands for a number, in whatever directory it is looked up
+abbrev pub HasOneName : {B : Type 0} → Tree B → ℕ → Type 0
+HasOneName t i = (a b : ℕ) (m n : List ℕ) → named t a m ≡ Some i → named t b n ≡ Some i
+    → (a ≡ b) × (m ≡ n)
+
 -- two names of one directory other than the root are one name, in whatever directory they are
 -- looked up
 abbrev pub IsSingle : {B : Type 0} → Tree B → Type 0

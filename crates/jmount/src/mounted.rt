@@ -1,13 +1,13 @@
 //! A mounted image.
 
-ghost use Rattle.std.specs.Prelude.{◌≡◌, ℕ, ◌-◌, ◌<◌, ◌≤◌, ◌++◌, Decides, IfOk, map, max, option_map, length, min, slice_index, take, drop};
+ghost use Rattle.std.specs.Prelude.{◌≡◌, ℕ, ◌-◌, ◌<◌, ◌≤◌, ◌++◌, true, not, Decides, IfOk, map, max, option_map, length, min, slice_index, take, drop};
 ghost use Rattle.flashbase.specs.Sinks.{PutsTo};
 ghost use Rattle.jmount.specs.Tree as tree;
 ghost use Rattle.jmount.specs.Find as walk;
-ghost use Rattle.jmount.specs.Shape.{HasShape};
+ghost use Rattle.jmount.specs.Shape.{HasOneName, HasShape};
 ghost use Rattle.jmount.specs.Shown.{shown, objects_in, readable, top_at};
 
-use crate::directories::directory_kept;
+use crate::directories::{NamedObjects, directory_kept};
 use crate::fault::FindFault;
 use crate::object::Object;
 use crate::path;
@@ -21,7 +21,7 @@ use flashbase::{DeviceFault, Sink};
 use jname::{All, Names, Of};
 use jscan::Finding;
 use std::alloc::{AllocError, Global};
-use std::collections::BTreeMap;
+use std::collections::{BTreeMap, BTreeSet};
 use std::marker::Model;
 
 /// The root's number.
@@ -32,6 +32,7 @@ pub const ROOT: u32 = 1;
 pub struct Mounted<'a> {
     image: &'a [u8],
     objects: BTreeMap<u32, Stored<'a>>,
+    several: BTreeSet<u32>,
     names: Names<'a>,
     next: u64,
     has_shape: bool,
@@ -57,7 +58,7 @@ impl<'a> Model for Mounted<'a> {
       read_only = m.read_only;
     } };
 
-    ghost invariant = { λ m. IsKept m.objects m.names m.next m.has_shape };
+    ghost invariant = { λ m. IsKept m.objects m.several m.names m.next m.has_shape };
 }
 
 impl<'a> Mounted<'a> {
@@ -65,33 +66,36 @@ impl<'a> Mounted<'a> {
     ghost use Rattle.std.specs.BTreeMap.{IsOrdered};
     ghost use Rattle.jname.specs.Live.{all_names};
     ghost use Rattle.jmount.specs.Stored.{stored_state, stored_tops};
-    ghost use Rattle.jmount.specs.Kept.{HasDirectories};
+    ghost use Rattle.jmount.specs.Kept.{HasDirectories, HasSeveralIn};
 
     /// A mounted image of its parts. What is found out of them takes memory for the directories,
     /// and gives it back.
     pub(crate) fn new(
         alloc: Global,
         image: &'a [u8],
-        objects: BTreeMap<u32, Stored<'a>>,
+        named: NamedObjects<'a>,
         names: Names<'a>,
         next: u64,
         findings: Vec<Finding>,
         read_only: bool,
     ) -> Result<Mounted<'a>, AllocError>
-        requires ordered { IsOrdered nat_cmp objects }
-        requires directories { HasDirectories objects (all_names names) }
+        requires ordered { IsOrdered nat_cmp named.objects }
+        requires directories { HasDirectories named.objects (all_names names) }
+        requires several { HasSeveralIn named.objects (all_names names) named.several }
         ensures { IfOk result (λ mounted. mounted ≡ record {
           image = image.now;
-          state = stored_state objects.entry names.entry next;
-          tops = stored_tops objects.entry names.entry;
+          state = stored_state named.entry.objects names.entry next;
+          tops = stored_tops named.entry.objects names.entry;
           findings = findings.items;
           read_only = read_only;
         }) }
     {
-        let has_shape = has_shape(alloc, &StoredTree::new(&objects, &names, next))?;
+        let NamedObjects { objects, several } = named;
+        let has_shape = has_shape(alloc, &StoredTree::new(&objects, &names, next), &several)?;
         Ok(Mounted {
             image,
             objects,
+            several,
             names,
             next,
             has_shape,
@@ -220,6 +224,15 @@ impl<'a> Mounted<'a> {
         ensures { result ≡ tree.first_directory self.now.state ino }
     {
         directory_kept(self.objects.get(&ino)?)
+    }
+
+    /// Whether several names stand for the number of an object that is there. It was found out at
+    /// the mount: takes O(log n) and no memory.
+    pub fn has_several_names(&self, ino: u32) -> bool
+        ensures { tree.is_there self.now.state ino ≡ true
+            → Decides (not result) (HasOneName self.now.state ino) }
+    {
+        self.several.contains(&ino)
     }
 
     /// All objects, the root among them, each with its number, in ascending order of number.

@@ -62,10 +62,9 @@ pub fn mount_scanned<'a>(
     if let Some(refusal) = refused {
         return Err(MountFault::from(refusal));
     }
-    let mut objects = inodes.into_objects()?;
-    keep_directories(&mut objects, &names);
+    let named = keep_directories(alloc, inodes.into_objects()?, &names)?;
     let next = u64::from(greatest) + 1;
-    let mounted = Mounted::new(alloc, image, objects, names, next, findings, read_only)?;
+    let mounted = Mounted::new(alloc, image, named, names, next, findings, read_only)?;
     if !mounted.is_directory(ROOT) {
         return Err(MountFault::RootKind);
     }

@@ -7,6 +7,7 @@ ghost use Rattle.std.specs.Prelude.{◌≡◌, ℕ, not, List, [], Decides, IfOk
 ghost use Rattle.std.specs.Ordering.{nat_cmp};
 ghost use Rattle.std.specs.BTreeSet.{contains};
 ghost use Rattle.jmount.specs.Shape.{IsSingle, HasShape};
+ghost use Rattle.jmount.specs.Kept.{HasSeveral};
 ghost use Rattle.jmount.specs.Shaping.{IsHeld, IsPeeledUpTo, is_root_held, others};
 
 use crate::mounted::ROOT;
@@ -14,11 +15,16 @@ use crate::stored_tree::StoredTree;
 use std::alloc::{AllocError, Global};
 use std::collections::BTreeSet;
 
-/// Whether a tree has it.
-pub fn has_shape(alloc: Global, tree: &StoredTree<'_, '_>) -> Result<bool, AllocError>
+/// Whether a tree has it, of which it is known which objects have several names.
+pub fn has_shape(
+    alloc: Global,
+    tree: &StoredTree<'_, '_>,
+    several: &BTreeSet<u32>,
+) -> Result<bool, AllocError>
+    requires { HasSeveral tree.now several.now }
     ensures { IfOk result (λ shape. Decides shape (HasShape tree.now)) }
 {
-    if has_second_name(alloc, tree)? {
+    if has_second_name(tree, several) {
         return Ok(false);
     }
     let mut left = held(alloc, tree)?;
@@ -33,16 +39,13 @@ pub fn has_shape(alloc: Global, tree: &StoredTree<'_, '_>) -> Result<bool, Alloc
 }
 
 /// Whether a directory other than the root has a second name, in whatever it is looked up.
-fn has_second_name(alloc: Global, tree: &StoredTree<'_, '_>) -> Result<bool, AllocError>
-    ensures { IfOk result (λ second. Decides (not second) (IsSingle tree.now)) }
+fn has_second_name(tree: &StoredTree<'_, '_>, several: &BTreeSet<u32>) -> bool
+    requires { HasSeveral tree.now several.now }
+    ensures { Decides (not result) (IsSingle tree.now) }
 {
-    let mut named = BTreeSet::new(alloc);
-    for (_, _, ino) in tree.names() {
-        if ino != ROOT && tree.is_directory(ino) && !named.insert(ino)? {
-            return Ok(true);
-        }
-    }
-    Ok(false)
+    several
+        .iter()
+        .any(|ino| *ino != ROOT && tree.is_directory(*ino))
 }
 
 /// The directories other than the root that have a name in a directory.

@@ -1,4 +1,4 @@
-//! The directories that first names are in.
+//! The directories that first names are in, and objects with several names.
 
 use crate::checks::equal_at;
 use crate::facts::{Fact, first_wrong};
@@ -33,6 +33,10 @@ fn of_tree() -> &'static [Fact] {
         Fact::FirstDirectory(6, Some(9)),
         Fact::FirstDirectory(9, Some(1)),
         Fact::FirstDirectory(u32::MAX, None),
+        Fact::SeveralNames(1, false),
+        Fact::SeveralNames(2, true),
+        Fact::SeveralNames(6, false),
+        Fact::SeveralNames(9, false),
     ]
 }
 
@@ -63,6 +67,37 @@ fn of_odd_tree() -> &'static [Fact] {
         Fact::FirstDirectory(6, Some(9)),
         Fact::FirstDirectory(9, None),
         Fact::FirstDirectory(57, None),
+        Fact::SeveralNames(1, true),
+        Fact::SeveralNames(2, false),
+        Fact::SeveralNames(6, true),
+        Fact::SeveralNames(9, false),
+    ]
+}
+
+/// Two names in one directory; names of which one was removed, or stands for another object since.
+fn twin_tree() -> &'static [Item] {
+    &[
+        FILE_TWO,
+        DIRECTORY_SIX,
+        DIRECTORY_NINE,
+        Item::Entry(1, 1, 2, b"a"),
+        Item::Entry(1, 2, 2, b"b"),
+        Item::Entry(1, 3, 6, b"c"),
+        Item::Entry(1, 4, 6, b"d"),
+        Item::Entry(1, 5, 0, b"c"),
+        Item::Entry(1, 6, 9, b"e"),
+        Item::Entry(1, 7, 9, b"f"),
+        Item::Entry(1, 8, 6, b"f"),
+    ]
+}
+
+fn of_twin_tree() -> &'static [Fact] {
+    &[
+        Fact::FirstDirectory(2, Some(1)),
+        Fact::SeveralNames(1, false),
+        Fact::SeveralNames(2, true),
+        Fact::SeveralNames(6, true),
+        Fact::SeveralNames(9, false),
     ]
 }
 
@@ -85,6 +120,7 @@ fn first_names_have_their_directories(rt: HostRuntime) -> Result<(), Fail> {
             odd_tree(),
             of_odd_tree(),
         ),
+        ("names beside each other", twin_tree(), of_twin_tree()),
     ] {
         let wrong = first_wrong::<LittleEndian>(rt.alloc(), items, facts)?;
         equal_at(&rt, wrong, None, about);

@@ -32,6 +32,8 @@ pub enum Fact {
     Dangling(&'static [Live]),
     /// The directory of the first name of a number.
     FirstDirectory(u32, Option<u32>),
+    /// Whether several names stand for a number whose object is there.
+    SeveralNames(u32, bool),
     /// What reading from an offset into a slice of so many bytes puts at its front.
     Bytes(u32, u64, usize, &'static [u8]),
     /// Where the zeros of an object end that no node has, from an offset on.
@@ -68,6 +70,7 @@ fn holds(alloc: Global, mounted: &Mounted<'_>, fact: Fact) -> bool {
         Fact::Names(wanted) => are_names(mounted, wanted),
         Fact::Dangling(wanted) => are_dangling(alloc, mounted, wanted),
         Fact::FirstDirectory(ino, wanted) => mounted.first_directory(ino) == wanted,
+        Fact::SeveralNames(ino, wanted) => mounted.has_several_names(ino) == wanted,
         Fact::Bytes(ino, offset, room, wanted) => reads(mounted, ino, offset, room, wanted),
         Fact::HoleEnd(ino, offset, wanted) => mounted.hole_end(ino, offset) == wanted,
         Fact::Top(ino, wanted) => mounted.top(ino) == wanted,

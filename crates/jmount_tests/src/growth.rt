@@ -34,6 +34,7 @@ fn is_shown(alloc: Global, mounted: &Mounted<'_>) -> bool {
         && mounted.read_at(3, 0, &mut bytes) == 6
         && bytes == *b"aBCd\0e\0\0"
         && mounted.first_directory(3) == Some(2)
+        && mounted.has_several_names(3)
         && mounted.next() == 59
         && mounted.findings().len() == 1
         && dangling.is_ok_and(|names| names.len() == 2)

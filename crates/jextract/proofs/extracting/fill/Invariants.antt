@@ -10,4 +10,4 @@ invariant-loop-walk g l =
     (record { made = g.F.Folder.made l.folder; failures = g.F.Folder.failures l.folder; told = g.N.Sink.taken l.notes; told_failures = g.N.Sink.failures l.notes; totals = l.walk.totals })
 
 abbrev pub decreases-loop-walk : goal.decreases-loop-walk
-decreases-loop-walk g l = extraction_steps_left l.mounted.state l.walk
+decreases-loop-walk g l = extraction_steps_left l.walk

@@ -1,9 +1,10 @@
-use Rattle.std.proofs.Common.{Bool, false, map, ap, ◌∙◌, sym, subst, Ok, Err, Some}
-use Rattle.std.specs.Prelude.{string_bytes}
+use Rattle.std.proofs.Common.{◌≡◌, Bool, false, map, ap, ◌∙◌, sym, subst, Ok, Err, Some}
+use Rattle.std.specs.Prelude.{string_bytes, IsErrAnd}
 use Rattle.jmount.specs.Shown.{readable}
 use Rattle.jextract.specs.Making.{Follows, firsts_of}
 use Rattle.jextract.specs.Outcomes.{Make, Plan, plan_anew}
-use Rattle.jextract.proofs.MakingLemmas.{works_without_path, works_as_planned, works_at_fault, works_then_fails, works_without_object, lost_again, lost_anew, planned_again, planned_anew, first_added, first_known, first_unknown, firsts_kept}
+use Rattle.jextract.specs.declared.making.MakeFault.{MakeFault}
+use Rattle.jextract.proofs.MakingLemmas.{works_without_path, works_as_planned, works_at_fault, works_then_fails, works_without_object, lost_again, lost_anew, planned_again, planned_anew, first_noted, first_known, first_unknown, firsts_kept}
 use Rattle.jextract.proofs.making.make.Goals as goal
 
 pub returns-in_err-path-clause-works : goal.returns-in_err-path-clause-works
@@ -62,8 +63,8 @@ returns-in_err-make_anew-clause-works g c =
     (Err fault) (c.in_ok-path.ensures ∙ ap Ok (sym c.as_str-2.ensures.value))
     (subst (λ (p : Plan). Follows {T = Unit {0}} (record { old = g.F.Folder.made c.args.folder.now; new = g.F.Folder.made c.make_anew.new.folder; before = g.F.Folder.failures c.args.folder.now; now = g.F.Folder.failures c.make_anew.new.folder }) c.as_str-2.result.now p (Err fault)) (sym plan) c.in_err-make_anew.ensures) (tt {0}))
 
-pub returns-in_err-insert-clause-works : goal.returns-in_err-insert-clause-works
-returns-in_err-insert-clause-works g c =
+pub returns-in_err-note_first-clause-works : goal.returns-in_err-note_first-clause-works
+returns-in_err-note_first-clause-works g c =
     let s = c.args.mounted.now.state in
     let path = map (λ name. name.now) c.args.names.now in
     let firsts = firsts_of c.args.firsts.now in
@@ -72,9 +73,9 @@ returns-in_err-insert-clause-works g c =
     ∙ ap (plan_anew c.in-Some.object.kind (readable s c.args.ino)) (sym c.attributes_of-attributes.ensures) in
     works_then_fails s c.args.owners firsts (Make path c.args.ino) c.as_str-2.result.now
     (record { old = g.F.Folder.made c.args.folder.now; new = g.F.Folder.made c.make_anew.new.folder; before = g.F.Folder.failures c.args.folder.now; now = g.F.Folder.failures c.make_anew.new.folder })
-    c.from_residual-in_err-insert.result (Unit {0}) (tt {0}) (c.in_ok-path.ensures ∙ ap Ok (sym c.as_str-2.ensures.value))
+    c.from_residual-in_err-note_first.result (Unit {0}) (tt {0}) (c.in_ok-path.ensures ∙ ap Ok (sym c.as_str-2.ensures.value))
     (subst (λ (p : Plan). Follows {T = Unit {0}} (record { old = g.F.Folder.made c.args.folder.now; new = g.F.Folder.made c.make_anew.new.folder; before = g.F.Folder.failures c.args.folder.now; now = g.F.Folder.failures c.make_anew.new.folder }) c.as_str-2.result.now p (Ok (tt {0}))) (sym plan) c.in_ok-make_anew.ensures)
-    c.from_residual-in_err-insert.ensures.1
+    (subst (λ (f : MakeFault). IsErrAnd c.from_residual-in_err-note_first.result (λ e. e ≡ f)) c.in_err-note_first.ensures.fault c.from_residual-in_err-note_first.ensures.1)
 
 pub returns-clause-works : goal.returns-clause-works
 returns-clause-works g c =
@@ -93,10 +94,10 @@ returns-clause-works g c =
 
 pub returns-clause-firsts : goal.returns-clause-firsts
 returns-clause-firsts g c =
-    first_added c.args.firsts.now c.insert.new.self c.args.ino c.in_ok-path.path (map (λ name. name.now) c.args.names.now) c.in_ok-path.ensures
-    (first_unknown c.args.firsts.now c.args.ino c.get.result c.get.ensures.value c.in_default-get.is) c.in_ok-insert.ensures.updates.0
+    first_noted {T = Bool} c.args.mounted.now.state (firsts_of c.args.firsts.now) (firsts_of c.note_first.new.firsts) (map (λ name. name.now) c.args.names.now) (string_bytes c.in_ok-path.path) c.args.ino
+    c.loses_when_made.result c.in_ok-path.ensures c.in_ok-note_first.ensures.notes
 
 pub returns-in-Some-get-clause-firsts : goal.returns-in-Some-get-clause-firsts
 returns-in-Some-get-clause-firsts g c =
     let known = first_known c.args.firsts.now c.args.ino c.get.result c.in-Some-get.first c.get.ensures.value c.in-Some-get.is in
-    firsts_kept {T = Bool} (firsts_of c.args.firsts.now) (map (λ name. name.now) c.args.names.now) (string_bytes c.in_ok-path.path) (string_bytes c.in-Some-get.first.now) c.args.ino (Ok false) c.in_ok-path.ensures known
+    firsts_kept {T = Bool} c.args.mounted.now.state (firsts_of c.args.firsts.now) (map (λ name. name.now) c.args.names.now) (string_bytes c.in_ok-path.path) (string_bytes c.in-Some-get.first.now) c.args.ino (Ok false) c.in_ok-path.ensures known

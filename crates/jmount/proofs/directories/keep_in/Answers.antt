@@ -19,8 +19,8 @@ returns-in-Some-clause-directories c =
     let replaced : Updates nat_cmp c.args.objects.now (c.get_mut.follows.lender c.keep.new.stored) c.args.ino (Some c.keep.new.stored) = (c.get_mut.follows.holds c.keep.new.stored).3 there in
     keeps_with c.args.objects.now (c.get_mut.follows.lender c.keep.new.stored) c.args.ino c.args.dir c.in-Some.stored.now c.keep.new.stored was replaced c.keep.ensures.directory
 
-pub returns-in_default-clause-directories : goal.returns-in_default-clause-directories
-returns-in_default-clause-directories c =
+pub returns-in-None-clause-directories : goal.returns-in-None-clause-directories
+returns-in-None-clause-directories c =
     let unchanged : c.get_mut.follows.lender-at-none ≡ c.args.objects.now = search rules in
     let none : get nat_cmp c.args.objects.now c.args.ino ≡ None = search rules in
     keeps_without c.args.objects.now c.get_mut.follows.lender-at-none c.args.ino c.args.dir none unchanged

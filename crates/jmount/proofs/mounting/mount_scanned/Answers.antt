@@ -37,29 +37,29 @@ keep_directories-requires-clause-parents c =
 
 pub returns-then-not-is_directory : goal.returns-then-not-is_directory
 returns-then-not-is_directory c = λ e size scan.
-    let keeps : Keeps e size c.args.image.now c.in_ok-names.field-0.names c.in_ok-names.field-0.inodes c.keep_directories.new.objects (c.from-next.result + 1) = record {
+    let keeps : Keeps e size c.args.image.now c.in_ok-names.field-0.names c.in_ok-names.field-0.inodes c.in_ok-named.named.objects (c.from-next.result + 1) = record {
       scannable = scan.scannable;
       none = sym scan.refused ∙ c.in_default.is;
       collected = subst (λ (ns : List (ℕ × NodeRef)). Collected c.in_ok-names.field-0.names c.in_ok-names.field-0.inodes ns) scan.nodes c.in_ok-names.ensures.ok;
-      ordered = c.keep_directories.ensures.ordered;
-      each = λ i. c.keep_directories.ensures.same i ∙ c.in_ok-objects.ensures.each i;
+      ordered = c.in_ok-named.ensures.ordered;
+      each = λ i. c.in_ok-named.ensures.same i ∙ c.in_ok-into_objects.ensures.each i;
       number = ap (λ (n : ℕ). n + 1) (c.from-next.ensures ∙ c.in_ok-names.ensures.greatest ∙ ap (λ (ns : List (ℕ × NodeRef)). greatest_number (without_addresses ns)) scan.nodes);
     } in
-    not_a_directory e size c.args.image.now c.in_ok-names.field-0.names c.in_ok-names.field-0.inodes c.keep_directories.new.objects (c.from-next.result + 1) keeps
+    not_a_directory e size c.args.image.now c.in_ok-names.field-0.names c.in_ok-names.field-0.inodes c.in_ok-named.named.objects (c.from-next.result + 1) keeps
     c.in_ok-mounted.mounted c.args.partial.findings.items c.args.partial.read_only c.is_directory.result c.in_ok-mounted.ensures c.is_directory.ensures c.if-not-is_directory.true
 
 pub returns : goal.returns
 returns c = λ e size scan.
     let none : first_refused e size c.args.image.now ≡ None = sym scan.refused ∙ c.in_default.is in
-    let keeps : Keeps e size c.args.image.now c.in_ok-names.field-0.names c.in_ok-names.field-0.inodes c.keep_directories.new.objects (c.from-next.result + 1) = record {
+    let keeps : Keeps e size c.args.image.now c.in_ok-names.field-0.names c.in_ok-names.field-0.inodes c.in_ok-named.named.objects (c.from-next.result + 1) = record {
       scannable = scan.scannable;
       none = none;
       collected = subst (λ (ns : List (ℕ × NodeRef)). Collected c.in_ok-names.field-0.names c.in_ok-names.field-0.inodes ns) scan.nodes c.in_ok-names.ensures.ok;
-      ordered = c.keep_directories.ensures.ordered;
-      each = λ i. c.keep_directories.ensures.same i ∙ c.in_ok-objects.ensures.each i;
+      ordered = c.in_ok-named.ensures.ordered;
+      each = λ i. c.in_ok-named.ensures.same i ∙ c.in_ok-into_objects.ensures.each i;
       number = ap (λ (n : ℕ). n + 1) (c.from-next.ensures ∙ c.in_ok-names.ensures.greatest ∙ ap (λ (ns : List (ℕ × NodeRef)). greatest_number (without_addresses ns)) scan.nodes);
     } in
     let found : c.args.partial.findings.items ≡ findings e size c.args.image.now = scan.findings c.in_default.is in
     let forbids : c.args.partial.read_only ≡ is_read_only e size c.args.image.now = scan.read_only c.in_default.is in
-    mounted e size c.args.image.now c.in_ok-names.field-0.names c.in_ok-names.field-0.inodes c.keep_directories.new.objects (c.from-next.result + 1) keeps
+    mounted e size c.args.image.now c.in_ok-names.field-0.names c.in_ok-names.field-0.inodes c.in_ok-named.named.objects (c.from-next.result + 1) keeps
     c.in_ok-mounted.mounted c.args.partial.findings.items c.args.partial.read_only c.is_directory.result c.in_ok-mounted.ensures found forbids c.is_directory.ensures c.if-not-is_directory.false
