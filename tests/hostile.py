@@ -87,6 +87,7 @@ MEMORY = (
     ["check", "--scan", "--block", "4194304", "many.img"],
     ["check", "many.img"],
     ["ls", "many.img"],
+    ["damage", "broken.img"],
     ["cat", "large.img", "/large"],
     ["build", "--blocks", "200", "many.txt", "out.img"],
     ["build", "--blocks", "200", "creates.txt", "out.img"],
@@ -150,6 +151,7 @@ def in_little_memory():
     """Each command at ten sizes of memory, from where the program begins at all to where the command ends well."""
     write("many.img", images.names(20000))
     write("large.img", images.large(256))
+    write("broken.img", images.deep_damage(20, 2000)[0])
     write("many.txt", LISTING)
     write("data", bytes(20000))
     write("creates.txt", "".join(f"create 0644 /f{k:05}\n" for k in range(20000)))
@@ -162,13 +164,14 @@ def in_little_memory():
     begins = least(lambda size: run(["--version"], size).status in (0, 1), 1 << 20, 1 << 26, 4096)
     for words in MEMORY:
         right, wanted = tried(words)
-        verdict(f"{words} with memory", right.status == 0, right)
-        enough = least(lambda size, words=words: tried(words, size)[0].status == 0, begins, 1 << 30, 4096)
+        status = 3 if words[0] == "damage" else 0
+        verdict(f"{words} with memory", right.status == status, right)
+        enough = least(lambda size, words=words, status=status: tried(words, size)[0].status == status, begins, 1 << 30, 4096)
         refused = 0
         for k in range(SIZES):
             size = begins + (enough - begins) * k // (SIZES - 1)
             done, made = tried(words, size)
-            refused += done.status != 0
+            refused += done.status != status
             is_right = (done, made) == (right, wanted) or gives_up(done, made, right, wanted)
             verdict(f"{words} in {size} bytes of memory", is_right, done)
         verdict(f"{words} needs memory", refused > 0)
@@ -185,6 +188,7 @@ def with_refused_growths():
     shim = os.path.abspath("refuse.so")
     subprocess.run(["cc", "-O1", "-shared", "-fPIC", "-fno-builtin", "-o", shim, f"{ROOT}/tests/refuse.c", "-ldl"], check=True)
     write("small.img", images.sample())
+    write("broken.img", images.deep_damage(5, 5)[0])
     write("packed.img", packed.sample())
     write("small.txt", "mkdir 0755 /d\ncreate 0644 /d/f\npart /d/f 0 data\nsymlink /s a\\x20b\nrename /d /e\n")
     write("data", b"data")
@@ -193,6 +197,7 @@ def with_refused_growths():
         ["check", "--scan", "small.img"],
         ["check", "small.img"],
         ["ls", "small.img"],
+        ["damage", "broken.img"],
         ["cat", "small.img", "/a"],
         ["build", "--blocks", "2", "small.txt", "out.img"],
         ["append", "--blocks", "2", "small.img", "small.txt", "out.img"],
@@ -756,6 +761,15 @@ def converted_goes_on(about, words, listed, converted):
     verdict(f"append --decompress to {about}", is_right and done == wanted, done)
 
 
+def of_what_lies_deep():
+    """The lines of 400 damaged nodes of a file below 400 directories, 40 MB in all, from an image of 170 KB in 16 MiB."""
+    image, lines = images.deep_damage(400, 400)
+    write("deep.img", image)
+    done = run(["damage", "deep.img"], 1 << 24)
+    is_right = done == Done(3, b"".join(lines), b"")
+    verdict("damage of what lies deep in 16 MiB", is_right, done._replace(out=done.out[:200]))
+
+
 def from_the_longest_file():
     """A file of 4 GiB comes out whole in little memory, and `cat` ends where its reader does; it is cut only to a size that is
     written."""
@@ -791,6 +805,7 @@ GROUPS = (
     in_every_order,
     on_rows,
     on_compressed,
+    of_what_lies_deep,
     from_the_longest_file,
 )
 

@@ -67,6 +67,31 @@ def depths(count):
     return laid(node for k in range(count) for node in (entry(k + 1, 1, k + 2, b"d"), inode(k + 2, 1, 0, 0, b"", DIRECTORY)))
 
 
+def deep_damage(depth, count):
+    """A file below so many directories with long names, of whose nodes all but the first have damaged data; and the lines of
+    those."""
+    nodes, path = [], b""
+    for k in range(depth):
+        name = b"%06d" % k + b"d" * 244
+        path += b"/" + name
+        nodes += [entry(k + 1, 1, k + 2, name), inode(k + 2, 1, 0, 0, b"", DIRECTORY)]
+    file = depth + 2
+    nodes += [entry(depth + 1, 2, file, b"f"), inode(file, 1, 0, 4, b"data")]
+    for k in range(count):
+        node = bytearray(inode(file, k + 2, 0, 4, b"%04x" % k))
+        node[68] ^= 1
+        nodes.append(bytes(node))
+    image = laid(nodes)
+    at, lines = image.index(nodes[-count]), []
+    for k in range(count):
+        if BLOCK - at % BLOCK < 72:
+            at += BLOCK - at % BLOCK
+        lines.append(b"%08x data-crc ino %d version %d bytes 0 to 4 hides %s/f\n" % (at, file, k + 2, path))
+        at += 72
+    lines.append(b"total damaged %d paths %d missing 0\n" % (count, count))
+    return image, lines
+
+
 def loops(count):
     """Directories that each hold the root, themselves and the next one."""
     for k in range(count):

@@ -12,3 +12,4 @@ pub mod WithoutLemmas
 pub mod StateWithoutLemmas
 pub mod ImageWithoutLemmas
 pub mod WouldChangeLemmas
+pub mod RoomLemmas

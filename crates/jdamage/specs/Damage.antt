@@ -3,6 +3,7 @@ use Rattle.std.specs.Prelude.{◌≡◌, ℕ, ◌-◌, ◌^◌, Bool, List, [], 
 use Rattle.std.specs.List.{flat_map}
 use Rattle.std.specs.Io.KnownBytes.{Appends}
 use Rattle.flashbase.specs.Device.{PutsPart, next_count}
+use Rattle.flashbase.specs.declared.source.DeviceFault.{DeviceFault}
 use Rattle.jnode.specs.declared.order.Endian.{Endian}
 use Rattle.jnode.specs.declared.node.Damage.{Damage}
 use Rattle.jnode.specs.declared.node.Damage.TheVariants.{NodeCrc, NameCrc, DataCrc, Length, Range}
@@ -92,6 +93,11 @@ unfoldable pub damage_text : Endian → ℕ → Mount → List ℕ
 damage_text e size m = text_by e m (stretches e size m.image) (damaged_nodes e size m.image)
 
 -- ---- what a call puts
+
+-- what is told, or that the sink failed
+abbrev pub damage_told : Result Totals DeviceFault → Result Totals DamageFault
+damage_told (Ok totals) = Ok totals
+damage_told (Err fault) = Err Output
 
 -- The text; the answer are the totals. Where the sink fails, a beginning of it went out, and where
 -- memory runs out, nothing.

@@ -4,6 +4,7 @@ pub mod Fields
 pub mod Groups
 pub mod Laws
 pub mod Lines
+pub mod Room
 pub mod Telling
 pub mod Ways
 pub mod Hidden

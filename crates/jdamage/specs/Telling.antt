@@ -1,5 +1,6 @@
 -- What a call adds to the text.
-use Rattle.std.specs.Prelude.{◌≡◌, ℕ, ◌-◌, ◌^◌, Bool, List, [], ◌++◌, length, min, All, Option, Some, None, is_some, true, if◌then◌else◌}
+use Rattle.std.specs.Prelude.{◌≡◌, ℕ, ◌-◌, ◌^◌, Bool, List, [], ◌++◌, length, min, sum_by, All, Option, Some, None, is_some, true, if◌then◌else◌}
+use Rattle.std.specs.List.{flat_map}
 use Rattle.std.specs.BTreeSet.{BTreeSet, contains}
 use Rattle.std.specs.Ordering.{nat_cmp}
 use Rattle.jnode.specs.declared.order.Endian.{Endian}
@@ -7,26 +8,28 @@ use Rattle.jnode.specs.declared.node.Damage.{Damage}
 use Rattle.jnode.specs.declared.node.Damage.TheVariants.{NodeCrc, NameCrc, DataCrc, Length, Range}
 use Rattle.jmount.specs.Mount.{Mount}
 use Rattle.jmount.specs.Tree.{State}
-use Rattle.jdamage.specs.Damage.{hurt_text, node_text}
+use Rattle.jdamage.specs.Damage.{hurt_text, missing_text, node_text}
 use Rattle.jdamage.specs.Fields.{stretch_at}
-use Rattle.jdamage.specs.Lines.{hides_line, nothing_line}
-use Rattle.jdamage.specs.Ways.{paths_to}
+use Rattle.jdamage.specs.Lines.{hides_line, nothing_line, totals_shown}
+use Rattle.jdamage.specs.Ways.{HeldName, name_held, path_to_name, paths_to}
 use Rattle.jdamage.specs.declared.fields.Stretch.{Stretch}
+use Rattle.jdamage.specs.declared.totals.Totals.{Totals}
 
 -- the line of a path, if there is one
 abbrev pub path_text_if : ℕ → Stretch → Option (List (List ℕ)) → List ℕ
 path_text_if addr lost None = []
 path_text_if addr lost (Some path) = hides_line addr lost path
 
-pub record PushesPath (addr : ℕ) (lost : Stretch) (path : Option (List (List ℕ)))
-    (old new : List ℕ) (told : Bool) : Type 0 where
-  pub text : new ≡ old ++ path_text_if addr lost path
-  pub is_told : told ≡ is_some path
+-- the line of a name, where a path leads to it
+abbrev pub named_text : State → ℕ → Stretch → HeldName → List ℕ
+named_text s addr lost n = path_text_if addr lost (path_to_name s (name_held n))
 
-pub record PushesHurt (addr : ℕ) (lost : Stretch) (paths : List (List (List ℕ)))
-    (old new : List ℕ) (count : ℕ) : Type 0 where
-  pub text : new ≡ old ++ hurt_text addr lost paths
-  pub counted : count ≡ min (length paths) (2 ^ 64 - 1)
+-- whether a path leads to it, and how many that are
+abbrev pub leads : State → HeldName → Bool
+leads s n = is_some (path_to_name s (name_held n))
+
+abbrev pub paths_of_name : State → HeldName → ℕ
+paths_of_name s n = if leads s n then 1 else 0
 
 -- a version of an object whose number is among some
 abbrev pub is_kept : BTreeSet ℕ → Stretch → Bool
@@ -61,3 +64,19 @@ abbrev pub own_paths : Endian → Mount → BTreeSet ℕ → ℕ × Damage → �
 own_paths e m hidden (addr, DataCrc) =
     length (lost_paths m.state (contains nat_cmp hidden addr) (stretch_at e m.image addr))
 own_paths e m hidden (addr, _) = 0
+
+-- ---- all of it
+
+abbrev pub missing_texts : State → List HeldName → List ℕ
+missing_texts s missing = flat_map (λ n. missing_text s (name_held n)) missing
+
+abbrev pub own_totals : Endian → Mount → BTreeSet ℕ → List (ℕ × Damage) → List HeldName → Totals
+own_totals e m hidden damaged missing = record {
+  damaged = length damaged;
+  paths = min (sum_by (own_paths e m hidden) damaged) (2 ^ 64 - 1);
+  missing = length missing;
+}
+
+abbrev pub own_whole : Endian → Mount → BTreeSet ℕ → List (ℕ × Damage) → List HeldName → List ℕ
+own_whole e m hidden damaged missing = flat_map (own_text e m hidden) damaged
+    ++ (missing_texts m.state missing ++ totals_shown (own_totals e m hidden damaged missing))

@@ -38,6 +38,15 @@ names_for s i = filter (λ n. n.2 == i) (all_entries s)
 abbrev pub path_below : State → ℕ → List (List ℕ) → Option (List (List ℕ))
 path_below s dir names = climbed s (steps_at_most s) dir names
 
+-- how many names a path has, 0 where there is none
+abbrev pub path_length : Option (List (List ℕ)) → ℕ
+path_length None = 0
+path_length (Some path) = length path
+
+-- how many names the path of a directory has
+abbrev pub depth : State → ℕ → ℕ
+depth s dir = path_length (path_below s dir [])
+
 -- the path of a name
 abbrev pub path_to_name : State → NameOf → Option (List (List ℕ))
 path_to_name s n = path_below s n.0 (n.1 ∷ [])

@@ -1,29 +1,30 @@
 //! What the damage of a mounted image costs.
 
-ghost use Rattle.std.specs.Prelude.{◌≡◌, ◌++◌, ◌-◌, ◌^◌, ◌≤◌, ◌<◌, ℕ, true, IfOk, OnOk, length, map, min, sum_by};
+ghost use Rattle.std.specs.Prelude.{◌≡◌, ◌-◌, ◌^◌, ◌≤◌, ℕ, true, All, IfOk, OnOk, length, min, sum_by, vec_capacity};
 ghost use Rattle.std.specs.BTreeSet.{contains};
 ghost use Rattle.std.specs.List.{flat_map};
 ghost use Rattle.std.specs.Ordering.{nat_cmp};
+ghost use Rattle.flashbase.specs.Sinks.{PutsTo};
 ghost use Rattle.jnode.specs.declared.node.Damage.TheVariants.{DataCrc};
 ghost use Rattle.jscan.specs.Image.{greatest_image};
 ghost use Rattle.jscan.specs.Scans.{IsScannable};
-ghost use Rattle.jdamage.specs.Damage.{PutsDamage, damage_text, damage_totals, missing_text};
+ghost use Rattle.jdamage.specs.Damage.{PutsDamage, damage_told};
 ghost use Rattle.jdamage.specs.Fields.{stretch_at};
 ghost use Rattle.jdamage.specs.Lines.{no_damage, totals_shown};
-ghost use Rattle.jdamage.specs.Telling.{HaveNumbers, own_paths, own_text};
+ghost use Rattle.jdamage.specs.Room.{HeldPathsFit, NodePathsFit};
+ghost use Rattle.jdamage.specs.Telling.{HaveNumbers, missing_texts, own_paths, own_text, own_totals, own_whole};
 
 use crate::fault::DamageFault;
 use crate::fields::{loss_at, stretch_at};
 use crate::firsts::Name;
 use crate::hidden::hidden_of;
-use crate::lines::push_totals;
+use crate::lines::put_totals;
 use crate::nodes::{damaged_nodes, stretches_of};
-use crate::telling::{push_missing_name, push_node};
-use crate::text::Text;
+use crate::room::{deepest, deepest_of_all};
+use crate::telling::{put_missing_name, put_node};
 use crate::totals::Totals;
 use crate::ways::Ways;
-use flashbase::Sink;
-use jline::put_text;
+use flashbase::{DeviceFault, Sink};
 use jmount::Mounted;
 use jnode::{Damage, Order};
 use jscan::Geometry;
@@ -95,50 +96,105 @@ fn dirs_of<E: Order>(
 
 /// Tells of damaged nodes, where these addresses are of those that hide nothing. Answers how many
 /// paths they hide.
-fn push_nodes<E: Order>(
-    alloc: Global,
-    ways: &Ways<'_, '_>,
+fn put_nodes<'m, E: Order, T: Sink>(
+    ways: &Ways<'m, '_>,
     hidden: &BTreeSet<u32>,
     damaged: &[(u32, Damage)],
-    text: &mut Text,
-) -> Result<u64, AllocError>
+    path: &mut Vec<&'m [u8]>,
+    sink: &mut T,
+) -> Result<u64, DeviceFault>
     requires image { length ways.now.mounted.now.image ≤ greatest_image }
     requires numbers { HaveNumbers E.order ways.now.mounted.now.image ways.now.numbers.now
         damaged.now }
-    ensures text { OnOk result (text.new ≡ text.old
-        ++ flat_map (own_text E.order ways.now.mounted.now hidden.now) damaged.now) }
+    requires room { All (NodePathsFit E.order ways.now.mounted.now hidden.now
+        (vec_capacity path.old)) damaged.now }
+    ensures puts { PutsTo T.Sink sink.old sink.new
+        (flat_map (own_text E.order ways.now.mounted.now hidden.now) damaged.now) result }
     ensures count { IfOk result (λ count. count
         ≡ min (sum_by (own_paths E.order ways.now.mounted.now hidden.now) damaged.now)
         (2 ^ 64 - 1)) }
+    ensures capacity { vec_capacity path.old ≤ vec_capacity path.new }
 {
     let mut count = 0u64;
     for (addr, which) in damaged {
-        let more = push_node::<E>(alloc, ways, hidden, *addr, *which, text)?;
+        let more = put_node::<E, T>(ways, hidden, *addr, *which, path, sink)?;
         count = count.saturating_add(more);
     }
     Ok(count)
 }
 
 /// Tells of names whose objects are missing.
-fn push_all_missing<'m>(
-    alloc: Global,
+fn put_all_missing<'m, T: Sink>(
     ways: &Ways<'m, '_>,
     missing: &[Name<'m>],
-    text: &mut Text,
-) -> Result<(), AllocError>
-    ensures { OnOk result (text.new ≡ text.old
-        ++ flat_map (λ n. missing_text ways.now.mounted.now.state (n.0, n.1.now, n.2))
-        missing.now) }
+    path: &mut Vec<&'m [u8]>,
+    sink: &mut T,
+) -> Result<(), DeviceFault>
+    requires { HeldPathsFit ways.now.mounted.now.state (vec_capacity path.old) missing.now }
+    ensures puts { PutsTo T.Sink sink.old sink.new
+        (missing_texts ways.now.mounted.now.state missing.now) result }
 {
-    for (pino, name, ino) in missing {
-        push_missing_name(alloc, ways, *pino, name, *ino, text)?;
+    for name in missing {
+        put_missing_name(ways, *name, path, sink)?;
     }
     Ok(())
 }
 
+/// Tells all, where these addresses are of those that hide nothing.
+fn put_lines<'m, E: Order, T: Sink>(
+    ways: &Ways<'m, '_>,
+    hidden: &BTreeSet<u32>,
+    damaged: &[(u32, Damage)],
+    missing: &[Name<'m>],
+    path: &mut Vec<&'m [u8]>,
+    sink: &mut T,
+) -> Result<Totals, DeviceFault>
+    requires image { length ways.now.mounted.now.image ≤ greatest_image }
+    requires numbers { HaveNumbers E.order ways.now.mounted.now.image ways.now.numbers.now
+        damaged.now }
+    requires room { All (NodePathsFit E.order ways.now.mounted.now hidden.now
+        (vec_capacity path.old)) damaged.now }
+    requires names { HeldPathsFit ways.now.mounted.now.state (vec_capacity path.old) missing.now }
+    ensures puts { PutsTo T.Sink sink.old sink.new
+        (own_whole E.order ways.now.mounted.now hidden.now damaged.now missing.now) result }
+    ensures totals { IfOk result (λ totals. totals
+        ≡ own_totals E.order ways.now.mounted.now hidden.now damaged.now missing.now) }
+{
+    let paths = put_nodes::<E, T>(ways, hidden, damaged, path, sink)?;
+    put_all_missing(ways, missing, path, sink)?;
+    let totals = Totals {
+        damaged: damaged.len(),
+        paths,
+        missing: missing.len(),
+    };
+    put_totals(&totals, sink)?;
+    Ok(totals)
+}
+
+/// Room for the longest path that is told.
+fn room_for<'m, E: Order>(
+    alloc: Global,
+    ways: &Ways<'m, '_>,
+    hidden: &BTreeSet<u32>,
+    damaged: &[(u32, Damage)],
+    missing: &[Name<'m>],
+) -> Result<Vec<&'m [u8]>, AllocError>
+    requires image { length ways.now.mounted.now.image ≤ greatest_image }
+    requires numbers { HaveNumbers E.order ways.now.mounted.now.image ways.now.numbers.now
+        damaged.now }
+    ensures room { IfOk result (λ path. All (NodePathsFit E.order ways.now.mounted.now hidden.now
+        (vec_capacity path)) damaged.now) }
+    ensures names { IfOk result (λ path.
+        HeldPathsFit ways.now.mounted.now.state (vec_capacity path) missing.now) }
+{
+    let nodes = deepest_of_all::<E>(ways, hidden, damaged);
+    let names = deepest(ways, missing);
+    Vec::with_capacity(alloc, nodes.max(names) as usize + 1)
+}
+
 /// Tells that there is no damage.
-fn push_none(text: &mut Text) -> Result<Totals, AllocError>
-    ensures text { OnOk result (text.new ≡ text.old ++ totals_shown no_damage) }
+fn put_none<T: Sink>(sink: &mut T) -> Result<Totals, DeviceFault>
+    ensures puts { PutsTo T.Sink sink.old sink.new (totals_shown no_damage) result }
     ensures totals { IfOk result (λ totals. totals ≡ no_damage) }
 {
     let totals = Totals {
@@ -146,52 +202,27 @@ fn push_none(text: &mut Text) -> Result<Totals, AllocError>
         paths: 0,
         missing: 0,
     };
-    push_totals(text, &totals)?;
+    put_totals(&totals, sink)?;
     Ok(totals)
 }
 
-/// Tells all. Where nothing is damaged and no name lacks its object, it takes memory for one line.
-fn push_all<E: Order>(
-    alloc: Global,
-    mounted: &Mounted<'_>,
-    geometry: Geometry,
-    text: &mut Text,
-) -> Result<Totals, AllocError>
-    requires { IsScannable geometry.block mounted.now.image }
-    ensures text { OnOk result (text.new
-        ≡ text.old ++ damage_text E.order geometry.block mounted.now) }
-    ensures totals { IfOk result
-        (λ totals. totals ≡ damage_totals E.order geometry.block mounted.now) }
+/// What is told, or that the sink failed.
+fn told(put: Result<Totals, DeviceFault>) -> Result<Totals, DamageFault>
+    ensures { result ≡ damage_told put }
 {
-    let image = mounted.image();
-    let damaged = damaged_nodes::<E>(alloc, image, geometry)?;
-    let missing = mounted.dangling(alloc)?;
-    if damaged.is_empty() && missing.is_empty() {
-        return push_none(text);
+    match put {
+        Ok(totals) => Ok(totals),
+        Err(DeviceFault) => Err(DamageFault::Output),
     }
-    let numbers = numbers_of::<E>(alloc, image, &damaged)?;
-    let sound = stretches_of::<E>(alloc, image, geometry, &numbers)?;
-    let hidden = hidden_of::<E>(alloc, mounted, sound, &damaged)?;
-    let dirs = dirs_of::<E>(alloc, mounted, &numbers, &damaged)?;
-    let ways = Ways::new(alloc, mounted, &numbers, &dirs)?;
-    let paths = push_nodes::<E>(alloc, &ways, &hidden, &damaged, text)?;
-    push_all_missing(alloc, &ways, &missing, text)?;
-    let totals = Totals {
-        damaged: damaged.len(),
-        paths,
-        missing: missing.len(),
-    };
-    push_totals(text, &totals)?;
-    Ok(totals)
 }
 
 /// Puts what the damage of a mounted image costs: of each damaged entry or inode node, in order of
 /// address, which paths it hides, that it hides nothing, or that what it said is not known; then a
 /// line for each name whose object is missing, and the totals, which are the answer. A damaged node
 /// hides nothing where the object is the same whatever it said. The image was mounted in `E`'s
-/// order and with this geometry. Takes memory for the text; where there is damage, for the damaged
-/// nodes, for the sound ones of their objects, for the names of these, and for the directories on
-/// the ways up from what is told.
+/// order and with this geometry. Each line goes out as it is made. Before the first, where there
+/// is damage, it takes memory for the damaged nodes, for the sound ones of their objects, for the
+/// names of these, for the directories on the ways up from what is told, and for one path.
 ///
 /// # Errors
 /// `OutOfMemory`, and nothing was put. `Output`: the sink failed, and took a beginning.
@@ -205,10 +236,17 @@ pub fn put_damage<E: Order, T: Sink>(
     ensures { PutsDamage E.order geometry.block mounted.now (T.taken sink.old) (T.taken sink.new)
         (T.failures sink.old) (T.failures sink.new) result }
 {
-    let mut text = Text::new(alloc);
-    let totals = push_all::<E>(alloc, mounted, geometry, &mut text)?;
-    match put_text(sink, text.as_slice()) {
-        Ok(()) => Ok(totals),
-        Err(_) => Err(DamageFault::Output),
+    let image = mounted.image();
+    let damaged = damaged_nodes::<E>(alloc, image, geometry)?;
+    let missing = mounted.dangling(alloc)?;
+    if damaged.is_empty() && missing.is_empty() {
+        return told(put_none(sink));
     }
+    let numbers = numbers_of::<E>(alloc, image, &damaged)?;
+    let sound = stretches_of::<E>(alloc, image, geometry, &numbers)?;
+    let hidden = hidden_of::<E>(alloc, mounted, sound, &damaged)?;
+    let dirs = dirs_of::<E>(alloc, mounted, &numbers, &damaged)?;
+    let ways = Ways::new(alloc, mounted, &numbers, &dirs)?;
+    let mut path = room_for::<E>(alloc, &ways, &hidden, &damaged, &missing)?;
+    told(put_lines::<E, T>(&ways, &hidden, &damaged, &missing, &mut path, sink))
 }

@@ -17,14 +17,13 @@ mod fault;
 mod fields;
 mod firsts;
 mod groups;
-mod held;
 mod hidden;
 pub mod laws;
 mod lines;
 mod nodes;
 mod nowhere;
+mod room;
 mod telling;
-mod text;
 mod totals;
 mod ways;
 

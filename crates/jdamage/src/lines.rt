@@ -1,19 +1,51 @@
 //! The lines of `damage`.
 
-ghost use Rattle.std.specs.Prelude.{◌≡◌, ◌++◌, ◌≤◌, [], OnOk, length, map, option_map};
+ghost use Rattle.std.specs.Prelude.{◌≡◌, ◌++◌, ◌≤◌, length, map, option_map};
+ghost use Rattle.flashbase.specs.Sinks.{PutsTo};
+ghost use Rattle.jline.specs.Paths.{path_shown};
+ghost use Rattle.jline.specs.Words.{escaped};
 ghost use Rattle.jdamage.specs.Lines.{hides_line, loss_line, loss_start, missing_end, missing_line, missing_start, no_path_line, nothing_line, stretch_start, totals_shown, unknown_line};
 
 use crate::fields::{Loss, Stretch};
-use crate::text::Text;
 use crate::totals::Totals;
-use jline::{LineBuffer, damage_name};
+use flashbase::{DeviceFault, Sink};
+use jline::{LineBuffer, damage_name, put_escaped, put_path, put_text};
 use jnode::Damage;
-use std::alloc::AllocError;
 
-/// What each line of a node of damaged data begins with.
+/// Puts a path between two texts.
+fn put_path_between<T: Sink>(
+    start: &[u8],
+    path: &[&[u8]],
+    end: &[u8],
+    sink: &mut T,
+) -> Result<(), DeviceFault>
+    ensures { PutsTo T.Sink sink.old sink.new
+        (start.now ++ (path_shown (map (λ name. name.now) path.now) ++ end.now)) result }
+{
+    put_text(sink, start)?;
+    put_path(sink, path)?;
+    put_text(sink, end)
+}
+
+/// Puts a name between two texts, with its escapes.
+fn put_name_between<T: Sink>(
+    start: &[u8],
+    name: &[u8],
+    end: &[u8],
+    sink: &mut T,
+) -> Result<(), DeviceFault>
+    ensures { PutsTo T.Sink sink.old sink.new (start.now ++ (escaped name.now ++ end.now)) result }
+{
+    put_text(sink, start)?;
+    put_escaped(sink, name)?;
+    put_text(sink, end)
+}
+
+/// What each line of a node of damaged data begins with, and this text.
 #[tactic(auto, unfolding(crate::specs::Lines::stretch_start), using(std::proofs::Common::append_assoc))]
-fn stretch_start(addr: u32, lost: &Stretch) -> LineBuffer
-    ensures { result ≡ stretch_start addr lost.now }
+fn stretch_until(addr: u32, lost: &Stretch, end: &[u8]) -> LineBuffer
+    requires { length end.now ≤ 32 }
+    ensures { result ≡ stretch_start addr lost.now ++ end.now }
 {
     let mut line = LineBuffer::new();
     line.push_hex(8, u64::from(addr));
@@ -25,48 +57,58 @@ fn stretch_start(addr: u32, lost: &Stretch) -> LineBuffer
     line.push_decimal(u64::from(lost.from));
     line.push_text(b" to ");
     line.push_decimal(lost.to);
+    line.push_text(end);
     line
 }
 
 /// The line of a node that hides nothing.
-#[tactic(auto, using(std::proofs::Common::append_assoc))]
-pub(crate) fn push_nothing(text: &mut Text, addr: u32, lost: &Stretch) -> Result<(), AllocError>
-    ensures { OnOk result (text.new ≡ text.old ++ nothing_line addr lost.now) }
+pub(crate) fn put_nothing<T: Sink>(
+    addr: u32,
+    lost: &Stretch,
+    sink: &mut T,
+) -> Result<(), DeviceFault>
+    ensures { PutsTo T.Sink sink.old sink.new (nothing_line addr lost.now) result }
 {
-    text.push_line(&stretch_start(addr, lost))?;
-    text.push(b" hides nothing\n")
+    put_text(
+        sink,
+        stretch_until(addr, lost, b" hides nothing\n").as_slice(),
+    )
 }
 
 /// The line of a node of an object that no path leads to.
-#[tactic(auto, using(std::proofs::Common::append_assoc))]
-pub(crate) fn push_no_path(text: &mut Text, addr: u32, lost: &Stretch) -> Result<(), AllocError>
-    ensures { OnOk result (text.new ≡ text.old ++ no_path_line addr lost.now) }
+pub(crate) fn put_no_path<T: Sink>(
+    addr: u32,
+    lost: &Stretch,
+    sink: &mut T,
+) -> Result<(), DeviceFault>
+    ensures { PutsTo T.Sink sink.old sink.new (no_path_line addr lost.now) result }
 {
-    text.push_line(&stretch_start(addr, lost))?;
-    text.push(b" has no path\n")
+    put_text(
+        sink,
+        stretch_until(addr, lost, b" has no path\n").as_slice(),
+    )
 }
 
 /// The line of a node that hides what a path leads to.
 #[tactic(auto, using(std::proofs::Common::append_assoc))]
-pub(crate) fn push_hides(
-    text: &mut Text,
+pub(crate) fn put_hides<T: Sink>(
     addr: u32,
     lost: &Stretch,
     path: &[&[u8]],
-) -> Result<(), AllocError>
-    ensures { OnOk result (text.new
-        ≡ text.old ++ hides_line addr lost.now (map (λ name. name.now) path.now)) }
+    sink: &mut T,
+) -> Result<(), DeviceFault>
+    ensures { PutsTo T.Sink sink.old sink.new
+        (hides_line addr lost.now (map (λ name. name.now) path.now)) result }
 {
-    text.push_line(&stretch_start(addr, lost))?;
-    text.push(b" hides ")?;
-    text.push_path(path)?;
-    text.push(b"\n")
+    let start = stretch_until(addr, lost, b" hides ");
+    put_path_between(start.as_slice(), path, b"\n", sink)
 }
 
-/// What the line of a node of a damaged name begins with.
+/// What the line of a node of a damaged name begins with, and this text.
 #[tactic(auto, unfolding(crate::specs::Lines::loss_start), using(std::proofs::Common::append_assoc))]
-fn loss_start(addr: u32, loss: &Loss) -> LineBuffer
-    ensures { result ≡ loss_start addr loss.now }
+fn loss_until(addr: u32, loss: &Loss, end: &[u8]) -> LineBuffer
+    requires { length end.now ≤ 32 }
+    ensures { result ≡ loss_start addr loss.now ++ end.now }
 {
     let mut line = LineBuffer::new();
     line.push_hex(8, u64::from(addr));
@@ -77,27 +119,28 @@ fn loss_start(addr: u32, loss: &Loss) -> LineBuffer
     line.push_text(b" ino ");
     line.push_decimal(u64::from(loss.ino));
     line.push_text(b" lost");
+    line.push_text(end);
     line
 }
 
 /// The line of a node of a damaged name, with the path of its directory where one leads there.
 #[tactic(auto, using(std::proofs::Common::append_assoc))]
-pub(crate) fn push_loss(
-    text: &mut Text,
+pub(crate) fn put_loss<T: Sink>(
     addr: u32,
     loss: &Loss,
     directory: Option<&[&[u8]]>,
-) -> Result<(), AllocError>
-    ensures { OnOk result (text.new ≡ text.old ++ loss_line addr loss.now
-        (option_map (λ path. map (λ name. name.now) path.now) directory.entry)) }
+    sink: &mut T,
+) -> Result<(), DeviceFault>
+    ensures { PutsTo T.Sink sink.old sink.new (loss_line addr loss.now
+        (option_map (λ path. map (λ name. name.now) path.now) directory.entry)) result }
 {
-    text.push_line(&loss_start(addr, loss))?;
-    let Some(path) = directory else {
-        return text.push(b"\n");
-    };
-    text.push(b" in ")?;
-    text.push_path(path)?;
-    text.push(b"\n")
+    match directory {
+        Some(path) => {
+            let start = loss_until(addr, loss, b" in ");
+            put_path_between(start.as_slice(), path, b"\n", sink)
+        }
+        None => put_text(sink, loss_until(addr, loss, b"\n").as_slice()),
+    }
 }
 
 /// The line of a node of other damage.
@@ -113,10 +156,14 @@ fn unknown_line(addr: u32, which: Damage) -> LineBuffer
     line
 }
 
-pub(crate) fn push_unknown(text: &mut Text, addr: u32, which: Damage) -> Result<(), AllocError>
-    ensures { OnOk result (text.new ≡ text.old ++ unknown_line addr which) }
+pub(crate) fn put_unknown<T: Sink>(
+    addr: u32,
+    which: Damage,
+    sink: &mut T,
+) -> Result<(), DeviceFault>
+    ensures { PutsTo T.Sink sink.old sink.new (unknown_line addr which) result }
 {
-    text.push_line(&unknown_line(addr, which))
+    put_text(sink, unknown_line(addr, which).as_slice())
 }
 
 #[tactic(auto, unfolding(crate::specs::Lines::missing_start), using(std::proofs::Common::append_assoc))]
@@ -142,28 +189,21 @@ fn missing_end(ino: u32) -> LineBuffer
 }
 
 /// The line of a name whose object is missing, with its path where one leads there.
-#[tactic(auto, using(std::proofs::Common::append_assoc))]
-pub(crate) fn push_missing(
-    text: &mut Text,
+pub(crate) fn put_missing<T: Sink>(
     pino: u32,
     name: &[u8],
     ino: u32,
     path: Option<&[&[u8]]>,
-) -> Result<(), AllocError>
-    ensures { OnOk result (text.new ≡ text.old ++ missing_line (pino, name.now, ino)
-        (option_map (λ path. map (λ name. name.now) path.now) path.entry)) }
+    sink: &mut T,
+) -> Result<(), DeviceFault>
+    ensures { PutsTo T.Sink sink.old sink.new (missing_line (pino, name.now, ino)
+        (option_map (λ path. map (λ name. name.now) path.now) path.entry)) result }
 {
+    let end = missing_end(ino);
     match path {
-        Some(path) => {
-            text.push(b"missing ")?;
-            text.push_path(path)?;
-        }
-        None => {
-            text.push_line(&missing_start(pino))?;
-            text.push_escaped(name)?;
-        }
+        Some(path) => put_path_between(b"missing ", path, end.as_slice(), sink),
+        None => put_name_between(missing_start(pino).as_slice(), name, end.as_slice(), sink),
     }
-    text.push_line(&missing_end(ino))
 }
 
 /// The last line.
@@ -182,8 +222,8 @@ fn totals_shown(totals: &Totals) -> LineBuffer
     line
 }
 
-pub(crate) fn push_totals(text: &mut Text, totals: &Totals) -> Result<(), AllocError>
-    ensures { OnOk result (text.new ≡ text.old ++ totals_shown totals.now) }
+pub(crate) fn put_totals<T: Sink>(totals: &Totals, sink: &mut T) -> Result<(), DeviceFault>
+    ensures { PutsTo T.Sink sink.old sink.new (totals_shown totals.now) result }
 {
-    text.push_line(&totals_shown(totals))
+    put_text(sink, totals_shown(totals).as_slice())
 }

@@ -1,57 +1,61 @@
 //! What is told of a damaged node, and of a name whose object is missing.
 
-ghost use Rattle.std.specs.Prelude.{◌≡◌, ◌++◌, ◌-◌, ◌^◌, ◌≤◌, [], true, if◌then◌else◌, IfOk, OnOk, length, min};
+ghost use Rattle.std.specs.Prelude.{◌≡◌, ◌++◌, ◌-◌, ◌^◌, ◌<◌, ◌≤◌, [], true, if◌then◌else◌, IfOk, false, length, min, sum_by, vec_capacity};
+ghost use Rattle.flashbase.specs.Sinks.{PutsTo};
 ghost use Rattle.jscan.specs.Image.{greatest_image};
-ghost use Rattle.jdamage.specs.Damage.{missing_text};
+ghost use Rattle.jdamage.specs.Damage.{hurt_text, missing_text};
 ghost use Rattle.std.specs.BTreeSet.{contains};
 ghost use Rattle.std.specs.List.{flat_map};
 ghost use Rattle.std.specs.Ordering.{nat_cmp};
 ghost use Rattle.jdamage.specs.Lines.{hides_line, loss_line};
-ghost use Rattle.jdamage.specs.Telling.{HasListedNumber, PushesHurt, PushesPath, lost_paths, lost_text, own_paths, own_text};
-ghost use Rattle.jdamage.specs.Ways.{path_below, path_to_name, paths_to, root_paths};
+ghost use Rattle.jdamage.specs.Room.{HeldPathsFit, NodePathsFit, PathsFit};
+ghost use Rattle.jdamage.specs.Telling.{HasListedNumber, leads, lost_paths, lost_text, named_text, own_paths, own_text, paths_of_name};
+ghost use Rattle.jdamage.specs.Ways.{depth, name_held, names_for, path_below, paths_to, root_paths};
 
 use crate::fields::{Loss, Stretch, loss_at, stretch_at};
-use crate::lines::{push_hides, push_loss, push_missing, push_no_path, push_nothing, push_unknown};
-use crate::text::Text;
+use crate::firsts::Name;
+use crate::lines::{put_hides, put_loss, put_missing, put_no_path, put_nothing, put_unknown};
 use crate::ways::Ways;
+use flashbase::{DeviceFault, Sink};
 use jmount::ROOT;
 use jnode::{Damage, Order};
-use std::alloc::{AllocError, Global};
 use std::collections::BTreeSet;
 
 /// Tells that a node hides what a name leads to, where a path leads to the name. Answers whether it
 /// does.
-fn push_name<'m>(
-    alloc: Global,
+fn put_name<'m, T: Sink>(
     ways: &Ways<'m, '_>,
     addr: u32,
     lost: &Stretch,
-    pino: u32,
-    name: &'m [u8],
-    text: &mut Text,
-) -> Result<bool, AllocError>
-    ensures { IfOk result (λ told. PushesPath addr lost.now
-        (path_to_name ways.now.mounted.now.state (pino, name.now, lost.now.ino))
-        text.old text.new told) }
+    name: Name<'m>,
+    path: &mut Vec<&'m [u8]>,
+    sink: &mut T,
+) -> Result<bool, DeviceFault>
+    requires { depth ways.now.mounted.now.state name.0 < vec_capacity path.old }
+    ensures puts { PutsTo T.Sink sink.old sink.new
+        (named_text ways.now.mounted.now.state addr lost.now name.entry) result }
+    ensures told { IfOk result
+        (λ told. told ≡ leads ways.now.mounted.now.state name.entry) }
+    ensures capacity { vec_capacity path.old ≤ vec_capacity path.new }
 {
-    let Some(path) = ways.name_path(alloc, pino, name)? else {
+    if !ways.put_name(name.0, name.1, path) {
         return Ok(false);
-    };
-    push_hides(text, addr, lost, &path)?;
+    }
+    put_hides(addr, lost, path.as_slice(), sink)?;
     Ok(true)
 }
 
 /// Tells that a node hides the root, where it is of its number. Answers how many paths that is.
-fn push_root(text: &mut Text, addr: u32, lost: &Stretch) -> Result<u64, AllocError>
-    ensures text { OnOk result (text.new
-        ≡ text.old ++ flat_map (hides_line addr lost.now) (root_paths lost.now.ino)) }
+fn put_root<T: Sink>(addr: u32, lost: &Stretch, sink: &mut T) -> Result<u64, DeviceFault>
+    ensures puts { PutsTo T.Sink sink.old sink.new
+        (flat_map (hides_line addr lost.now) (root_paths lost.now.ino)) result }
     ensures count { IfOk result (λ count. count ≡ length (root_paths lost.now.ino)) }
     ensures few { IfOk result (λ count. count ≤ 1) }
 {
     if lost.ino != ROOT {
         return Ok(0);
     }
-    push_hides(text, addr, lost, &[])?;
+    put_hides(addr, lost, &[], sink)?;
     Ok(1)
 }
 
@@ -62,116 +66,155 @@ fn one_if(told: bool) -> u64
     if told { 1 } else { 0 }
 }
 
-/// Tells what a node hides that is missed. Answers how many paths.
-fn push_hurt(
-    alloc: Global,
-    ways: &Ways<'_, '_>,
+/// Tells that a node hides what these names lead to. Answers how many paths that is.
+fn put_names<'m, T: Sink>(
+    ways: &Ways<'m, '_>,
     addr: u32,
     lost: &Stretch,
-    text: &mut Text,
-) -> Result<u64, AllocError>
-    requires { contains nat_cmp ways.now.numbers.now lost.now.ino ≡ true }
-    ensures { IfOk result (λ count. PushesHurt addr lost.now
-        (paths_to ways.now.mounted.now.state lost.now.ino) text.old text.new count) }
+    names: &[Name<'m>],
+    path: &mut Vec<&'m [u8]>,
+    sink: &mut T,
+) -> Result<u64, DeviceFault>
+    requires { HeldPathsFit ways.now.mounted.now.state (vec_capacity path.old) names.now }
+    ensures puts { PutsTo T.Sink sink.old sink.new
+        (flat_map (named_text ways.now.mounted.now.state addr lost.now) names.now) result }
+    ensures count { IfOk result (λ count. count
+        ≡ min (sum_by (paths_of_name ways.now.mounted.now.state) names.now) (2 ^ 64 - 1)) }
+    ensures capacity { vec_capacity path.old ≤ vec_capacity path.new }
 {
-    let mut count = push_root(text, addr, lost)?;
-    let names = ways.named(lost.ino);
-    for (pino, name, _) in names {
-        let told = push_name(alloc, ways, addr, lost, *pino, name, text)?;
+    let mut count = 0u64;
+    for name in names {
+        let told = put_name(ways, addr, lost, *name, path, sink)?;
         count = count.saturating_add(one_if(told));
     }
+    Ok(count)
+}
+
+/// Tells what a node hides that is missed. Answers how many paths.
+fn put_hurt<'m, T: Sink>(
+    ways: &Ways<'m, '_>,
+    addr: u32,
+    lost: &Stretch,
+    path: &mut Vec<&'m [u8]>,
+    sink: &mut T,
+) -> Result<u64, DeviceFault>
+    requires number { contains nat_cmp ways.now.numbers.now lost.now.ino ≡ true }
+    requires room { PathsFit ways.now.mounted.now.state (vec_capacity path.old)
+        (names_for ways.now.mounted.now.state lost.now.ino) }
+    ensures puts { PutsTo T.Sink sink.old sink.new
+        (hurt_text addr lost.now (paths_to ways.now.mounted.now.state lost.now.ino)) result }
+    ensures count { IfOk result (λ count. count
+        ≡ min (length (paths_to ways.now.mounted.now.state lost.now.ino)) (2 ^ 64 - 1)) }
+    ensures capacity { vec_capacity path.old ≤ vec_capacity path.new }
+{
+    let root = put_root(addr, lost, sink)?;
+    let named = put_names(ways, addr, lost, ways.named(lost.ino), path, sink)?;
+    let count = root.saturating_add(named);
     if count == 0 {
-        push_no_path(text, addr, lost)?;
-        return Ok(0);
+        put_no_path(addr, lost, sink)?;
     }
     Ok(count)
 }
 
 /// Tells what a node of damaged data hides. Answers how many paths.
-fn push_data(
-    alloc: Global,
-    ways: &Ways<'_, '_>,
+fn put_data<'m, T: Sink>(
+    ways: &Ways<'m, '_>,
     hides_nothing: bool,
     addr: u32,
     lost: &Stretch,
-    text: &mut Text,
-) -> Result<u64, AllocError>
-    requires { contains nat_cmp ways.now.numbers.now lost.now.ino ≡ true }
-    ensures text { OnOk result (text.new
-        ≡ text.old ++ lost_text ways.now.mounted.now.state hides_nothing addr lost.now) }
+    path: &mut Vec<&'m [u8]>,
+    sink: &mut T,
+) -> Result<u64, DeviceFault>
+    requires number { contains nat_cmp ways.now.numbers.now lost.now.ino ≡ true }
+    requires room { hides_nothing ≡ false
+        → PathsFit ways.now.mounted.now.state (vec_capacity path.old)
+        (names_for ways.now.mounted.now.state lost.now.ino) }
+    ensures puts { PutsTo T.Sink sink.old sink.new
+        (lost_text ways.now.mounted.now.state hides_nothing addr lost.now) result }
     ensures count { IfOk result (λ count. count ≡ min
         (length (lost_paths ways.now.mounted.now.state hides_nothing lost.now)) (2 ^ 64 - 1)) }
+    ensures capacity { vec_capacity path.old ≤ vec_capacity path.new }
 {
     if hides_nothing {
-        push_nothing(text, addr, lost)?;
+        put_nothing(addr, lost, sink)?;
         return Ok(0);
     }
-    push_hurt(alloc, ways, addr, lost, text)
+    put_hurt(ways, addr, lost, path, sink)
 }
 
 /// Tells what entry a node of a damaged name was.
-fn push_lost(
-    alloc: Global,
-    ways: &Ways<'_, '_>,
+fn put_lost<'m, T: Sink>(
+    ways: &Ways<'m, '_>,
     addr: u32,
     loss: &Loss,
-    text: &mut Text,
-) -> Result<(), AllocError>
-    ensures { OnOk result (text.new ≡ text.old ++ loss_line addr loss.now
-        (path_below ways.now.mounted.now.state loss.now.pino [])) }
+    path: &mut Vec<&'m [u8]>,
+    sink: &mut T,
+) -> Result<(), DeviceFault>
+    requires { depth ways.now.mounted.now.state loss.now.pino < vec_capacity path.old }
+    ensures puts { PutsTo T.Sink sink.old sink.new (loss_line addr loss.now
+        (path_below ways.now.mounted.now.state loss.now.pino [])) result }
+    ensures capacity { vec_capacity path.old ≤ vec_capacity path.new }
 {
-    let path = ways.directory_path(alloc, loss.pino)?;
-    push_loss(text, addr, loss, path.as_deref())
+    if ways.put_directory(loss.pino, path) {
+        return put_loss(addr, loss, Some(path.as_slice()), sink);
+    }
+    put_loss(addr, loss, None, sink)
 }
 
 /// Tells of a damaged node, where these addresses are of those that hide nothing. Answers how many
 /// paths it hides.
-pub(crate) fn push_node<E: Order>(
-    alloc: Global,
-    ways: &Ways<'_, '_>,
+pub(crate) fn put_node<'m, E: Order, T: Sink>(
+    ways: &Ways<'m, '_>,
     hidden: &BTreeSet<u32>,
     addr: u32,
     which: Damage,
-    text: &mut Text,
-) -> Result<u64, AllocError>
+    path: &mut Vec<&'m [u8]>,
+    sink: &mut T,
+) -> Result<u64, DeviceFault>
     requires image { length ways.now.mounted.now.image ≤ greatest_image }
     requires number { HasListedNumber E.order ways.now.mounted.now.image ways.now.numbers.now
         (addr, which) }
-    ensures text { OnOk result (text.new
-        ≡ text.old ++ own_text E.order ways.now.mounted.now hidden.now (addr, which)) }
+    requires room { NodePathsFit E.order ways.now.mounted.now hidden.now (vec_capacity path.old)
+        (addr, which) }
+    ensures puts { PutsTo T.Sink sink.old sink.new
+        (own_text E.order ways.now.mounted.now hidden.now (addr, which)) result }
     ensures count { IfOk result (λ count. count
         ≡ min (own_paths E.order ways.now.mounted.now hidden.now (addr, which)) (2 ^ 64 - 1)) }
+    ensures capacity { vec_capacity path.old ≤ vec_capacity path.new }
 {
     let image = ways.mounted.image();
     match which {
         Damage::DataCrc => {
             let lost = stretch_at::<E>(image, addr);
-            push_data(alloc, ways, hidden.contains(&addr), addr, &lost, text)
+            put_data(ways, hidden.contains(&addr), addr, &lost, path, sink)
         }
         Damage::NameCrc => {
             let loss = loss_at::<E>(image, addr);
-            push_lost(alloc, ways, addr, &loss, text)?;
+            put_lost(ways, addr, &loss, path, sink)?;
             Ok(0)
         }
         Damage::NodeCrc | Damage::Length | Damage::Range => {
-            push_unknown(text, addr, which)?;
+            put_unknown(addr, which, sink)?;
             Ok(0)
         }
     }
 }
 
 /// Tells of a name whose object is missing.
-pub(crate) fn push_missing_name<'m>(
-    alloc: Global,
+pub(crate) fn put_missing_name<'m, T: Sink>(
     ways: &Ways<'m, '_>,
-    pino: u32,
-    name: &'m [u8],
-    ino: u32,
-    text: &mut Text,
-) -> Result<(), AllocError>
-    ensures { OnOk result (text.new
-        ≡ text.old ++ missing_text ways.now.mounted.now.state (pino, name.now, ino)) }
+    name: Name<'m>,
+    path: &mut Vec<&'m [u8]>,
+    sink: &mut T,
+) -> Result<(), DeviceFault>
+    requires { depth ways.now.mounted.now.state name.0 < vec_capacity path.old }
+    ensures puts { PutsTo T.Sink sink.old sink.new
+        (missing_text ways.now.mounted.now.state (name_held name.entry)) result }
+    ensures capacity { vec_capacity path.old ≤ vec_capacity path.new }
 {
-    let path = ways.name_path(alloc, pino, name)?;
-    push_missing(text, pino, name, ino, path.as_deref())
+    let (pino, text, ino) = name;
+    if ways.put_name(pino, text, path) {
+        return put_missing(pino, text, ino, Some(path.as_slice()), sink);
+    }
+    put_missing(pino, text, ino, None, sink)
 }

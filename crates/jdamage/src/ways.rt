@@ -1,11 +1,11 @@
 //! The paths that lead to a number.
 
-ghost use Rattle.std.specs.Prelude.{◌≡◌, ◌==◌, ◌++◌, ◌∷◌, ℕ, List, [], true, None, IfOk, OnOk, map, option_map, reverse, if◌then◌else◌};
+ghost use Rattle.std.specs.Prelude.{◌≡◌, ◌==◌, ◌++◌, ◌∷◌, ◌^◌, ◌<◌, ◌≤◌, ℕ, List, [], true, None, Some, IfOk, IsFalse, IsTrue, OnOk, map, option_map, reverse, if◌then◌else◌, vec_capacity};
 ghost use Rattle.std.specs.BTreeSet.{contains};
 ghost use Rattle.std.specs.Ordering.{nat_cmp};
 ghost use Rattle.jmount.specs.Tree as tree;
 ghost use Rattle.jdamage.specs.Groups.{group_of};
-ghost use Rattle.jdamage.specs.Ways.{AreFirsts, AreNamed, LeadNowhere, first_name, name_held, names_for, names_held, path_below, steps_at_most};
+ghost use Rattle.jdamage.specs.Ways.{AreFirsts, AreNamed, LeadNowhere, depth, first_name, name_held, names_for, names_held, path_below, path_length, steps_at_most};
 
 use crate::firsts::{Firsts, Name, find_name, firsts_of, is_directory};
 use crate::groups::{Groups, add, group};
@@ -130,64 +130,94 @@ impl<'m, 'a> Ways<'m, 'a> {
         self.nowhere.contains(&dir)
     }
 
-    /// The path of a directory.
-    pub(crate) fn directory_path(
-        &self,
-        alloc: Global,
-        dir: u32,
-    ) -> Result<Option<Vec<&'m [u8]>>, AllocError>
-        ensures { IfOk result (λ path. option_map names_held path
-            ≡ path_below self.now.mounted.now.state dir []) }
+    /// How many names the path of a directory has; 0 where no way leads there.
+    pub(crate) fn depth(&self, dir: u32) -> u64
+        ensures depth { result ≡ depth self.now.mounted.now.state dir }
+        ensures few { result ≤ 2 ^ 32 }
     {
-        climb(self, dir, Vec::new(alloc))
+        if self.is_nowhere(dir) {
+            return 0;
+        }
+        let mut left = self.steps;
+        let mut here = dir;
+        while left > 0 {
+            if !is_directory(self.mounted, here) {
+                return 0;
+            }
+            if here == ROOT {
+                return self.steps - left;
+            }
+            let Some((above, _, _)) = self.first_name(here) else {
+                return 0;
+            };
+            here = above;
+            left -= 1;
+        }
+        0
     }
 
-    /// The path of a name in a directory.
-    pub(crate) fn name_path(
-        &self,
-        alloc: Global,
-        dir: u32,
-        name: &'m [u8],
-    ) -> Result<Option<Vec<&'m [u8]>>, AllocError>
-        ensures { IfOk result (λ path. option_map names_held path
-            ≡ path_below self.now.mounted.now.state dir (name.now ∷ [])) }
+    /// Puts the names from the root to a directory in the place of these. Answers whether a way
+    /// leads there.
+    pub(crate) fn put_directory(&self, dir: u32, path: &mut Vec<&'m [u8]>) -> bool
+        requires { depth self.now.mounted.now.state dir < vec_capacity path.old }
+        ensures found { IsTrue result
+            → path_below self.now.mounted.now.state dir [] ≡ Some (names_held path.new) }
+        ensures none { IsFalse result → path_below self.now.mounted.now.state dir [] ≡ None }
+        ensures capacity { vec_capacity path.old ≤ vec_capacity path.new }
     {
-        let mut names = Vec::new(alloc);
-        names.push(name)?;
-        climb(self, dir, names)
+        path.clear();
+        climb(self, dir, path)
+    }
+
+    /// The same, and a name behind them.
+    pub(crate) fn put_name(&self, dir: u32, name: &'m [u8], path: &mut Vec<&'m [u8]>) -> bool
+        requires { depth self.now.mounted.now.state dir < vec_capacity path.old }
+        ensures found { IsTrue result → path_below self.now.mounted.now.state dir (name.now ∷ [])
+            ≡ Some (names_held path.new) }
+        ensures none { IsFalse result
+            → path_below self.now.mounted.now.state dir (name.now ∷ []) ≡ None }
+        ensures capacity { vec_capacity path.old ≤ vec_capacity path.new }
+    {
+        path.clear();
+        if path.push(name).is_err() {
+            return false;
+        }
+        climb(self, dir, path)
     }
 }
 
-/// The names from the root to a directory, and after them these, the last of which comes first.
-/// Where no way leads there it takes no step.
-fn climb<'m>(
-    ways: &Ways<'m, '_>,
-    dir: u32,
-    names: Vec<&'m [u8]>,
-) -> Result<Option<Vec<&'m [u8]>>, AllocError>
-    ensures { IfOk result (λ path. option_map names_held path
-        ≡ path_below ways.now.mounted.now.state dir (reverse (names_held names.entry))) }
+/// Puts the names from the root to a directory in front of these, the last of which comes first.
+/// Answers whether a way leads there. Where none does it takes no step, or there may be no room.
+fn climb<'m>(ways: &Ways<'m, '_>, dir: u32, path: &mut Vec<&'m [u8]>) -> bool
+    requires { path_length (path_below ways.now.mounted.now.state dir
+        (reverse (names_held path.old))) ≤ vec_capacity path.old }
+    ensures found { IsTrue result → path_below ways.now.mounted.now.state dir
+        (reverse (names_held path.old)) ≡ Some (names_held path.new) }
+    ensures none { IsFalse result
+        → path_below ways.now.mounted.now.state dir (reverse (names_held path.old)) ≡ None }
+    ensures capacity { vec_capacity path.old ≤ vec_capacity path.new }
 {
     if ways.is_nowhere(dir) {
-        return Ok(None);
+        return false;
     }
-    let mut path = names;
     let mut left = ways.steps;
     let mut here = dir;
     while left > 0 {
         if !is_directory(ways.mounted, here) {
-            return Ok(None);
+            return false;
         }
         if here == ROOT {
             path.reverse();
-            return Ok(Some(path));
+            return true;
         }
         let Some((pino, name, _)) = ways.first_name(here) else {
-            return Ok(None);
+            return false;
         };
-        path.push(name)?;
+        if path.push(name).is_err() {
+            return false;
+        }
         here = pino;
         left -= 1;
     }
-    Ok(None)
+    false
 }

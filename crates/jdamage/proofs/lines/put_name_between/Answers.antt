@@ -1,0 +1,23 @@
+use Rattle.std.proofs.Common.{◌++◌}
+use Rattle.flashbase.proofs.DeviceLemmas.{first_failed, then_puts}
+use Rattle.jline.specs.Words.{escaped}
+use Rattle.jdamage.proofs.lines.put_name_between.Goals as goal
+
+pub returns-in_err-put_text : goal.returns-in_err-put_text
+returns-in_err-put_text g c =
+    let put = c.in_err-put_text.ensures.puts in
+    first_failed _ _ _ _ c.args.start.now (escaped c.args.name.now ++ c.args.end.now) _ c.from_residual.ensures.0 put.0 put.1
+
+pub returns-in_err-put_escaped : goal.returns-in_err-put_escaped
+returns-in_err-put_escaped g c =
+    let text = c.in_ok-put_text.ensures.puts in
+    let put = c.in_err-put_escaped.ensures in
+    then_puts _ (g.T.Sink.taken c.put_text.new.sink) _ _ _ _ c.args.start.now (escaped c.args.name.now ++ c.args.end.now) _ text.0 text.1
+    (first_failed _ _ _ _ (escaped c.args.name.now) c.args.end.now _ c.from_residual-in_err-put_escaped.ensures.0 put.0 put.1)
+
+pub returns : goal.returns
+returns g c =
+    let text = c.in_ok-put_text.ensures.puts in
+    let put = c.in_ok-put_escaped.ensures in
+    then_puts _ (g.T.Sink.taken c.put_text.new.sink) _ _ _ _ c.args.start.now (escaped c.args.name.now ++ c.args.end.now) _ text.0 text.1
+    (then_puts _ (g.T.Sink.taken c.put_escaped.new.sink) _ _ _ _ (escaped c.args.name.now) c.args.end.now _ put.0 put.1 c.put_text-2.ensures.puts)

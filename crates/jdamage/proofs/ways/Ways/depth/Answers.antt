@@ -1,0 +1,46 @@
+use Rattle.std.proofs.Common.{◌≡◌, ◌-◌, ◌∷◌, [], Some, None, arith, sym, ap, ◌∙◌}
+use Rattle.jdamage.specs.Ways.{NameOf, first_name, path_below, path_length}
+use Rattle.jdamage.proofs.WayLemmas.{climb_gone, climb_root, climb_nameless, climb_on, climb_none}
+use Rattle.jdamage.proofs.ways.Ways.depth.Goals as goal
+
+pub returns-then-not-is_directory-clause-depth : goal.returns-then-not-is_directory-clause-depth
+returns-then-not-is_directory-clause-depth c =
+    let none : path_below c.args.self.now.mounted.now.state c.args.dir [] ≡ None =
+    sym c.loop-left.invariant.way
+    ∙ climb_gone c.args.self.now.mounted.now.state c.loop-left.left c.loop-left.here _ c.loop-left-test.true (sym c.is_directory.ensures ∙ c.if-not-is_directory.true) in
+    ap path_length (sym none)
+
+pub returns-then-here-eq-ROOT-clause-depth : goal.returns-then-here-eq-ROOT-clause-depth
+returns-then-here-eq-ROOT-clause-depth c =
+    let found : path_below c.args.self.now.mounted.now.state c.args.dir [] ≡ Some c.loop-left.invariant.names =
+    sym c.loop-left.invariant.way
+    ∙ climb_root c.args.self.now.mounted.now.state c.loop-left.left c.loop-left.here _ c.loop-left-test.true (sym c.is_directory.ensures ∙ c.if-not-is_directory.false) c.if-here-eq-ROOT.true in
+    omega (arith, ap path_length found, c.loop-left.invariant.count)
+
+pub returns-in_default-clause-depth : goal.returns-in_default-clause-depth
+returns-in_default-clause-depth c =
+    let s = c.args.self.now.mounted.now.state in
+    let nameless : first_name s c.loop-left.here ≡ None = sym c.in_default.ensures in
+    let none : path_below s c.args.dir [] ≡ None =
+    sym c.loop-left.invariant.way
+    ∙ climb_nameless s c.loop-left.left c.loop-left.here _ c.loop-left-test.true (sym c.is_directory.ensures ∙ c.if-not-is_directory.false) c.if-here-eq-ROOT.false nameless in
+    ap path_length (sym none)
+
+pub loop-left-preserved : goal.loop-left-preserved
+loop-left-preserved c =
+    let s = c.args.self.now.mounted.now.state in
+    let n : NameOf = (c.in-Some.above, c.in-Some.field-0-1.now, c.in-Some.field-0-2) in
+    let is : first_name s c.loop-left.here ≡ Some n = sym c.in-Some.ensures in
+    record {
+      few = omega (arith, c.loop-left.invariant.few);
+      names = n.1 ∷ c.loop-left.invariant.names;
+      count = omega (arith, c.loop-left.invariant.count, c.loop-left-test.true);
+      way = sym (climb_on s c.loop-left.left c.loop-left.here c.loop-left.invariant.names c.loop-left-test.true n (sym c.is_directory.ensures ∙ c.if-not-is_directory.false) c.if-here-eq-ROOT.false is)
+          ∙ c.loop-left.invariant.way;
+    }
+
+pub returns-clause-depth : goal.returns-clause-depth
+returns-clause-depth c =
+    let none : path_below c.args.self.now.mounted.now.state c.args.dir [] ≡ None =
+    sym c.loop-left.invariant.way ∙ climb_none c.args.self.now.mounted.now.state c.loop-left.left c.loop-left.here _ (omega (arith, c.loop-left-test.false)) in
+    ap path_length (sym none)

@@ -1,0 +1,14 @@
+use Rattle.std.proofs.Common.{◌≡◌, ◌≤◌, ◌+◌, ℕ, List, [], length}
+use Rattle.jdamage.specs.Ways.{climbed, path_below, steps_at_most}
+use Rattle.jdamage.proofs.ways.Ways.depth.Given as goal
+
+abbrev pub invariant-loop-left : goal.invariant-loop-left
+invariant-loop-left l = record {
+  few : l.left ≤ l.self.steps;
+  names : List (List ℕ);
+  count : length names + l.left ≡ l.self.steps;
+  way : climbed l.self.mounted.now.state l.left l.here names ≡ path_below l.self.mounted.now.state l.dir [];
+}
+
+abbrev pub decreases-loop-left : goal.decreases-loop-left
+decreases-loop-left l = l.left

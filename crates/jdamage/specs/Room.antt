@@ -1,0 +1,25 @@
+-- How much room the paths take that are told.
+use Rattle.std.specs.Prelude.{◌≡◌, ℕ, ◌<◌, List, map, All, false, ⊤}
+use Rattle.std.specs.BTreeSet.{BTreeSet, contains}
+use Rattle.std.specs.Ordering.{nat_cmp}
+use Rattle.jnode.specs.declared.order.Endian.{Endian}
+use Rattle.jnode.specs.declared.node.Damage.{Damage}
+use Rattle.jnode.specs.declared.node.Damage.TheVariants.{NameCrc, DataCrc}
+use Rattle.jmount.specs.Mount.{Mount}
+use Rattle.jmount.specs.Tree.{State}
+use Rattle.jdamage.specs.Fields.{stretch_at, loss_at}
+use Rattle.jdamage.specs.Ways.{HeldName, NameOf, depth, name_held, names_for}
+
+-- the directory of each of these names lies less than so deep, so that its path and a name fit
+abbrev pub PathsFit : State → ℕ → List NameOf → Type 0
+PathsFit s room names = All (λ n. depth s n.0 < room) names
+
+abbrev pub HeldPathsFit : State → ℕ → List HeldName → Type 0
+HeldPathsFit s room names = PathsFit s room (map name_held names)
+
+-- so do the directories of which is told where a node is damaged
+abbrev pub NodePathsFit : Endian → Mount → BTreeSet ℕ → ℕ → ℕ × Damage → Type 0
+NodePathsFit e m hidden room (addr, DataCrc) = contains nat_cmp hidden addr ≡ false
+    → PathsFit m.state room (names_for m.state (stretch_at e m.image addr).ino)
+NodePathsFit e m hidden room (addr, NameCrc) = depth m.state (loss_at e m.image addr).pino < room
+NodePathsFit e m hidden room (addr, _) = ⊤
