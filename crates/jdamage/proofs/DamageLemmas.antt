@@ -1,7 +1,7 @@
 -- What is told of damaged nodes, one by one.
-use Rattle.std.proofs.Common.{◌≡◌, ◌≢◌, ℕ, suc, ◌+◌, ◌-◌, ◌^◌, ◌<◌, ◌≤◌, Bool, true, List, [], ◌∷◌, ◌++◌, length, length-append, take, get_or, refl, sym, ap, ◌∙◌, arith, append_assoc, nat_lt, false, subst, append-nil, Option, Some, None}
+use Rattle.std.proofs.Common.{◌≡◌, ◌≢◌, ℕ, suc, ◌+◌, ◌-◌, ◌^◌, ◌<◌, ◌≤◌, Bool, true, List, [], ◌∷◌, ◌++◌, length, length-append, take, get_or, refl, sym, ap, ◌∙◌, arith, nat_lt, false, subst, Option, Some, None}
 use Rattle.std.specs.Io.KnownBytes.{Appends}
-use Rattle.std.specs.Prelude.{All, filter, filter_map, flat_map, map, min, sum_by, is_some, Err, IfOk, IsErr, Ok, Result, if◌then◌else◌, ◌==◌, ◌&&◌, cond}
+use Rattle.std.specs.Prelude.{filter, filter_map, flat_map, map, min, sum_by, is_some, Err, IfOk, IsErr, Ok, Result, if◌then◌else◌, ◌==◌, cond}
 use Rattle.std.specs.BTreeSet.{BTreeSet, contains}
 use Rattle.std.specs.List.{cons_option}
 use Rattle.std.specs.Ordering.{nat_cmp}
@@ -22,9 +22,9 @@ use Rattle.jnode.specs.declared.node.Damage.TheVariants.{NodeCrc, NameCrc, DataC
 use Rattle.jmount.specs.Mount.{Mount}
 use Rattle.jmount.specs.Tree.{State, all_entries, dangling}
 use Rattle.jdamage.specs.Coverage.{is_not_older}
-use Rattle.jdamage.specs.Damage.{PutsDamage, damage_text, damage_told, damage_totals, data_text, hurt_text, missing_text, node_paths, node_text, size_at, changes_nothing}
+use Rattle.jdamage.specs.Damage.{PutsDamage, damage_text, damage_told, damage_totals, data_text, hurt_text, missing_text, node_paths, node_text, size_at}
 use Rattle.jdamage.specs.Fields.{damaged_nodes, stretch_at, stretches}
-use Rattle.jdamage.specs.Lines.{hides_line, no_path_line, nothing_line, totals_shown}
+use Rattle.jdamage.specs.Lines.{hides_line, no_path_line, totals_shown}
 use Rattle.jdamage.specs.Telling.{HasListedNumber, HaveNumbers, is_kept, lost_paths, lost_text, missing_texts, named_text, own_paths, own_text, own_totals, own_whole, path_text_if, paths_of_name}
 use Rattle.jdamage.specs.Hidden.{AreHidden, IsHidden}
 use Rattle.jdamage.specs.Ways.{HeldName, NameOf, name_held, names_for, path_if, path_to_name, paths_to, root_paths}

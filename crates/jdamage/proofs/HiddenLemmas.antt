@@ -2,7 +2,7 @@
 use Rattle.std.proofs.Common.{◌≡◌, ℕ, zero, suc, ◌+◌, ◌-◌, ◌<◌, ◌≤◌, Bool, true, false, cond, List, [], ◌∷◌, ◌++◌, length, take, get_or, refl, sym, ap, ◌∙◌, subst, arith, append_assoc, append-nil, Option, Some, None}
 use Rattle.std.specs.Prelude.{All, ◌&&◌, ◌||◌, nat_lt, min, filter_map, option_to_list, IfOk, Result, Ok, Err}
 use Rattle.std.specs.List.{cons_option, list_any, list_all}
-use Rattle.std.specs.List.Sorted.{IsNonDecreasingBy, IsPermutation}
+use Rattle.std.specs.List.Sorted.{IsPermutation}
 use Rattle.std.specs.Ordering.{eq_by_cmp, nat_cmp}
 use Rattle.std.specs.Cmp.{nat_cmp_total, eq_by_cmp_equiv}
 use Rattle.std.specs.BTreeSet.{BTreeSet, contains}
@@ -22,7 +22,7 @@ use Rattle.jmount.specs.Tree.{State}
 use Rattle.jdamage.specs.Coverage.{has_place, hides_nothing, is_not_older, is_replaced, is_replaced_below}
 use Rattle.jdamage.specs.Damage.{changes_nothing, size_at}
 use Rattle.jdamage.specs.Fields.{stretch_at}
-use Rattle.jdamage.specs.Hidden.{AreHidden, AreVersions, HaveStarts, IsHidden, LostAscend, lost_if, spot_at}
+use Rattle.jdamage.specs.Hidden.{AreHidden, AreVersions, HaveStarts, LostAscend, lost_if, spot_at}
 use Rattle.jdamage.specs.Sweep.{AreBelow, Ascends, HaveEnds, Taken, spot}
 use Rattle.jdamage.specs.declared.fields.Stretch.{Stretch}
 use Rattle.jdamage.proofs.SweepLemmas.{lower}

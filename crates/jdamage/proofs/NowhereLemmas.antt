@@ -1,6 +1,6 @@
 -- A set of directories that no way leaves never reaches the root.
-use Rattle.std.proofs.Common.{◌≡◌, ◌≢◌, ℕ, zero, suc, ◌-◌, ◌<◌, Bool, true, false, cond, not, List, [], ◌∷◌, Option, Some, None, refl, sym, ap, ◌∙◌, subst, inl, inr, ◌⊎◌, arith}
-use Rattle.std.specs.Prelude.{◌==◌, ◌||◌, option_and_then, option_map, is_some, unwrap_or}
+use Rattle.std.proofs.Common.{◌≡◌, ◌≢◌, ℕ, zero, suc, Bool, true, false, cond, List, [], ◌∷◌, Option, Some, None, refl, sym, ap, ◌∙◌, subst, inl, inr, ◌⊎◌}
+use Rattle.std.specs.Prelude.{◌==◌, option_and_then, option_map, is_some, unwrap_or}
 use Rattle.std.specs.Ordering.{eq_by_cmp, nat_cmp}
 use Rattle.std.specs.Cmp.{nat_cmp_total, eq_by_cmp_equiv}
 use Rattle.std.specs.BTreeMap.{is_at}
@@ -9,7 +9,7 @@ use Rattle.std.specs.FinMap.{nat_cmp-IsAntisymmetric}
 use Rattle.std.specs.List.{list_any}
 use Rattle.std.proofs.lemmas.Bool.{true≢false, false≢true}
 use Rattle.std.proofs.lemmas.Map.Views.{tells_apart}
-use Rattle.jmount.specs.Tree.{State, ObjectOf, all_entries, directory_bits, first_directory, first_directory_in, has_bits, is_directory, is_there, object}
+use Rattle.jmount.specs.Tree.{State, ObjectOf, all_entries, directory_bits, first_directory, first_directory_in, has_bits, is_directory, object}
 use Rattle.jdamage.specs.Ways.{IsNowhere, LeadNowhere, NameOf, climbed, first_name}
 use Rattle.jdamage.proofs.WayLemmas.{climb_step, is_first_name, not_one}
 

@@ -92,7 +92,7 @@ pub(crate) fn flipped_of(
 }
 
 /// The image, with a bit flipped in the byte at each of these places.
-fn flipped(alloc: Global, places: &[usize]) -> Result<Vec<u8>, &'static str> {
+pub(crate) fn flipped(alloc: Global, places: &[usize]) -> Result<Vec<u8>, &'static str> {
     flipped_of(alloc, nodes(), places)
 }
 
@@ -110,7 +110,7 @@ pub(crate) fn put<T: Sink>(
 }
 
 /// The places that are flipped, the lines, and the totals.
-type Row = (&'static [usize], &'static str, (usize, u64, usize));
+pub(crate) type Row = (&'static [usize], &'static str, (usize, u64, usize));
 
 fn totals((damaged, paths, missing): (usize, u64, usize)) -> Totals {
     Totals {
@@ -163,7 +163,7 @@ const ROWS: [Row; 6] = [
     (&[208], DIRECTORY_GONE, (1, 0, 3)),
 ];
 
-fn rows() -> &'static [Row] {
+pub(crate) fn rows() -> &'static [Row] {
     &ROWS
 }
 

@@ -1,10 +1,9 @@
-use Rattle.std.proofs.Common.{◌++◌, ℕ, length, ap, subst, List, ◌≡◌}
+use Rattle.std.proofs.Common.{◌++◌, ℕ, length, ap, subst}
 use Rattle.std.specs.List.{flat_map}
 use Rattle.flashbase.specs.Device.{PutsPart}
 use Rattle.flashbase.proofs.DeviceLemmas.{first_failed, part_before, then_failed, then_puts}
 use Rattle.jdamage.specs.Lines.{totals_shown}
 use Rattle.jdamage.specs.Telling.{missing_texts, own_text, own_totals}
-use Rattle.jdamage.specs.declared.totals.Totals.{Totals}
 use Rattle.jdamage.proofs.damage.put_lines.Goals as goal
 
 pub returns-in_err-paths-clause-puts : goal.returns-in_err-paths-clause-puts

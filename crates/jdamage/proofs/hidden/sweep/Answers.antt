@@ -1,4 +1,4 @@
-use Rattle.std.proofs.Common.{◌≡◌, ℕ, ◌-◌, take, refl, sym, ap, ◌∙◌}
+use Rattle.std.proofs.Common.{ℕ, ◌-◌, take, refl, sym, ap, ◌∙◌}
 use Rattle.jdamage.proofs.HiddenLemmas.{swept_none, swept_more, swept_all}
 use Rattle.jdamage.proofs.LawLemmas.{no_items}
 use Rattle.jdamage.proofs.NowhereLemmas.{none_in}

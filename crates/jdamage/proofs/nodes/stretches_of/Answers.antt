@@ -1,5 +1,4 @@
-use Rattle.std.proofs.Common.{◌≡◌, ℕ, List, ◌++◌, rules, ap, ◌∙◌}
-use Rattle.std.specs.Prelude.{filter, filter_map}
+use Rattle.std.proofs.Common.{ℕ}
 use Rattle.jnode.specs.declared.node.Seen.{Seen}
 use Rattle.jdamage.specs.Fields.{stretch_in}
 use Rattle.jdamage.specs.Telling.{is_kept}

@@ -1,5 +1,5 @@
-use Rattle.std.proofs.Common.{◌≡◌, Some, ap, sym, ◌∙◌, inr, refl}
-use Rattle.jdamage.specs.Ways.{NameOf, first_name}
+use Rattle.std.proofs.Common.{◌∙◌, inr}
+use Rattle.jdamage.specs.Ways.{first_name}
 use Rattle.jdamage.proofs.NowhereLemmas.{directory_above, ends, met_more, met_nowhere, name_missing, name_there, none_met, nowhere_nameless}
 use Rattle.jdamage.proofs.nowhere.goes_up.Goals as goal
 

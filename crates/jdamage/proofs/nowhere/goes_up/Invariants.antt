@@ -1,4 +1,3 @@
-use Rattle.std.proofs.Common.{ℕ}
 use Rattle.jdamage.proofs.NowhereLemmas.{GoOn}
 use Rattle.jdamage.proofs.nowhere.goes_up.Given as goal
 

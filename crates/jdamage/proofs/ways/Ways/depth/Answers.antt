@@ -1,4 +1,4 @@
-use Rattle.std.proofs.Common.{◌≡◌, ◌-◌, ◌∷◌, [], Some, None, arith, sym, ap, ◌∙◌}
+use Rattle.std.proofs.Common.{◌≡◌, ◌∷◌, [], Some, None, arith, sym, ap, ◌∙◌}
 use Rattle.jdamage.specs.Ways.{NameOf, first_name, path_below, path_length}
 use Rattle.jdamage.proofs.WayLemmas.{climb_gone, climb_root, climb_nameless, climb_on, climb_none}
 use Rattle.jdamage.proofs.ways.Ways.depth.Goals as goal

@@ -1,5 +1,5 @@
 use Rattle.std.proofs.Common.{◌≡◌, ◌≤◌, ◌+◌, ℕ, List, [], length}
-use Rattle.jdamage.specs.Ways.{climbed, path_below, steps_at_most}
+use Rattle.jdamage.specs.Ways.{climbed, path_below}
 use Rattle.jdamage.proofs.ways.Ways.depth.Given as goal
 
 abbrev pub invariant-loop-left : goal.invariant-loop-left
