@@ -41,7 +41,7 @@ def try_tests(shim, built):
     passed, failed = 0, 0
     for folder in sorted(glob.glob(f"{ROOT}/crates/*_tests")):
         crate = os.path.basename(folder)
-        if not os.path.exists(f"{folder}/src/growth.rt"):
+        if not glob.glob(f"{folder}/src/**/growth.rt", recursive=True):
             continue
         binary = f"{built}/crates/{crate}/out/{crate}_tests"
         for name in tests_of(binary):

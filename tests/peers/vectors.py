@@ -1,5 +1,5 @@
 #!/usr/bin/env python3
-"""Writes crates/jcompr_tests/src/vectors.rt: tests/peers/vectors.py
+"""Writes crates/format_tests/src/compr/vectors.rt: tests/peers/vectors.py
 
 Streams of zlib at each level and strategy and flush, of liblzo2's packers, of a packer of RTIME, and streams that are written bit
 by bit for the edges of the formats. Each is a line of METHOD SIZE DATA CHECKSUM, where the checksum is that of the content as
@@ -391,7 +391,7 @@ def main():
         ("STREAMS", "METHOD SIZE DATA CHECKSUM of other streams, '-' for those that are refused.", lines.others),
         ("CHANGED", "METHOD SIZE DATA MASK CHECKSUM,CHECKSUM,.. with each byte changed in turn.", changed()),
     )
-    with open(f"{ROOT}/crates/jcompr_tests/src/vectors.rt", "w", encoding="utf-8") as file:
+    with open(f"{ROOT}/crates/format_tests/src/compr/vectors.rt", "w", encoding="utf-8") as file:
         file.write(HEAD + "\n".join(constant(*table) for table in tables))
     print(", ".join(f"{len(table[2])} {table[0]}" for table in tables))
 

@@ -1,0 +1,7 @@
+//! Tests of `flashbase`: values from outside, and devices that fail.
+
+mod checksums;
+mod growth;
+mod parts;
+mod sinks;
+mod sources;

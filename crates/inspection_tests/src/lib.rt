@@ -1,0 +1,13 @@
+//! Tests of the crates that look into an image, a module for each.
+#![tactic(auto)]
+
+#[cfg(test)]
+mod checks;
+#[cfg(test)]
+mod cuts;
+#[cfg(test)]
+mod damage;
+#[cfg(test)]
+mod diff;
+#[cfg(test)]
+mod info;

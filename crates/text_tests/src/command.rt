@@ -1,0 +1,8 @@
+//! Tests of `jcommand`: what command lines ask for, what is answered to the others, and the exit
+//! statuses.
+
+mod command_lines;
+mod decompressing;
+mod folders;
+mod growth;
+mod packing;

@@ -1,0 +1,130 @@
+//! Command lines that ask for a folder.
+
+use crate::checks::{equal, equal_at, expect_at};
+use crate::command::command_lines::answer_to;
+use jcommand::{Request, RequestFault, request};
+use std::alloc::Global;
+use std::test::Fail;
+
+/// Words, and what they ask for.
+fn asked() -> &'static [(&'static str, &'static str)] {
+    &[
+        (
+            "t extract a.img b",
+            "extract 65536 false false false a.img b",
+        ),
+        (
+            "t extract --owners a.img --quiet b --endian=big --block 8192",
+            "extract 8192 true true true a.img b",
+        ),
+        (
+            "t extract a.img b /c --owners",
+            "extract 65536 false true false a.img b/c",
+        ),
+        ("t listing a", "listing 1 1 1 false a"),
+        (
+            "t listing --owner 0 65535 --time 4294967295 a",
+            "listing 0 65535 4294967295 false a",
+        ),
+        ("t listing a --quiet --owner 007 8", "listing 7 8 1 true a"),
+        ("t listing --time=0 -- --time", "listing 1 1 0 false --time"),
+    ]
+}
+
+#[test]
+fn args_that_ask_for_a_folder(rt: HostRuntime) -> Result<(), Fail> {
+    for &(line, wanted) in asked() {
+        let answer = answer_to(rt.alloc(), line)?;
+        equal_at(&rt, answer.as_str(), wanted, line);
+    }
+    Ok(())
+}
+
+/// Words that are wrong, and a part of what is told of them.
+fn wrong() -> &'static [(&'static str, &'static str)] {
+    &[
+        ("t listing", "DIR"),
+        ("t listing a b", "b"),
+        ("t listing --owner 1 a", "--owner"),
+        ("t listing --owner 1 2 3 a", "a"),
+        (
+            "t listing --owner 65536 2 a",
+            "invalid value '65536' for '--owner <UID> <GID>'",
+        ),
+        (
+            "t listing --owner 1 x a",
+            "invalid value 'x' for '--owner <UID> <GID>'",
+        ),
+        ("t listing --time x a", "invalid value 'x' for '--time <T>'"),
+        ("t listing --time 4294967296 a", "below 4294967296"),
+        ("t listing --block 4096 a", "--block"),
+        ("t extract a.img", "DIR"),
+        ("t extract a.img b /c /d", "'/d'"),
+        ("t extract --owner 1 2 a.img b", "--owner"),
+        (
+            "t extract --block x a.img b",
+            "invalid value 'x' for '--block <N>'",
+        ),
+    ]
+}
+
+#[test]
+fn args_that_are_wrong_of_a_folder(rt: HostRuntime) -> Result<(), Fail> {
+    for &(line, part) in wrong() {
+        let answer = answer_to(rt.alloc(), line)?;
+        let is_right = answer.starts_with("wrong error: ") && answer.contains(part);
+        expect_at(&rt, is_right, (line, answer));
+    }
+    Ok(())
+}
+
+/// The image that `check` is asked for, or what the words ask for else.
+fn image_of<'a>(alloc: Global, words: &'a [&'a str]) -> &'a str {
+    match request(alloc, words) {
+        Ok(Request::Check { image, .. }) => image,
+        Ok(_) => "another request",
+        Err(RequestFault::Usage { .. }) => "wrong",
+        Err(RequestFault::Help { .. }) => "help",
+        Err(RequestFault::OutOfMemory) => "no memory",
+    }
+}
+
+/// Words, and the image that they ask for.
+fn images() -> &'static [(&'static [&'static str], &'static str)] {
+    &[
+        (&["t", "check", "a.img", "--shape"], "a.img"),
+        (&["t", "cat", "a.img", "/b"], "another request"),
+        (&["t", "extract", "a.img", "b"], "wrong"),
+        (&["t", "listing", "a", "--quiet"], "wrong"),
+        (&["t", "decompress", "a.img", "b"], "another request"),
+        (&["t", "pack", "a", "b.img"], "wrong"),
+        (&["t", "info", "--", "a.img"], "wrong"),
+        (&["t", "compress", "a.img", "b"], "wrong"),
+        (&["t", "diff", "a.img", "b.img"], "wrong"),
+        (&["t", "check", "a.img", "b"], "wrong"),
+        (&["t", "check", "a.img", "--help"], "help"),
+    ]
+}
+
+#[test]
+fn a_request_is_of_an_image(rt: HostRuntime) {
+    for &(words, wanted) in images() {
+        equal(&rt, image_of(rt.alloc(), words), wanted);
+    }
+}
+
+/// What is to be done about the file that is written is no request of an image alone.
+#[test]
+fn a_request_has_no_placing(rt: HostRuntime) {
+    let examples = [
+        (["t", "build", "--blocks=2", "a", "b"], "another request"),
+        (["t", "decompress", "a.img", "b", "--atomic"], "wrong"),
+    ];
+    for (words, wanted) in &examples {
+        equal(&rt, image_of(rt.alloc(), words), *wanted);
+    }
+    for flag in ["--pad", "--atomic"] {
+        let words = ["t", "build", "--blocks=2", flag, "a", "b"];
+        equal_at(&rt, image_of(rt.alloc(), &words), "wrong", flag);
+    }
+}

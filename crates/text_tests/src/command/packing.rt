@@ -1,0 +1,226 @@
+//! Command lines that ask for an image of a folder, or say what is done about the file that is
+//! written.
+
+use crate::checks::{equal_at, expect_at};
+use crate::command::command_lines::{answer_to, is_text, is_wrong, order_name};
+use jcommand::{Options, Owner, Packing};
+use std::alloc::{AllocError, Global};
+use std::test::Fail;
+
+/// What is to be packed, as the values in the order of the command's help; `-` for one that may be
+/// left out and is.
+pub(crate) fn shown_packing(alloc: Global, asked: Packing<'_>) -> Result<String, AllocError> {
+    let Options { geometry, endian } = asked.options;
+    let block = geometry.block;
+    let order = order_name(endian);
+    let page = asked.page.size();
+    let blocks = match asked.blocks {
+        Some(blocks) => format!(in alloc; "{blocks}")?,
+        None => String::from_str(alloc, "-")?,
+    };
+    let owner = match asked.owner {
+        Some(Owner { uid, gid }) => format!(in alloc; "{uid} {gid}")?,
+        None => String::from_str(alloc, "- -")?,
+    };
+    let time = match asked.time {
+        Some(time) => format!(in alloc; "{time}")?,
+        None => String::from_str(alloc, "-")?,
+    };
+    let weak = if asked.weak { " weak" } else { "" };
+    let quiet = if asked.quiet { " quiet" } else { "" };
+    let folder = asked.folder;
+    let output = asked.output;
+    let flash = format!(in alloc; "{block} {order} {blocks} {page}")?;
+    format!(in alloc; "pack {flash} {owner} {time} {folder} {output}{weak}{quiet}")
+}
+
+/// Lines that ask for an image of a folder, and what they ask for.
+const PACKED: [(&str, &str); 8] = [
+    ("t pack a b.img", "pack 65536 little - 4096 - - - a b.img"),
+    (
+        "t pack a --blocks 8 b.img --time 0",
+        "pack 65536 little 8 4096 - - 0 a b.img",
+    ),
+    (
+        "t pack --weak a b.img",
+        "pack 65536 little - 4096 - - - a b.img weak",
+    ),
+    (
+        "t pack a b.img --quiet",
+        "pack 65536 little - 4096 - - - a b.img quiet",
+    ),
+    (
+        "t pack --pad a b.img",
+        "pack 65536 little - 4096 - - - a b.img padded",
+    ),
+    (
+        "t pack --atomic -- --pad --weak",
+        "pack 65536 little - 4096 - - - --pad --weak atomic",
+    ),
+    (
+        "t pack --blocks=0 --owner 0 65535 b.img a",
+        "pack 65536 little 0 4096 0 65535 - b.img a",
+    ),
+    (
+        "t pack --owner 7 8 --time=9 --quiet --blocks=4294967295 --page 8192 --weak --pad --atomic \
+         --block=8192 --endian big a b.img",
+        "pack 8192 big 4294967295 8192 7 8 9 a b.img weak quiet padded atomic",
+    ),
+];
+
+fn packed() -> &'static [(&'static str, &'static str)] {
+    &PACKED
+}
+
+#[test]
+fn args_that_pack(rt: HostRuntime) -> Result<(), Fail> {
+    for &(line, wanted) in packed() {
+        let answer = answer_to(rt.alloc(), line)?;
+        equal_at(&rt, answer.as_str(), wanted, line);
+    }
+    Ok(())
+}
+
+/// Lines of other commands that say what is done about the file that is written.
+const PLACED: [(&str, &str); 8] = [
+    (
+        "t build --blocks 8 --pad a.txt b.img",
+        "build 65536 little 8 4096 a.txt b.img padded",
+    ),
+    (
+        "t build --blocks 8 a.txt b.img --atomic",
+        "build 65536 little 8 4096 a.txt b.img atomic",
+    ),
+    (
+        "t build --weak --atomic --blocks 8 --pad a.txt b.img",
+        "weak build 65536 little 8 4096 a.txt b.img padded atomic",
+    ),
+    (
+        "t append --blocks 8 --pad a.img b.txt c.img",
+        "append 65536 little 8 4096 a.img b.txt c.img padded",
+    ),
+    (
+        "t append --atomic --decompress --blocks 8 a.img b.txt c.img",
+        "append 65536 little 8 4096 a.img b.txt c.img decompressed atomic",
+    ),
+    (
+        "t decompress --atomic a.img b.img",
+        "decompress 65536 little a.img b.img atomic",
+    ),
+    (
+        "t decompress --atomic --clashes higher a.img b.img",
+        "apart 65536 little a.img b.img atomic",
+    ),
+    (
+        "t compress a.img --atomic b.img",
+        "compress 65536 little a.img b.img atomic",
+    ),
+];
+
+fn placed() -> &'static [(&'static str, &'static str)] {
+    &PLACED
+}
+
+#[test]
+fn args_that_place(rt: HostRuntime) -> Result<(), Fail> {
+    for &(line, wanted) in placed() {
+        let answer = answer_to(rt.alloc(), line)?;
+        equal_at(&rt, answer.as_str(), wanted, line);
+    }
+    Ok(())
+}
+
+/// Lines that ask for nothing, and a part of the text that says why.
+const WRONG: [(&str, &str); 21] = [
+    ("t pack", "<DIR>"),
+    ("t pack a", "<OUT>"),
+    ("t pack a b c", "'c'"),
+    ("t pack --decompress a b", "--decompress"),
+    ("t pack --owners a b", "--owners"),
+    ("t pack --on c a b", "--on"),
+    ("t pack --pad --pad a b", "--pad"),
+    ("t pack --atomic=yes a b", "--atomic"),
+    ("t pack --block x a b", "'x' for '--block <N>'"),
+    (
+        "t pack --endian middle a b",
+        "'middle' for '--endian <ORDER>'",
+    ),
+    ("t pack --blocks= a b", "'' for '--blocks <N>'"),
+    (
+        "t pack --blocks 4294967296 a b",
+        "'4294967296' for '--blocks <N>'",
+    ),
+    ("t pack --blocks x --page 1 a b", "'x' for '--blocks <N>'"),
+    ("t pack --page 4095 a b", "'4095' for '--page <N>'"),
+    ("t pack --page 1 --owner 1 x a b", "'1' for '--page <N>'"),
+    (
+        "t pack --owner 1 x --time y a b",
+        "'x' for '--owner <UID> <GID>'",
+    ),
+    (
+        "t pack --owner 65536 1 a b",
+        "'65536' for '--owner <UID> <GID>'",
+    ),
+    (
+        "t pack --time 4294967296 a b",
+        "'4294967296' for '--time <T>'",
+    ),
+    ("t decompress --pad a.img b.img", "--pad"),
+    ("t extract --atomic a.img b", "--atomic"),
+    ("t cuts --atomic --blocks 8 a", "--atomic"),
+];
+
+fn wrong() -> &'static [(&'static str, &'static str)] {
+    &WRONG
+}
+
+#[test]
+fn args_that_pack_wrongly(rt: HostRuntime) -> Result<(), Fail> {
+    for &(line, part) in wrong() {
+        let answer = answer_to(rt.alloc(), line)?;
+        expect_at(&rt, is_wrong(answer.as_str(), part), line);
+    }
+    Ok(())
+}
+
+/// Lines that ask for help, and a part of it.
+const HELP: [(&str, &str); 9] = [
+    ("t pack --help", "Usage: t pack [OPTIONS] <DIR> <OUT>"),
+    (
+        "t help pack",
+        "It writes what build makes of the listing of DIR",
+    ),
+    (
+        "t build --help",
+        "Fill OUT with 0xFF to the end of the flash",
+    ),
+    (
+        "t append --help",
+        "Leave an old OUT as it was unless all goes well",
+    ),
+    ("t decompress --help", "--atomic"),
+    ("t compress --help", "--atomic"),
+    ("t --help", "jffs2_image pack tree flash.img"),
+    ("t --help", "damage a loss"),
+    (
+        "t --help",
+        "or decompress\n     --clashes left something out",
+    ),
+];
+
+fn help() -> &'static [(&'static str, &'static str)] {
+    &HELP
+}
+
+#[test]
+fn help_on_packing(rt: HostRuntime) -> Result<(), Fail> {
+    for &(line, part) in help() {
+        let answer = answer_to(rt.alloc(), line)?;
+        expect_at(
+            &rt,
+            is_text(answer.as_str(), "help ", [part, "Exit status:"]),
+            line,
+        );
+    }
+    Ok(())
+}
