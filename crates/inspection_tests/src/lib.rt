@@ -11,3 +11,5 @@ mod damage;
 mod diff;
 #[cfg(test)]
 mod info;
+#[cfg(test)]
+mod report;
