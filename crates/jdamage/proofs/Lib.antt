@@ -13,3 +13,4 @@ pub mod StateWithoutLemmas
 pub mod ImageWithoutLemmas
 pub mod WouldChangeLemmas
 pub mod RoomLemmas
+pub mod RangeLemmas

@@ -9,3 +9,4 @@ pub mod Telling
 pub mod Ways
 pub mod Hidden
 pub mod Sweep
+pub mod Ranges

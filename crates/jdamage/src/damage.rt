@@ -19,7 +19,7 @@ use crate::fields::{loss_at, stretch_at};
 use crate::firsts::Name;
 use crate::hidden::hidden_of;
 use crate::lines::put_totals;
-use crate::nodes::{damaged_nodes, stretches_of};
+use crate::nodes::{damaged_nodes, stretches_beside};
 use crate::room::{deepest, deepest_of_all};
 use crate::telling::{put_missing_name, put_node};
 use crate::totals::Totals;
@@ -221,8 +221,9 @@ fn told(put: Result<Totals, DeviceFault>) -> Result<Totals, DamageFault>
 /// line for each name whose object is missing, and the totals, which are the answer. A damaged node
 /// hides nothing where the object is the same whatever it said. The image was mounted in `E`'s
 /// order and with this geometry. Each line goes out as it is made. Before the first, where there
-/// is damage, it takes memory for the damaged nodes, for the sound ones of their objects, for the
-/// names of these, for the directories on the ways up from what is told, and for one path.
+/// is damage, it takes memory for the damaged nodes, for the sound ones of their objects that touch
+/// what they were for, for the names of these objects, for the directories on the ways up from what
+/// is told, and for one path.
 ///
 /// # Errors
 /// `OutOfMemory`, and nothing was put. `Output`: the sink failed, and took a beginning.
@@ -243,7 +244,7 @@ pub fn put_damage<E: Order, T: Sink>(
         return told(put_none(sink));
     }
     let numbers = numbers_of::<E>(alloc, image, &damaged)?;
-    let sound = stretches_of::<E>(alloc, image, geometry, &numbers)?;
+    let sound = stretches_beside::<E>(alloc, image, geometry, &numbers, &damaged)?;
     let hidden = hidden_of::<E>(alloc, mounted, sound, &damaged)?;
     let dirs = dirs_of::<E>(alloc, mounted, &numbers, &damaged)?;
     let ways = Ways::new(alloc, mounted, &numbers, &dirs)?;

@@ -7,8 +7,9 @@
 //! is missing, and the totals.
 //!
 //! `specs/Fields.antt` says what is read of a damaged node, `specs/Coverage.antt` when it hides
-//! nothing, `specs/Ways.antt` which paths lead to a number, `specs/Lines.antt` how the lines are
-//! spelled, and `specs/Damage.antt` which lines there are. `laws` says what follows from these.
+//! nothing, `specs/Ranges.antt` on which sound nodes that hangs, `specs/Ways.antt` which paths lead
+//! to a number, `specs/Lines.antt` how the lines are spelled, and `specs/Damage.antt` which lines
+//! there are. `laws` says what follows from these.
 #![tactic(auto)]
 
 mod coverage;
@@ -22,6 +23,7 @@ pub mod laws;
 mod lines;
 mod nodes;
 mod nowhere;
+mod ranges;
 mod room;
 mod telling;
 mod totals;

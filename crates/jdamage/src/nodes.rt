@@ -1,15 +1,19 @@
 //! The nodes of an image that matter where some are damaged.
 
-ghost use Rattle.std.specs.Prelude.{◌≡◌, ◌++◌, IfOk, OnOk, filter, option_to_list};
+ghost use Rattle.std.specs.Prelude.{◌≡◌, ◌++◌, ℕ, List, ◌≤◌, IfOk, OnOk, filter, filter_map, length, option_to_list};
+ghost use Rattle.jscan.specs.Image.{greatest_image};
 ghost use Rattle.jscan.specs.Scans.{IsScannable};
 ghost use Rattle.jdamage.specs.Fields.{damaged_if, damaged_nodes, stretch_in, stretches};
+ghost use Rattle.jdamage.specs.Ranges.{FindsAll, KeepsWhatMatters, Sifted, range_if};
 ghost use Rattle.jdamage.specs.Telling.{is_kept};
+ghost use Rattle.jdamage.specs.declared.fields.Stretch.{Stretch};
 
 use crate::fields::{Stretch, stretch_of};
+use crate::ranges::{Range, Tops, add_tops, keep, ranges_of};
 use jnode::{Damage, Order, Seen};
 use jscan::{Geometry, Sightings};
 use std::alloc::{AllocError, Global};
-use std::collections::BTreeSet;
+use std::collections::{BTreeMap, BTreeSet};
 
 /// Adds a node that is damaged.
 fn push_damaged(
@@ -49,20 +53,25 @@ pub(crate) fn damaged_nodes<E: Order>(
     Ok(nodes)
 }
 
-/// Adds what a sound inode node has, where it is of one of these objects.
-fn push_stretch(
-    found: &mut Vec<Stretch>,
+/// Keeps what a sound inode node has, where it is of one of these objects and matters.
+fn keep_stretch(
+    ranges: &[Range],
     numbers: &BTreeSet<u32>,
     seen: &Seen<'_>,
+    found: &mut Vec<Stretch>,
+    tops: &mut Tops,
 ) -> Result<(), AllocError>
-    ensures { OnOk result (found.new.items ≡ found.old.items
-        ++ filter (is_kept numbers.now) (option_to_list (stretch_in seen.now))) }
+    ensures { OnOk result ((lost : List (ℕ × ℕ)) (all rest : List Stretch)
+        → FindsAll lost ranges.now
+        → Sifted lost all (filter (is_kept numbers.now) (option_to_list (stretch_in seen.now))
+        ++ rest) found.old.items tops.old
+        → Sifted lost all rest found.new.items tops.new) }
 {
     match seen {
         Seen::Inode(node) => {
             let stretch = stretch_of(node);
             if numbers.contains(&stretch.ino) {
-                found.push(stretch)?;
+                keep(ranges, stretch, found, tops)?;
             }
             Ok(())
         }
@@ -70,23 +79,45 @@ fn push_stretch(
     }
 }
 
-/// What the sound inode nodes of these objects have.
-pub(crate) fn stretches_of<E: Order>(
+/// What the sound inode nodes of these objects have, as far as it matters beside lost ranges.
+fn stretches_of<E: Order>(
     alloc: Global,
     image: &[u8],
     geometry: Geometry,
     numbers: &BTreeSet<u32>,
+    ranges: &[Range],
 ) -> Result<Vec<Stretch>, AllocError>
     requires { IsScannable geometry.block image.now }
-    ensures { IfOk result (λ found. found.items
-        ≡ filter (is_kept numbers.now) (stretches E.order geometry.block image.now)) }
+    ensures { IfOk result (λ found. (lost : List (ℕ × ℕ)) → FindsAll lost ranges.now
+        → KeepsWhatMatters lost
+        (filter (is_kept numbers.now) (stretches E.order geometry.block image.now)) found.items) }
 {
     let mut found = Vec::new(alloc);
+    let mut tops = BTreeMap::new(alloc);
     let Ok(sightings) = Sightings::<E>::new(image, geometry) else {
         return Ok(found);
     };
     for (_, seen) in sightings {
-        push_stretch(&mut found, numbers, &seen)?;
+        keep_stretch(ranges, numbers, &seen, &mut found, &mut tops)?;
     }
+    add_tops(&mut found, tops)?;
     Ok(found)
+}
+
+/// What the sound inode nodes of these objects have, as far as it matters beside damaged nodes.
+pub(crate) fn stretches_beside<E: Order>(
+    alloc: Global,
+    image: &[u8],
+    geometry: Geometry,
+    numbers: &BTreeSet<u32>,
+    damaged: &[(u32, Damage)],
+) -> Result<Vec<Stretch>, AllocError>
+    requires scannable { IsScannable geometry.block image.now }
+    requires image { length image.now ≤ greatest_image }
+    ensures { IfOk result (λ found.
+        KeepsWhatMatters (filter_map (range_if E.order image.now) damaged.now)
+        (filter (is_kept numbers.now) (stretches E.order geometry.block image.now)) found.items) }
+{
+    let ranges = ranges_of::<E>(alloc, image, damaged)?;
+    stretches_of::<E>(alloc, image, geometry, numbers, &ranges)
 }
