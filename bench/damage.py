@@ -1,10 +1,11 @@
 #!/usr/bin/env python3
 """What `damage` costs beside `check`: python3 bench/damage.py FOLDER [COUNT] [RUNS] [PROGRAM]
 
-Makes images of three kinds, each with COUNT (16,000, where it is not given) and with twice as many:
+Makes images of four kinds, each with COUNT (16,000, where it is not given) and with twice as many:
 of files in folders of 100, eight folders deep, where every fourth has lost its only node; of one
-file, of whose nodes every second is damaged, and half of these hide nothing; and of folders that lie
-in one another in a ring, each with a file that has lost its only node. Also one of files without
+file, of whose nodes every second is damaged, and half of these hide nothing; of one file that grows
+by each node, of which sixteen are damaged; and of folders that lie in one another in a ring, each
+with a file that has lost its only node. Also one of files without
 damage. Runs `check` and `damage` on each; of each the least processor time over the runs counts. It
 prints the times, each also as a multiple of that of `check`, the memory, and how `damage` grew from
 COUNT to twice COUNT.
@@ -57,6 +58,15 @@ def one_file(count):
         yield make.inode(2, place + 1, DATA, size, offset=offset), half <= place < 2 * half
 
 
+def log(count):
+    """One file that grows by each node. Sixteen of them are damaged."""
+    make = images.Maker("<")
+    yield make.entry(1, 1, 2, b"file"), False
+    for place in range(count):
+        offset = place * len(DATA)
+        yield make.inode(2, place + 1, DATA, offset + len(DATA), offset=offset), place % (count // 16) == 0
+
+
 def ring(count):
     """Folders, each in the one before it and the first in the last, with a file in each."""
     make, half = images.Maker("<"), count // 2
@@ -68,7 +78,7 @@ def ring(count):
         yield make.inode(file, 1, DATA, len(DATA)), True
 
 
-KINDS = {"files": nodes_of, "sound": sound_of, "one file": one_file, "ring": ring}
+KINDS = {"files": nodes_of, "sound": sound_of, "one file": one_file, "log": log, "ring": ring}
 
 
 def image_of(kind, count):

@@ -74,7 +74,8 @@ pub(crate) fn ranges_of<E: Order>(
     reached(alloc, &ranges)
 }
 
-/// Whether a version's range may touch a lost one: it does where it touches one. O(log n).
+/// Whether a version's range touches a lost one. Where it touches none, the answer may be either:
+/// no more hangs on it than memory. O(log n).
 fn touches(ranges: &[Range], stretch: &Stretch) -> bool
     ensures { (lost : List (ℕ × ℕ)) → FindsAll lost ranges.now → TouchesOne lost stretch.now
         → result ≡ true }
@@ -120,7 +121,7 @@ pub(crate) fn keep(
     note_top(tops, stretch)
 }
 
-/// Adds the highest version of each object.
+/// Adds one of the highest version of each object.
 pub(crate) fn add_tops(found: &mut Vec<Stretch>, tops: Tops) -> Result<(), AllocError>
     ensures { OnOk result ((lost : List (ℕ × ℕ)) (all : List Stretch)
         → Sifted lost all [] found.old.items tops
