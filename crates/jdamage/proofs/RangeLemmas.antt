@@ -13,7 +13,7 @@ use Rattle.std.proofs.lemmas.Bool.Decides.{nat_tests}
 use Rattle.std.proofs.lemmas.Option.{same_Some}
 use Rattle.std.proofs.lemmas.List.{length_push, get_or_append_left, get_or_push, get_or_default}
 use Rattle.std.proofs.lemmas.List.Elements.{Contains-get_or, Contains-append_left, Contains-push, Contains-push_cases, filter-append}
-use Rattle.std.proofs.lemmas.List.Sorted.{Contains-permutation}
+use Rattle.std.proofs.lemmas.List.Sorted.{Contains-permutation, IsPermutation-sym}
 use Rattle.std.proofs.lemmas.List.Folds.{Any-from_list_any, list_any-from_Any, list_all-append}
 use Rattle.jdamage.proofs.NodeLemmas.{head_first}
 use Rattle.flashbase.specs.Lists.{below}
@@ -36,6 +36,8 @@ pub record Reached (ranges found : List (ℕ × ℕ)) (i far : ℕ) : Type 0 whe
   pub starts : (k : ℕ) → k < i → (get_or found k (0, 0)).0 ≡ (get_or ranges k (0, 0)).0
   pub ends : (j k : ℕ) → j ≤ k → k < i → (get_or ranges j (0, 0)).1 ≤ (get_or found k (0, 0)).1
   pub most : (j : ℕ) → j < i → (get_or ranges j (0, 0)).1 ≤ far
+  pub real : (k : ℕ) → k < i → (j : ℕ) × (j ≤ k) × ((get_or ranges j (0, 0)).1 ≡ (get_or found k (0, 0)).1)
+  pub farthest : (0 < i → (j : ℕ) × (j < i) × ((get_or ranges j (0, 0)).1 ≡ far)) × (i ≡ 0 → far ≡ 0)
 
 pub reached_none : (ranges : List (ℕ × ℕ)) → Reached ranges [] 0 0
 reached_none ranges = record {
@@ -43,6 +45,8 @@ reached_none ranges = record {
   starts = λ k less. absurd (omega (arith, less));
   ends = λ j k most less. absurd (omega (arith, less));
   most = λ j less. absurd (omega (arith, less));
+  real = λ k less. absurd (omega (arith, less));
+  farthest = (λ some. absurd (omega (arith, some)), λ is. refl);
 }
 
 pub reached_more : (ranges found new : List (ℕ × ℕ)) (i far farther : ℕ) (x : ℕ × ℕ) → Reached ranges found i far → x ≡ get_or ranges i (0, 0) → farther ≡ max far x.1
@@ -52,8 +56,21 @@ reached_more ranges found new i far farther x r is more added = record {
   starts = λ k less. by_start k less (nat_lt k i) refl;
   ends = λ j k most less. by_end j k most less (nat_lt k i) refl;
   most = λ j less. by_most j less (nat_lt j i) refl;
+  real = λ k less. by_real k less (nat_lt k i) refl;
+  farthest = (λ some. end_real, λ none. absurd (omega (arith, none)));
 }
   where
+    end_real : (j : ℕ) × (j < i + 1) × ((get_or ranges j (0, 0)).1 ≡ farther)
+    end_real = by (nat_le far x.1) refl
+      where
+        some : nat_le far x.1 ≡ false → (b : Bool) → nat_lt 0 i ≡ b → 0 < i
+        some e true is = ltb-true _ _ is
+        some e false is = let none : i ≡ 0 = omega (arith, ltb-false _ _ is) in absurd (omega (arith, leb-false _ _ e, r.farthest.1 none))
+
+        by : (b : Bool) → nat_le far x.1 ≡ b → (j : ℕ) × (j < i + 1) × ((get_or ranges j (0, 0)).1 ≡ farther)
+        by true e = let end : x.1 ≡ farther = omega (arith, leb-true _ _ e, more) in (i, omega arith, ap (λ (y : ℕ × ℕ). y.1) (sym is) ∙ end)
+        by false e = let was = r.farthest.0 (some e (nat_lt 0 i) refl) in (was.0, omega (arith, was.1), omega (arith, was.2, leb-false _ _ e, more))
+
     older : (k : ℕ) → k < i → get_or new k (0, 0) ≡ get_or found k (0, 0)
     older k less = ap (λ (l : List (ℕ × ℕ)). get_or l k (0, 0)) added ∙ get_or_append_left found ((x.0, farther) ∷ []) (0, 0) k (omega (arith, less, r.long))
 
@@ -86,6 +103,15 @@ reached_more ranges found new i far farther x r is more added = record {
         let end : (get_or new k (0, 0)).1 ≡ farther = ap (λ (n : ℕ). (get_or new n (0, 0)).1) same ∙ ap (λ (y : ℕ × ℕ). y.1) last in
         omega (arith, farthest j (omega (arith, most, less)), end)
 
+    by_real : (k : ℕ) → k < i + 1 → (b : Bool) → nat_lt k i ≡ b → (j : ℕ) × (j ≤ k) × ((get_or ranges j (0, 0)).1 ≡ (get_or new k (0, 0)).1)
+    by_real k less true e =
+        let was = r.real k (ltb-true _ _ e) in
+        (was.0, was.1, was.2 ∙ ap (λ (y : ℕ × ℕ). y.1) (sym (older k (ltb-true _ _ e))))
+    by_real k less false e =
+        let same : k ≡ i = omega (arith, ltb-false _ _ e, less) in
+        let end : (get_or new k (0, 0)).1 ≡ farther = ap (λ (n : ℕ). (get_or new n (0, 0)).1) same ∙ ap (λ (y : ℕ × ℕ). y.1) last in
+        (end_real.0, omega (arith, end_real.1, same), end_real.2 ∙ sym end)
+
     by_most : (j : ℕ) → j < i + 1 → (b : Bool) → nat_lt j i ≡ b → (get_or ranges j (0, 0)).1 ≤ farther
     by_most j less b e = farthest j less
 
@@ -111,6 +137,11 @@ reached_all ranges found i far r whole ascends = record {
             let end = r.ends k j most (omega (arith, less, r.long)) in
             omega (arith, end, ap (λ (y : ℕ × ℕ). y.1) is),
       );
+  real = λ k less.
+      let low : k < i = omega (arith, less, r.long) in
+      let from = r.real k low in
+      let order = ascends from.0 k (0, 0) from.1 (omega (arith, low, whole)) in
+      (get_or ranges from.0 (0, 0), Contains-get_or ranges from.0 (0, 0) (omega (arith, from.1, low, whole)), omega (arith, order, r.starts k low), from.2);
 }
 
 -- in whatever order the lost ones are
@@ -118,6 +149,7 @@ pub finds_moved : (lost sorted found : List (ℕ × ℕ)) → IsPermutation lost
 finds_moved lost sorted found moved f = record {
   ascend = f.ascend;
   each = λ r there. f.each r (Contains-permutation lost sorted r moved there);
+  real = λ k less. let from = f.real k less in (from.0, Contains-permutation sorted lost from.0 (IsPermutation-sym lost sorted moved) from.1, from.2, from.3);
 }
 
 pub if_found : {A : Type 0} {Y : Type 0} (r : Result (Vec (ℕ × ℕ) A) Y) (ranges lost sorted : List (ℕ × ℕ)) → ranges ≡ sorted → IsPermutation lost sorted
@@ -144,6 +176,16 @@ pub touched : (lost ranges : List (ℕ × ℕ)) (s : Stretch) (from to begin cou
 touched lost ranges s from to begin count f point inside ends starts begins t =
     let first : from ≡ spot s.ino s.from = starts ∙ ap (spot s.ino) begins in
     found_there lost ranges from to count f (point f.ascend) inside t.0 t.1 (subst (λ (n : ℕ). t.0.0 ≤ n) (sym ends) t.2) (subst (λ (n : ℕ). n ≤ t.0.1) (sym first) t.3)
+
+-- and where one of these ends no earlier, one is touched
+pub touched_one : (lost ranges : List (ℕ × ℕ)) (s : Stretch) (from to begin count k : ℕ) → FindsAll lost ranges → (IsNonDecreasingBy (λ r. r.0) ranges → IsPartitionPoint (λ r. nat_le r.0 to ≡ true) (λ r. nat_le r.0 to ≡ false) ranges count)
+    → count ≤ length ranges → to ≡ spot s.ino s.to → from ≡ spot s.ino begin → begin ≡ s.from → 0 < count → k ≡ count - 1 → nat_le from (get_or ranges k (0, 0)).1 ≡ true → TouchesOne lost s
+touched_one lost ranges s from to begin count k f point inside ends starts begins some is high =
+    let before : k < count = omega (arith, some, is) in
+    let real = f.real k (omega (arith, before, inside)) in
+    let low = leb-true _ _ ((point f.ascend).0 k (0, 0) (omega arith) before) in
+    let first : from ≡ spot s.ino s.from = starts ∙ ap (spot s.ino) begins in
+    (real.0, real.1, omega (arith, real.2, low, ends), omega (arith, real.3, leb-true _ _ high, first))
 
 -- ---- sifting
 

@@ -20,12 +20,14 @@ range_if e image (addr, DataCrc) = Some (range_of (stretch_at e image addr))
 range_if e image (addr, _) = None
 
 -- Ranges in the order of their starts. For each lost one there is one that begins no later, from
--- which on none ends earlier.
+-- which on none ends earlier; and each ends with a lost one that begins no later.
 pub record FindsAll (lost ranges : List (ℕ × ℕ)) : Type 0 where
   pub ascend : IsNonDecreasingBy (λ r. r.0) ranges
   pub each : (r : ℕ × ℕ) → Contains lost r → (k : ℕ) × (k < length ranges)
       × ((slice_index_or ranges k (0, 0)).0 ≤ r.0)
       × ((j : ℕ) → k ≤ j → j < length ranges → r.1 ≤ (slice_index_or ranges j (0, 0)).1)
+  pub real : (k : ℕ) → k < length ranges → (r : ℕ × ℕ) × Contains lost r
+      × (r.0 ≤ (slice_index_or ranges k (0, 0)).0) × (r.1 ≡ (slice_index_or ranges k (0, 0)).1)
 
 -- a version's range shares a place with a lost one, or one begins where the other ends
 abbrev pub TouchesOne : List (ℕ × ℕ) → Stretch → Type 0

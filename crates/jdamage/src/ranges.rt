@@ -74,11 +74,12 @@ pub(crate) fn ranges_of<E: Order>(
     reached(alloc, &ranges)
 }
 
-/// Whether a version's range touches a lost one. Where it touches none, the answer may be either:
-/// no more hangs on it than memory. O(log n).
+/// Whether a version's range touches a lost one. O(log n).
 fn touches(ranges: &[Range], stretch: &Stretch) -> bool
-    ensures { (lost : List (ℕ × ℕ)) → FindsAll lost ranges.now → TouchesOne lost stretch.now
-        → result ≡ true }
+    ensures yes { (lost : List (ℕ × ℕ)) → FindsAll lost ranges.now
+        → TouchesOne lost stretch.now → result ≡ true }
+    ensures no { (lost : List (ℕ × ℕ)) → FindsAll lost ranges.now
+        → result ≡ true → TouchesOne lost stretch.now }
 {
     let to = spot(stretch.ino, stretch.to);
     let count = ranges.partition_point(|range| range.0 <= to);

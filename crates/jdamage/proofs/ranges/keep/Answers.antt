@@ -14,6 +14,6 @@ returns c =
           (ap (λ (v : Vec Stretch Global). v.items) w.found-is ∙ w.in_ok-push.ensures.items) noted
       | else-touches w ↦
           subst (λ (v : Vec Stretch Global). Sifted lost all rest v.items c.note_top.new.tops) (sym w.found-is)
-          (sifted_passed lost all rest c.args.found.now.items c.args.tops.now c.note_top.new.tops c.args.stretch s (λ t. sym w.if-touches.false ∙ c.touches.ensures lost f t) noted)
+          (sifted_passed lost all rest c.args.found.now.items c.args.tops.now c.note_top.new.tops c.args.stretch s (λ t. sym w.if-touches.false ∙ c.touches.ensures.yes lost f t) noted)
     ])
     c.note_top.ensures
