@@ -5,10 +5,9 @@ Makes images of four kinds, each with COUNT (16,000, where it is not given) and 
 of files in folders of 100, eight folders deep, where every fourth has lost its only node; of one
 file, of whose nodes every second is damaged, and half of these hide nothing; of one file that grows
 by each node, of which sixteen are damaged; and of folders that lie in one another in a ring, each
-with a file that has lost its only node. Also one of files without
-damage. Runs `check` and `damage` on each; of each the least processor time over the runs counts. It
-prints the times, each also as a multiple of that of `check`, the memory, and how `damage` grew from
-COUNT to twice COUNT.
+with a file that has lost its only node. Also one of files without damage. Runs `check` and `damage`
+on each; of each the least processor time over the runs counts. It prints the times, each also as a
+multiple of that of `check`, the memory, and how `damage` grew from COUNT to twice COUNT.
 """
 import os
 import sys
