@@ -16,3 +16,4 @@ pub mod RoomLemmas
 pub mod ShownLemmas
 pub mod WalkLemmas
 pub mod BackLemmas
+pub mod ViewLemmas

@@ -5,10 +5,11 @@ use Rattle.jnode.specs.declared.order.Endian.{Endian}
 use Rattle.jmount.specs.Clash.{IsClashAt}
 use Rattle.jmount.specs.Mounts.{IsFaultAt, MountsAs, Answers}
 use Rattle.jmount.specs.StateOf.{state_of}
-use Rattle.jmount.specs.Tree.{is_directory}
+use Rattle.jmount.specs.Tree.{State, is_directory}
 use Rattle.jmount.specs.declared.fault.MountFault.TheVariants as fault
 use Rattle.jsteps.specs.Laws.{NoneClash}
 use Rattle.jlog.specs.LeftLaws.{IsImageOfNodes, placed}
+use Rattle.jlog.specs.Through.{MountsThroughAs}
 use Rattle.jexpand.specs.Expanded.{expanded_nodes}
 use Rattle.jconvert.specs.Converting.{greatest_blocks, converted_image, convert_fault}
 
@@ -43,3 +44,9 @@ ConvertedClashes =
     (e : Endian) (size at : ℕ) (image : List ℕ) → AreBytes image → convert_fault e size image ≡ None
     → IsFaultAt e size (converted_image e size image) at (fault.Clash at)
     ↔ IsClashAt (placed e size 0 (expanded_nodes e size image)) at
+
+-- Where an image is not refused, mounting it through and mounting what goes out are one.
+abbrev pub ThroughIsConverted : Type 0
+ThroughIsConverted = (e : Endian) (size : ℕ) (image : List ℕ) (s : State) → AreBytes image
+    → convert_fault e size image ≡ None
+    → MountsThroughAs e size image s ↔ MountsAs e size (converted_image e size image) s

@@ -2,7 +2,7 @@
 
 ghost use Rattle.jconvert.specs.ApartLaws.{LocatedAreByAddress, LocatedAreExpanded, StayHaveRoom, ApartIsImage, ApartMounts, ApartHasNoRoot};
 ghost use Rattle.jconvert.specs.CompressingLaws.{CompressedAreNodes, CompressedGivesBack, CompressedMounts};
-ghost use Rattle.jconvert.specs.Laws.{ConvertedIsImage, ConvertedMounts, ConvertedHasNoRoot, ConvertedClashes};
+ghost use Rattle.jconvert.specs.Laws.{ConvertedIsImage, ConvertedMounts, ConvertedHasNoRoot, ConvertedClashes, ThroughIsConverted};
 
 /// What goes out is an image of exactly the expanded nodes, in order; it mounts as the file system
 /// that they make, or answers that two of them clash, or that the root is no directory.
@@ -11,6 +11,11 @@ pub fn converted_mounts()
     ensures mounts { ConvertedMounts }
     ensures root { ConvertedHasNoRoot }
     ensures clashes { ConvertedClashes }
+{}
+
+/// Where an image is not refused, mounting it through and mounting what goes out are one.
+pub fn through_is_converted()
+    ensures { ThroughIsConverted }
 {}
 
 /// What went out compressed is decompressed to the nodes of the image that went in, each and in

@@ -1,5 +1,5 @@
 -- What a log has done survives, and so does what is done next.
-use Rattle.std.proofs.Common.{◌≡◌, ℕ, zero, suc, ◌+◌, ◌-◌, ◌%◌, ◌≤◌, true, List, [], ◌∷◌, ◌++◌, length, take, refl, sym, ap, ◌∙◌, subst, arith, append_assoc, length-append, Result, Ok, Err}
+use Rattle.std.proofs.Common.{◌≡◌, ℕ, zero, suc, ◌+◌, ◌-◌, ◌%◌, ◌≤◌, true, List, [], ◌∷◌, ◌++◌, length, map, take, refl, sym, ap, ◌∙◌, subst, arith, append_assoc, length-append, Result, Ok, Err}
 use Rattle.std.specs.Prelude.{IsTrue, bytes_eq, flat_map}
 use Rattle.std.specs.List.{AllByRecursion}
 use Rattle.std.proofs.Math.Seq.{take-append-add}
@@ -34,6 +34,7 @@ use Rattle.jlog.specs.Running.{written}
 use Rattle.jlog.specs.Done.{steps_on, GoesOnBy, EarlierStand, SurvivesAfter}
 use Rattle.jlog.proofs.PlaceLemmas.{place_is_least}
 use Rattle.jlog.proofs.HereLemmas.{Sure, cuts_seen, torn_all}
+use Rattle.jlog.proofs.LeftLemmas.{nodes_loggable, nodes_not_weak}
 use Rattle.jlog.proofs.ImageLemmas.{block_size}
 use Rattle.jlog.proofs.IntactLemmas.{first_out, has_room, intact_is_counted}
 use Rattle.jlog.proofs.HeadlineLemmas.{all_fit, accepted_survives, planned_loggable, readable, sure_mounts}
@@ -124,16 +125,16 @@ all_left : {X : Type 0} (P : X → Type 0) (xs ys : List X) → AllByRecursion P
 all_left P [] ys p = tt
 all_left P (x ∷ xs) ys p = (p.0, all_left P xs ys p.1)
 
-all_right : {X : Type 0} (P : X → Type 0) (xs ys : List X) → AllByRecursion P (xs ++ ys) → AllByRecursion P ys
+pub all_right : {X : Type 0} (P : X → Type 0) (xs ys : List X) → AllByRecursion P (xs ++ ys) → AllByRecursion P ys
 all_right P [] ys p = p
 all_right P (x ∷ xs) ys p = all_right P xs ys p.1
 
 -- steps after steps
-nodes_on : (x : Indexed) (xs ys : List Step) → nodes_of x (xs ++ ys) ≡ nodes_of x xs ++ nodes_of (advanced_all x xs) ys
+pub nodes_on : (x : Indexed) (xs ys : List Step) → nodes_of x (xs ++ ys) ≡ nodes_of x xs ++ nodes_of (advanced_all x xs) ys
 nodes_on x [] ys = refl
 nodes_on x (s ∷ xs) ys = ap (λ (l : List NodeRef). node_of x s ∷ l) (nodes_on (advanced x s) xs ys)
 
-after_on : (s : State) (xs ys : List Step) → after bytes s (xs ++ ys) ≡ after bytes (after bytes s xs) ys
+pub after_on : (s : State) (xs ys : List Step) → after bytes s (xs ++ ys) ≡ after bytes (after bytes s xs) ys
 after_on s [] ys = refl
 after_on s (step ∷ xs) ys = after_on (do_step bytes s step) xs ys
 
@@ -161,7 +162,7 @@ intact_on e size from k (node ∷ xs) ys words ok =
     ∙ (ap (λ (i : ℕ). suc (intact size end i (xs ++ ys))) later
     ∙ (ap suc (intact_on e size end k xs ys words ok.1) ∙ omega arith))
 
-count_on : (e : Endian) (size from k : ℕ) (xs ys : List (List ℕ)) → size % 4 ≡ 0 → AllByRecursion (FitsBlock size) (xs ++ ys)
+pub count_on : (e : Endian) (size from k : ℕ) (xs ys : List (List ℕ)) → size % 4 ≡ 0 → AllByRecursion (FitsBlock size) (xs ++ ys)
     → count_whole from (output e size from (xs ++ ys)) (length (output e size from xs) + k) (places size from (xs ++ ys))
     ≡ length xs + count_whole (end_of_all size from xs) (output e size (end_of_all size from xs) ys) k (places size (end_of_all size from xs) ys)
 count_on e size from k xs ys words ok =
@@ -170,7 +171,7 @@ count_on e size from k xs ys words ok =
     ∙ (intact_on e size from k xs ys words (all_left (FitsBlock size) xs ys ok)
     ∙ ap (λ (i : ℕ). length xs + i) (sym (intact_is_counted e size end k ys words (all_right (FitsBlock size) xs ys ok))))
 
-nodes_long : (x : Indexed) (steps : List Step) → length (nodes_of x steps) ≡ length steps
+pub nodes_long : (x : Indexed) (steps : List Step) → length (nodes_of x steps) ≡ length steps
 nodes_long x [] = refl
 nodes_long x (s ∷ steps) = ap suc (nodes_long (advanced x s) steps)
 
@@ -203,8 +204,8 @@ earlier_stand page e size blocks base earlier steps is_page room is_base fits go
     let count : count_whole start (output e size start all) (front + k) (places size start all) ≡ length earlier + m =
     ap (λ (l : List (List ℕ)). count_whole start (output e size start l) (front + k) (places size start l)) is
     ∙ (count_on e size start k before nodes words roomy ∙ ap (λ (i : ℕ). i + m) (length-map (nodes_of x earlier) (canonical e) ∙ nodes_long x earlier)) in
-    let sure : Sure e size start (front + k) (new_nodes e size base (earlier ++ steps)) =
-    record { first = nodes_of x earlier; rest = nodes_of y steps; both = nodes_on x earlier steps; uncut = omega arith; seen = cuts_seen e size (nodes_of y steps) later none } in
+    let sure : Sure e size start (front + k) (map (canonical e) (new_nodes e size base (earlier ++ steps))) =
+    record { first = before; rest = nodes; both = is; uncut = omega arith; seen = cuts_seen e size nodes (nodes_loggable e size (nodes_of y steps) (readable e size blocks base is_base) later) (nodes_not_weak e (nodes_of y steps) none) } in
     let there : IsLeft e size blocks base start (output e size start all) (front + k) image =
     subst (λ (o : List ℕ). IsLeft e size blocks base start o (front + k) image) (sym on.output_is) left in
     let mounts = sure_mounts page e size blocks (front + k) base image (earlier ++ steps) is_page room is_base fits go sure there in

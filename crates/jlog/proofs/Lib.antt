@@ -1,6 +1,7 @@
 pub mod ByteLemmas
 pub mod PlaceLemmas
 pub mod OutputLemmas
+pub mod FormLemmas
 pub mod SightLemmas
 pub mod FlashLemmas
 pub mod HereLemmas
@@ -28,3 +29,13 @@ pub mod SurviveLemmas
 pub mod ResumeLemmas
 pub mod WriteLemmas
 pub mod ShapeLemmas
+pub mod ThroughLemmas
+pub mod PackedLemmas
+pub mod HeadlineThroughLemmas
+pub mod MountThroughLemmas
+pub mod DoneThroughLemmas
+pub mod SessionAsLemmas
+pub mod RunAsLemmas
+pub mod BeginThroughLemmas
+pub mod ShorterLemmas
+pub mod FollowLemmas

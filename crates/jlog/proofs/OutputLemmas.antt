@@ -5,14 +5,13 @@ use Rattle.std.proofs.lemmas.Bool.{cond-true, cond-false, le-leb, lt-leb}
 use Rattle.std.proofs.lemmas.List.{append-nil}
 use Rattle.flashbase.specs.Bytes.{pad4_of, erased}
 use Rattle.jnode.specs.Weak.{torn}
-use Rattle.jnode.specs.Writing.{canonical, clean_marker, filled}
+use Rattle.jnode.specs.Writing.{clean_marker, filled}
 use Rattle.jnode.specs.declared.order.Endian.{Endian}
-use Rattle.jnode.specs.declared.node.NodeRef.{NodeRef}
 use Rattle.jlog.specs.Places.{place_after, end_after, places, end_of_all}
 use Rattle.jlog.specs.Output.{gap, output}
 use Rattle.jlog.specs.Left.{intact}
 use Rattle.jlog.specs.Laws.{OutputGoesOn, OneMoreGoesOut}
-use Rattle.jlog.specs.LeftLaws.{placed}
+use Rattle.jlog.specs.Forms.{placed_forms}
 use Rattle.jlog.proofs.PlaceLemmas.{div_at, place_here, place_front, place_over}
 
 -- ---- more nodes go on where the earlier ones end
@@ -158,12 +157,12 @@ pub places_skip : (size c c' : ℕ) (node : List ℕ) (nodes : List (List ℕ)) 
 places_skip size c c' node nodes same =
     ap (λ (at : ℕ). (let ps : List (ℕ × ℕ) = (at, length node) ∷ places size (at + pad4_of (length node)) nodes in ps)) same
 
-pub placed_skip : (e : Endian) (size c c' : ℕ) (x : NodeRef) (xs : List NodeRef) → place_after size c (length (canonical e x)) ≡ place_after size c' (length (canonical e x))
-    → placed e size c (x ∷ xs) ≡ placed e size c' (x ∷ xs)
-placed_skip e size c c' x xs same =
-    ap (λ (at : ℕ). (let ps : List (ℕ × NodeRef) = (at, x) ∷ placed e size (at + pad4_of (length (canonical e x))) xs in ps)) same
+pub placed_skip : (size c c' : ℕ) (form : List ℕ) (forms : List (List ℕ)) → place_after size c (length form) ≡ place_after size c' (length form)
+    → placed_forms size c (form ∷ forms) ≡ placed_forms size c' (form ∷ forms)
+placed_skip size c c' form forms same =
+    ap (λ (at : ℕ). (let ps : List (ℕ × List ℕ) = (at, form) ∷ placed_forms size (at + pad4_of (length form)) forms in ps)) same
 
-pub placed_here : (e : Endian) (size c d : ℕ) (x : NodeRef) (xs : List NodeRef) → c % 4 ≡ 0 → d * size + 12 ≤ c → c + length (canonical e x) ≤ d * size + size → 0 < length (canonical e x)
-    → placed e size c (x ∷ xs) ≡ (c, x) ∷ placed e size (c + pad4_of (length (canonical e x))) xs
-placed_here e size c d x xs words low high some =
-    ap (λ (at : ℕ). (let ps : List (ℕ × NodeRef) = (at, x) ∷ placed e size (at + pad4_of (length (canonical e x))) xs in ps)) (place_here size c d (length (canonical e x)) words low high some)
+pub placed_here : (size c d : ℕ) (form : List ℕ) (forms : List (List ℕ)) → c % 4 ≡ 0 → d * size + 12 ≤ c → c + length form ≤ d * size + size → 0 < length form
+    → placed_forms size c (form ∷ forms) ≡ (c, form) ∷ placed_forms size (c + pad4_of (length form)) forms
+placed_here size c d form forms words low high some =
+    ap (λ (at : ℕ). (let ps : List (ℕ × List ℕ) = (at, form) ∷ placed_forms size (at + pad4_of (length form)) forms in ps)) (place_here size c d (length form) words low high some)

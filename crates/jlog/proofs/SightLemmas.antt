@@ -1,7 +1,7 @@
 -- What is sighted where nodes were written, whole or cut: clean markers and damaged nodes left out.
 use Rattle.std.proofs.Common.{◌≡◌, ◌≢◌, ℕ, ◌+◌, ◌-◌, ◌%◌, ◌^◌, ◌<◌, ◌≤◌, Bool, true, false, cond, eqb, List, [], ◌∷◌, ◌++◌, length, take, drop, refl, ap, subst, ◌∙◌, arith, inl, inr, length-append}
 use Rattle.std.specs.Prelude.{filter, bytes_eq}
-use Rattle.std.proofs.lemmas.Bool.{cases_Bool, cases_lt, both_ways}
+use Rattle.std.proofs.lemmas.Bool.{cases_Bool, cases_lt, both_ways, false≢true}
 use Rattle.std.proofs.lemmas.List.{drop_at, length-take-le}
 use Rattle.std.proofs.lemmas.Slice.Eq.{bytes_eq-Decides}
 use Rattle.flashbase.specs.Bytes.{pad4_of, erased}
@@ -9,7 +9,7 @@ use Rattle.flashbase.proofs.BytesLemmas.{le_pad4, pad4_words}
 use Rattle.jnode.specs.Header.{is_good}
 use Rattle.jnode.specs.Laws.{IsPlain}
 use Rattle.jnode.specs.Reading.{seen_of, tile_of}
-use Rattle.jnode.specs.Weak.{torn, is_weak}
+use Rattle.jnode.specs.Weak.{torn, is_sound, is_weak}
 use Rattle.jnode.specs.Writing.{canonical, clean_marker, filled}
 use Rattle.jnode.specs.declared.node.NodeRef.{NodeRef}
 use Rattle.jnode.specs.declared.node.NodeRef.TheVariants as node
@@ -20,7 +20,7 @@ use Rattle.jnode.proofs.HeaderLemmas.{good_found}
 use Rattle.jnode.proofs.ReadingLemmas.{seen_entry, seen_inode}
 use Rattle.jnode.proofs.TileLemmas.{IsHeaded, tile_headed}
 use Rattle.jnode.proofs.WritingLemmas.{written_reads, canonical_is_tile, canonical_long, marker_is_tile, length-filled, length-header_bytes}
-use Rattle.jnode.proofs.WeakLemmas.{behind, cut_behind_keeps_header, torn_header_is_none, torn_node_is_damaged, torn_is_tile, torn_long}
+use Rattle.jnode.proofs.WeakLemmas.{behind, cut_behind_keeps_header, torn_long}
 use Rattle.jscan.specs.Tiling.{Tile, tiling_from}
 use Rattle.jscan.specs.Image.{sightings_from}
 use Rattle.jscan.specs.Blank.{marked}
@@ -28,6 +28,8 @@ use Rattle.jscan.proofs.TileLemmas.{tile_good, tile_then_rest}
 use Rattle.jscan.proofs.HeaderlessLemmas.{seen_among, headerless_has_no_nodes, erased_none_good}
 use Rattle.jscan.proofs.MarkedLemmas.{marked_has_no_nodes}
 use Rattle.jlog.specs.LeftLaws.{IsStorable, tells, sighting_of}
+use Rattle.jlog.specs.Forms.{IsForm, form_sighted}
+use Rattle.jlog.proofs.FormLemmas.{tile_is_form, form_is_tile, torn_form_header_is_none, torn_form_is_damaged, torn_form_is_tile}
 
 -- what is told of the rest of a block, from a place on
 abbrev pub told : Endian → ℕ → ℕ → List ℕ → List (ℕ × Seen)
@@ -72,7 +74,57 @@ marker_then e start more =
     ∙ ap (λ (s : Seen). filter tells ((start + 0, s) ∷ sightings_from e start (0 + length (clean_marker e)) more)) is.seen
     ∙ ap (λ (n : ℕ). told e start (0 + n) more) (marker_long e)
 
--- ---- a whole node
+-- ---- a whole form
+
+sound_told : (addr : ℕ) (s : Seen) (ss : List (ℕ × Seen)) → is_sound s ≡ true → filter tells ((addr, s) ∷ ss) ≡ (addr, s) ∷ filter tells ss
+sound_told addr (seen.Entry entry) ss sound = refl
+sound_told addr (seen.Inode inode) ss sound = refl
+sound_told addr (seen.Compressed compr) ss sound = refl
+sound_told addr _ ss sound = absurd (false≢true sound)
+
+-- A form that stands whole is told, and then what is after it.
+pub form_then : (e : Endian) (start place : ℕ) (form more : List ℕ) → IsForm e form
+    → told e start place (filled form ++ more) ≡ form_sighted e (start + place, form) ∷ told e start (place + pad4_of (length form)) more
+form_then e start place form more ok =
+    let is = form_is_tile e form more ok in
+    ap (filter tells) (tile_first e start place (filled form) more is.good is.tile)
+    ∙ (sound_told (start + place) (seen_of e (filled form)) (sightings_from e start (place + length (filled form)) more) ok.sound
+    ∙ ap (λ (n : ℕ). form_sighted e (start + place, form) ∷ told e start (place + n) more) (length-filled form))
+
+-- ---- a form that was cut
+
+-- its header is whole: the tile is seen as damaged, and erased flash follows
+damaged_told : (e : Endian) (start place k n : ℕ) (form : List ℕ) → IsForm e form → k ≤ length form → pad4_of (length form) ≤ k + n
+    → take 12 (torn form k) ≡ take 12 form → torn form k ≢ form → is_weak e form k ≡ false
+    → told e start place (take k form ++ erased n) ≡ []
+damaged_told e start place k n form ok within long same differs weak =
+    let rest : List ℕ = take k form ++ erased n in
+    let tile : List ℕ = filled (torn form k) in
+    let is = torn_form_is_tile e form k n ok within long same in
+    let bad = torn_form_is_damaged e form k ok same differs weak in
+    let cut : length (take k form) ≡ k = length-take-le k form within in
+    let size : length tile ≡ pad4_of (length form) = length-filled (torn form k) ∙ ap pad4_of (torn_long form k) in
+    let past : length (take k form) ≤ length tile = omega (arith, le_pad4 (length form)) in
+    ap (filter tells) (node_first e start place rest is.good)
+    ∙ ap (λ (t : List ℕ). filter tells ((start + place, seen_of e t) ∷ sightings_from e start (place + length t) (drop (length t) rest))) is.tile
+    ∙ ap (λ (s : Seen). filter tells ((start + place, s) ∷ sightings_from e start (place + length tile) (drop (length tile) rest))) bad.1
+    ∙ ap (told e start (place + length tile)) (behind (take k form) n (length tile) past)
+    ∙ erased_told e start (place + length tile) (n - (length tile - length (take k form)))
+
+-- Of a form that was cut, and not weakly, nothing is told.
+pub form_cut_told : (e : Endian) (start place k n : ℕ) (form : List ℕ) → IsForm e form → IsPlain (length form) → k ≤ length form → pad4_of (length form) ≤ k + n → k + n ≤ 4194304
+    → torn form k ≢ form → is_weak e form k ≡ false → told e start place (take k form ++ erased n) ≡ []
+form_cut_told e start place k n form ok plain within long room differs weak = elim (cases_Bool (bytes_eq (take 12 (torn form k)) (take 12 form))) [
+  | inl same ↦ damaged_told e start place k n form ok within long ((bytes_eq-Decides _ _).0 same) differs weak
+  | inr other ↦
+      let changed : take 12 (torn form k) ≢ take 12 form = λ is. both_ways _ other ((bytes_eq-Decides _ _).1 is) in
+      ap (filter tells) (headerless_has_no_nodes e start place (take k form ++ erased n) (λ word. elim (cases_lt k 12) [
+        | inl inside ↦ torn_form_header_is_none e form k n word ok plain inside room changed weak
+        | inr past ↦ absurd (changed (cut_behind_keeps_header form k past ok.least))
+      ]))
+]
+
+-- ---- the written form of a node is a form
 
 filled_headed : (e : Endian) (x : NodeRef) → length (canonical e x) < 2 ^ 32 → IsHeaded e (filled (canonical e x))
 filled_headed e x small =
@@ -81,7 +133,7 @@ filled_headed e x small =
     let words : length (bytes ++ []) % 4 ≡ 0 = omega (arith, length-append bytes [], length-filled (canonical e x), pad4_words (length (canonical e x))) in
     subst (IsHeaded e) is.tile (tile_headed e (bytes ++ []) (good_found e (bytes ++ []) is.good) words)
 
-whole_seen : (e : Endian) (addr : ℕ) (x : NodeRef) (size : ℕ) → IsStorable e size x → length (canonical e x) < 2 ^ 32 → (addr, seen_of e (filled (canonical e x))) ≡ sighting_of (addr, x)
+pub whole_seen : (e : Endian) (addr : ℕ) (x : NodeRef) (size : ℕ) → IsStorable e size x → length (canonical e x) < 2 ^ 32 → form_sighted e (addr, canonical e x) ≡ sighting_of (addr, x)
 whole_seen e addr (node.Entry entry) size ok small =
     ap (λ (s : Seen). (addr, s))
     ((seen_entry e (filled (canonical e (node.Entry entry))) entry (filled_headed e (node.Entry entry) small)).1 (written_reads e (node.Entry entry) ok.fits ok.writable))
@@ -89,49 +141,17 @@ whole_seen e addr (node.Inode inode) size ok small =
     ap (λ (s : Seen). (addr, s))
     ((seen_inode e (filled (canonical e (node.Inode inode))) inode (filled_headed e (node.Inode inode) small)).1 (written_reads e (node.Inode inode) ok.fits ok.writable))
 
-node_told : (addr : ℕ) (x : NodeRef) (ss : List (ℕ × Seen)) → filter tells (sighting_of (addr, x) ∷ ss) ≡ sighting_of (addr, x) ∷ filter tells ss
-node_told addr (node.Entry entry) ss = refl
-node_told addr (node.Inode inode) ss = refl
+sighting_sound : (addr : ℕ) (x : NodeRef) → is_sound (sighting_of (addr, x)).1 ≡ true
+sighting_sound addr (node.Entry entry) = refl
+sighting_sound addr (node.Inode inode) = refl
+
+pub node_is_form : (e : Endian) (size : ℕ) (x : NodeRef) → IsStorable e size x → length (canonical e x) < 2 ^ 32 → IsForm e (canonical e x)
+node_is_form e size x ok small =
+    tile_is_form e (canonical e x) (canonical_long e x) (canonical_is_tile e x [] small) (ap (λ (s : ℕ × Seen). is_sound s.1) (whole_seen e 0 x size ok small) ∙ sighting_sound 0 x)
 
 -- A node that stands whole is told, and then what is after it.
 pub node_then : (e : Endian) (size start place : ℕ) (x : NodeRef) (more : List ℕ) → IsStorable e size x → length (canonical e x) < 2 ^ 32
     → told e start place (filled (canonical e x) ++ more) ≡ sighting_of (start + place, x) ∷ told e start (place + pad4_of (length (canonical e x))) more
 node_then e size start place x more ok small =
-    let is = canonical_is_tile e x more small in
-    ap (filter tells) (tile_first e start place (filled (canonical e x)) more is.good is.tile)
-    ∙ ap (λ (s : ℕ × Seen). filter tells (s ∷ sightings_from e start (place + length (filled (canonical e x))) more)) (whole_seen e (start + place) x size ok small)
-    ∙ node_told (start + place) x (sightings_from e start (place + length (filled (canonical e x))) more)
-    ∙ ap (λ (n : ℕ). sighting_of (start + place, x) ∷ told e start (place + n) more) (length-filled (canonical e x))
-
--- ---- a node that was cut
-
--- its header is whole: the tile is seen as damaged, and erased flash follows
-damaged_told : (e : Endian) (start place k n : ℕ) (x : NodeRef) → length (canonical e x) < 2 ^ 32 → k ≤ length (canonical e x) → pad4_of (length (canonical e x)) ≤ k + n
-    → take 12 (torn (canonical e x) k) ≡ take 12 (canonical e x) → torn (canonical e x) k ≢ canonical e x → is_weak e (canonical e x) k ≡ false
-    → told e start place (take k (canonical e x) ++ erased n) ≡ []
-damaged_told e start place k n x small within long same differs weak =
-    let rest : List ℕ = take k (canonical e x) ++ erased n in
-    let tile : List ℕ = filled (torn (canonical e x) k) in
-    let is = torn_is_tile e x k n small within long same in
-    let bad = torn_node_is_damaged e x k same differs weak in
-    let cut : length (take k (canonical e x)) ≡ k = length-take-le k (canonical e x) within in
-    let size : length tile ≡ pad4_of (length (canonical e x)) = length-filled (torn (canonical e x) k) ∙ ap pad4_of (torn_long (canonical e x) k) in
-    let past : length (take k (canonical e x)) ≤ length tile = omega (arith, le_pad4 (length (canonical e x))) in
-    ap (filter tells) (node_first e start place rest is.good)
-    ∙ ap (λ (t : List ℕ). filter tells ((start + place, seen_of e t) ∷ sightings_from e start (place + length t) (drop (length t) rest))) is.tile
-    ∙ ap (λ (s : Seen). filter tells ((start + place, s) ∷ sightings_from e start (place + length tile) (drop (length tile) rest))) bad.1
-    ∙ ap (told e start (place + length tile)) (behind (take k (canonical e x)) n (length tile) past)
-    ∙ erased_told e start (place + length tile) (n - (length tile - length (take k (canonical e x))))
-
--- Of a node that was cut, and not weakly, nothing is told.
-pub cut_told : (e : Endian) (start place k n : ℕ) (x : NodeRef) → IsPlain (length (canonical e x)) → k ≤ length (canonical e x) → pad4_of (length (canonical e x)) ≤ k + n → k + n ≤ 4194304
-    → torn (canonical e x) k ≢ canonical e x → is_weak e (canonical e x) k ≡ false → told e start place (take k (canonical e x) ++ erased n) ≡ []
-cut_told e start place k n x plain within long room differs weak = elim (cases_Bool (bytes_eq (take 12 (torn (canonical e x) k)) (take 12 (canonical e x)))) [
-  | inl same ↦ damaged_told e start place k n x (omega (arith, plain.0)) within long ((bytes_eq-Decides _ _).0 same) differs weak
-  | inr other ↦
-      let changed : take 12 (torn (canonical e x) k) ≢ take 12 (canonical e x) = λ is. both_ways _ other ((bytes_eq-Decides _ _).1 is) in
-      ap (filter tells) (headerless_has_no_nodes e start place (take k (canonical e x) ++ erased n) (λ word. elim (cases_lt k 12) [
-        | inl inside ↦ torn_header_is_none e x k n word plain inside room changed weak
-        | inr past ↦ absurd (changed (cut_behind_keeps_header (canonical e x) k past (canonical_long e x)))
-      ]))
-]
+    form_then e start place (canonical e x) more (node_is_form e size x ok small)
+    ∙ ap (λ (s : ℕ × Seen). s ∷ told e start (place + pad4_of (length (canonical e x))) more) (whole_seen e (start + place) x size ok small)

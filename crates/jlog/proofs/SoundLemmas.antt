@@ -24,8 +24,8 @@ use Rattle.jlog.specs.MountLaws.{SoundNodesAreApart, GoesOnSoundly, IsSoundWith,
 use Rattle.jlog.proofs.ImageLemmas.{block_size}
 use Rattle.jlog.proofs.TellLemmas.{cons_cases}
 use Rattle.jlog.proofs.IntactLemmas.{intact_is_counted, has_room}
-use Rattle.jlog.proofs.HereLemmas.{Sure, none_weak}
-use Rattle.jlog.proofs.LeftLemmas.{placed_are_new, sure_nodes, sure_refuses, stored, whole_nodes, whole_refuses}
+use Rattle.jlog.proofs.HereLemmas.{Sure}
+use Rattle.jlog.proofs.LeftLemmas.{none_weak_nodes, placed_are_new, sure_nodes, sure_refuses, stored, whole_nodes, whole_refuses}
 
 -- ---- clashes go both ways, and no node clashes with itself
 
@@ -140,7 +140,7 @@ intact_nodes e size block k new =
     sym (take-map (λ n. n.1) n (placed e size (block * size) new)) ∙ ap (take n) (placed_are_new e size (block * size) new).nodes
 
 -- where none of the first nodes is cut, and none of the others is weak
-pub sure_is_sound : (e : Endian) (size blocks block k : ℕ) (base image : List ℕ) (new : List NodeRef) → GoesOnSoundly e size blocks base block new → Sure e size (block * size) k new
+pub sure_is_sound : (e : Endian) (size blocks block k : ℕ) (base image : List ℕ) (new : List NodeRef) → GoesOnSoundly e size blocks base block new → Sure e size (block * size) k (map (canonical e) new)
     → IsLeftOf e size blocks base block new k image
     → let bytes = map (canonical e) new in
     let out = output e size (block * size) bytes in
@@ -162,7 +162,7 @@ sure_is_sound e size blocks block k base image new on sure left =
 
 pub left_is_sound : LeftIsSound
 left_is_sound e size blocks block k base image new on none left =
-    sure_is_sound e size blocks block k base image new on (none_weak e size (block * size) k new on.logged.nodes none) left
+    sure_is_sound e size blocks block k base image new on (none_weak_nodes e size (block * size) k new on.logged.size_is on.logged.nodes none) left
 
 pub whole_is_sound : WholeIsSound
 whole_is_sound e size blocks block k base image new on all left =

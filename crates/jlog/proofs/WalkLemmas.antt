@@ -1,28 +1,26 @@
 -- The walk over what a write left, node by node: each is in the block of the cursor, at its front, or in the next one.
-use Rattle.std.proofs.Common.{◌≡◌, ℕ, suc, ◌+◌, ◌-◌, ◌*◌, ◌%◌, ◌<◌, ◌≤◌, List, [], ◌∷◌, ◌++◌, length, take, drop, get_or, map, refl, sym, ap, ap₂, subst, ◌∙◌, arith, inl, inr, length-append}
+use Rattle.std.proofs.Common.{◌≡◌, ℕ, suc, ◌+◌, ◌-◌, ◌*◌, ◌%◌, ◌<◌, ◌≤◌, List, [], ◌∷◌, ◌++◌, length, take, drop, get_or, refl, sym, ap, ap₂, subst, ◌∙◌, arith, inl, inr, length-append}
 use Rattle.std.specs.Prelude.{IsTrue, nat_le}
 use Rattle.std.specs.List.{AllByRecursion, list_all}
 use Rattle.std.proofs.Math.Nat.{mul-le-mul_right}
 use Rattle.std.proofs.lemmas.Bool.{cases_lt, and_parts, leb-true}
 use Rattle.std.proofs.lemmas.List.{get_or-take, take-append-drop, take-append-le, take_all, length-take, length-take-le, length-replicate, ext_get_or}
 use Rattle.flashbase.specs.Bytes.{erased}
-use Rattle.jnode.specs.Writing.{canonical, clean_marker}
-use Rattle.jnode.specs.declared.node.NodeRef.{NodeRef}
+use Rattle.jnode.specs.Writing.{clean_marker}
 use Rattle.jnode.specs.declared.node.Seen.{Seen}
 use Rattle.jnode.specs.declared.order.Endian.{Endian}
-use Rattle.jnode.proofs.WritingLemmas.{canonical_long}
 use Rattle.jnode.proofs.WeakLemmas.{behind}
 use Rattle.jscan.specs.Blank.{marked}
 use Rattle.jlog.specs.Places.{place_after, fit}
 use Rattle.jlog.specs.Output.{output}
 use Rattle.jlog.specs.Left.{intact}
-use Rattle.jlog.specs.LeftLaws.{IsStorable, placed, sighting_of}
+use Rattle.jlog.specs.Forms.{IsStorableForm, placed_forms}
 use Rattle.jlog.proofs.ByteLemmas.{erased_end, erased_is, cut_within, cut_erased}
 use Rattle.jlog.proofs.PlaceLemmas.{place_here, place_front, place_over}
 use Rattle.jlog.proofs.OutputLemmas.{output_front, output_over, intact_skips, places_skip, placed_skip}
 use Rattle.jlog.proofs.SightLemmas.{told, erased_told, marked_told, marker_long, marker_then}
 use Rattle.jlog.proofs.FlashLemmas.{Cursor, Flash, BlockLeft, Holds, flash_moves, holds_behind, nothing_out, rest_byte, rest_long, up}
-use Rattle.jlog.proofs.HereLemmas.{Stands, Gives, Sure, Walks, bytes_of, cursor_words, here, sure_skips, walks_none}
+use Rattle.jlog.proofs.HereLemmas.{Stands, Gives, Sure, Walks, cursor_words, gives_moved, here, sure_skips, walks_none}
 
 -- ---- at the front of a block
 
@@ -75,25 +73,25 @@ front_told e size c d k out block at long large (inl holds) = elim (cases_lt 12 
 ]
 front_told e size c d k out block at long large (inr (j, m)) = front_marked e (d * size) size j block large m.most m.is
 
-room_skips : (e : Endian) (size blocks c c' : ℕ) (x : NodeRef) (xs : List NodeRef) → place_after size c (length (canonical e x)) ≡ place_after size c' (length (canonical e x))
-    → IsTrue (fit size blocks c (bytes_of e (x ∷ xs))) → IsTrue (fit size blocks c' (bytes_of e (x ∷ xs)))
+room_skips : (e : Endian) (size blocks c c' : ℕ) (x : List ℕ) (xs : List (List ℕ)) → place_after size c (length x) ≡ place_after size c' (length x)
+    → IsTrue (fit size blocks c (x ∷ xs)) → IsTrue (fit size blocks c' (x ∷ xs))
 room_skips e size blocks c c' x xs same room =
-    subst (λ (ps : List (ℕ × ℕ)). IsTrue (list_all (λ place. nat_le (place.0 + place.1) (blocks * size)) ps)) (places_skip size c c' (canonical e x) (bytes_of e xs) same) room
+    subst (λ (ps : List (ℕ × ℕ)). IsTrue (list_all (λ place. nat_le (place.0 + place.1) (blocks * size)) ps)) (places_skip size c c' x xs same) room
 
--- from an address up to the node's place nothing is kept or placed that is not from there on
-gives_skips : (e : Endian) (size c c' k : ℕ) (x : NodeRef) (xs : List NodeRef) → c ≤ c' → c' ≤ place_after size c (length (canonical e x))
-    → place_after size c (length (canonical e x)) ≡ place_after size c' (length (canonical e x))
-    → map sighting_of (take (intact size c k (bytes_of e (x ∷ xs))) (placed e size c (x ∷ xs)))
-    ≡ map sighting_of (take (intact size c' (k - (c' - c)) (bytes_of e (x ∷ xs))) (placed e size c' (x ∷ xs)))
-gives_skips e size c c' k x xs up before same =
-    ap₂ (λ (i : ℕ) (ns : List (ℕ × NodeRef)). map sighting_of (take i ns)) (intact_skips size c c' k (canonical e x) (bytes_of e xs) up before same) (placed_skip e size c c' x xs same)
+-- from an address up to the form's place nothing is kept or placed that is not from there on
+kept_skips : (size c c' k : ℕ) (x : List ℕ) (xs : List (List ℕ)) → c ≤ c' → c' ≤ place_after size c (length x)
+    → place_after size c (length x) ≡ place_after size c' (length x)
+    → take (intact size c k (x ∷ xs)) (placed_forms size c (x ∷ xs))
+    ≡ take (intact size c' (k - (c' - c)) (x ∷ xs)) (placed_forms size c' (x ∷ xs))
+kept_skips size c c' k x xs up before same =
+    ap₂ (λ (i : ℕ) (ns : List (ℕ × List ℕ)). take i ns) (intact_skips size c c' k x xs up before same) (placed_skip size c c' x xs same)
 
 -- the marker goes out, and then the node after it
-front : (e : Endian) (size blocks : ℕ) (flash : ℕ → List ℕ) (c d n k : ℕ) (x : NodeRef) (xs : List NodeRef) → IsStorable e size x → Walks e size blocks flash xs
+front : (e : Endian) (size blocks : ℕ) (flash : ℕ → List ℕ) (c d n k : ℕ) (x : List ℕ) (xs : List (List ℕ)) → IsStorableForm e size x → Walks e size blocks flash xs
     → Stands e size blocks flash c d 0 n k (x ∷ xs) → Gives e size flash c d 0 n k (x ∷ xs)
 front e size blocks flash c d n k x xs ok walks at =
-    let node : List ℕ = canonical e x in
-    let some : 0 < length node = omega (arith, canonical_long e x) in
+    let node : List ℕ = x in
+    let some : 0 < length node = omega (arith, ok.is.least) in
     let room : 12 + length node ≤ size = ok.room in
     let sized : size % 4 ≡ 0 = at.cursor.sized in
     let start : c ≡ d * size = omega (arith, at.cursor.at) in
@@ -111,25 +109,27 @@ front e size blocks flash c d n k x xs ok walks at =
     let here_is : place_after size c (length node) ≡ d * size + 12 = place_front size c d (length node) sized start room some in
     let there_is : place_after size (c + 12) (length node) ≡ c + 12 = place_here size (c + 12) d (length node) words (omega arith) (omega arith) some in
     let same : place_after size c (length node) ≡ place_after size (c + 12) (length node) = omega arith in
-    let out_by : (ys : List NodeRef) → output e size c (bytes_of e (x ∷ ys)) ≡ clean_marker e ++ output e size (c + 12) (bytes_of e (x ∷ ys)) =
-    λ ys. output_front e size c d node (bytes_of e ys) sized start words room some in
-    let out_is : output e size c (bytes_of e (x ∷ xs)) ≡ clean_marker e ++ output e size (c + 12) (bytes_of e (x ∷ xs)) = out_by xs in
+    let out_by : (ys : List (List ℕ)) → output e size c (x ∷ ys) ≡ clean_marker e ++ output e size (c + 12) (x ∷ ys) =
+    λ ys. output_front e size c d node ys sized start words room some in
+    let out_is : output e size c (x ∷ xs) ≡ clean_marker e ++ output e size (c + 12) (x ∷ xs) = out_by xs in
     let marker : length (clean_marker e) ≡ 12 = marker_long e in
-    let left : Flash e size c blocks flash (clean_marker e ++ output e size (c + 12) (bytes_of e (x ∷ xs))) k = subst (λ (o : List ℕ). Flash e size c blocks flash o k) out_is at.left in
+    let left : Flash e size c blocks flash (clean_marker e ++ output e size (c + 12) (x ∷ xs)) k = subst (λ (o : List ℕ). Flash e size c blocks flash o k) out_is at.left in
     let on : Stands e size blocks flash (c + 12) d 12 n (k - 12) (x ∷ xs) = record {
       cursor = behind_it;
       ends = ends;
       room = room_skips e size blocks c (c + 12) x xs same at.room;
       sure = subst (λ (i : ℕ). Sure e size (c + 12) (k - i) (x ∷ xs)) marker (sure_skips e size c (c + 12) k (clean_marker e) x xs out_by at.sure);
-      left = subst (λ (i : ℕ). Flash e size (c + 12) blocks flash (output e size (c + 12) (bytes_of e (x ∷ xs))) (k - i)) marker
-          (flash_moves e size c (c + 12) d 12 k blocks flash (clean_marker e) (output e size (c + 12) (bytes_of e (x ∷ xs))) behind_it (ap (λ (i : ℕ). c + i) marker) left);
+      left = subst (λ (i : ℕ). Flash e size (c + 12) blocks flash (output e size (c + 12) (x ∷ xs)) (k - i)) marker
+          (flash_moves e size c (c + 12) d 12 k blocks flash (clean_marker e) (output e size (c + 12) (x ∷ xs)) behind_it (ap (λ (i : ℕ). c + i) marker) left);
     } in
     let less : c + 12 - c ≡ 12 = omega arith in
-    ap (λ (ss : List (ℕ × Seen)). ss ++ up e size flash (suc d) n)
-    (front_told e size c d k (output e size (c + 12) (bytes_of e (x ∷ xs))) (flash d) start (left.long d (omega arith)) (omega (arith, at.cursor.large)) (left.each d (omega arith)))
-    ∙ (here e size blocks flash (c + 12) d 12 n (k - 12) x xs ok walks (omega arith) room on
-    ∙ sym (gives_skips e size c (c + 12) k x xs (omega arith) (omega (arith, here_is)) same
-    ∙ ap (λ (i : ℕ). map sighting_of (take (intact size (c + 12) (k - i) (bytes_of e (x ∷ xs))) (placed e size (c + 12) (x ∷ xs)))) less))
+    gives_moved e size flash d 0 n d 12 n (take (intact size c k (x ∷ xs)) (placed_forms size c (x ∷ xs)))
+    (take (intact size (c + 12) (k - 12) (x ∷ xs)) (placed_forms size (c + 12) (x ∷ xs)))
+    (ap (λ (ss : List (ℕ × Seen)). ss ++ up e size flash (suc d) n)
+    (front_told e size c d k (output e size (c + 12) (x ∷ xs)) (flash d) start (left.long d (omega arith)) (omega (arith, at.cursor.large)) (left.each d (omega arith))))
+    (kept_skips size c (c + 12) k x xs (omega arith) (omega (arith, here_is)) same
+    ∙ ap (λ (i : ℕ). take (intact size (c + 12) (k - i) (x ∷ xs)) (placed_forms size (c + 12) (x ∷ xs))) less)
+    (here e size blocks flash (c + 12) d 12 n (k - 12) x xs ok walks (omega arith) room on)
 
 -- ---- into the next block
 
@@ -142,11 +142,11 @@ rest_passed e size c d p k z out block at long is holds =
     ∙ (cut_within (erased z) out k i (omega (arith, inside, is, length-replicate {A = ℕ} z 0xFF)) ∙ (cut_erased [] z k i ∙ nothing_out i k))))
     ∙ erased_told e (d * size) p (size - p)
 
-over : (e : Endian) (size blocks : ℕ) (flash : ℕ → List ℕ) (c d p n k : ℕ) (x : NodeRef) (xs : List NodeRef) → IsStorable e size x → Walks e size blocks flash xs
-    → 12 ≤ p → size < p + length (canonical e x) → Stands e size blocks flash c d p n k (x ∷ xs) → Gives e size flash c d p n k (x ∷ xs)
+over : (e : Endian) (size blocks : ℕ) (flash : ℕ → List ℕ) (c d p n k : ℕ) (x : List ℕ) (xs : List (List ℕ)) → IsStorableForm e size x → Walks e size blocks flash xs
+    → 12 ≤ p → size < p + length x → Stands e size blocks flash c d p n k (x ∷ xs) → Gives e size flash c d p n k (x ∷ xs)
 over e size blocks flash c d p n k x xs ok walks behind_marker outside at =
-    let node : List ℕ = canonical e x in
-    let some : 0 < length node = omega (arith, canonical_long e x) in
+    let node : List ℕ = x in
+    let some : 0 < length node = omega (arith, ok.is.least) in
     let room : 12 + length node ≤ size = ok.room in
     let sized : size % 4 ≡ 0 = at.cursor.sized in
     let ends : suc (d + n) ≡ blocks = at.ends in
@@ -164,10 +164,10 @@ over e size blocks flash c d p n k x xs ok walks behind_marker outside at =
       | inl less ↦ less
       | inr not ↦ let small : blocks * size ≤ suc d * size = mul-le-mul_right size not in absurd (omega (arith, fits, here_is))
     ] in
-    let out_by : (ys : List NodeRef) → output e size c (bytes_of e (x ∷ ys)) ≡ erased z ++ output e size c' (bytes_of e (x ∷ ys)) =
-    λ ys. output_over e size c d node (bytes_of e ys) sized words low high past room some in
-    let out_is : output e size c (bytes_of e (x ∷ xs)) ≡ erased z ++ output e size c' (bytes_of e (x ∷ xs)) = out_by xs in
-    let left : Flash e size c blocks flash (erased z ++ output e size c' (bytes_of e (x ∷ xs))) k = subst (λ (o : List ℕ). Flash e size c blocks flash o k) out_is at.left in
+    let out_by : (ys : List (List ℕ)) → output e size c (x ∷ ys) ≡ erased z ++ output e size c' (x ∷ ys) =
+    λ ys. output_over e size c d node ys sized words low high past room some in
+    let out_is : output e size c (x ∷ xs) ≡ erased z ++ output e size c' (x ∷ xs) = out_by xs in
+    let left : Flash e size c blocks flash (erased z ++ output e size c' (x ∷ xs)) k = subst (λ (o : List ℕ). Flash e size c blocks flash o k) out_is at.left in
     let len : length (erased z) ≡ z = length-replicate {A = ℕ} z 0xFF in
     let cursor : Cursor size c' (suc d) 0 = record {
       sized = sized;
@@ -183,32 +183,33 @@ over e size blocks flash c d p n k x xs ok walks behind_marker outside at =
       ends = omega arith;
       room = room_skips e size blocks c c' x xs same at.room;
       sure = subst (λ (i : ℕ). Sure e size c' (k - i) (x ∷ xs)) len (sure_skips e size c c' k (erased z) x xs out_by at.sure);
-      left = subst (λ (i : ℕ). Flash e size c' blocks flash (output e size c' (bytes_of e (x ∷ xs))) (k - i)) len
-          (flash_moves e size c c' (suc d) 0 k blocks flash (erased z) (output e size c' (bytes_of e (x ∷ xs))) cursor (omega (arith, len)) left);
+      left = subst (λ (i : ℕ). Flash e size c' blocks flash (output e size c' (x ∷ xs)) (k - i)) len
+          (flash_moves e size c c' (suc d) 0 k blocks flash (erased z) (output e size c' (x ∷ xs)) cursor (omega (arith, len)) left);
     } in
     let rest : told e (d * size) p (drop p (flash d)) ≡ [] =
-    rest_passed e size c d p k z (output e size c' (bytes_of e (x ∷ xs))) (flash d) at.cursor.at (left.long d (omega arith)) (omega (arith, at.cursor.at))
-    (holds_behind e size c k d p (erased z ++ output e size c' (bytes_of e (x ∷ xs))) (flash d) at.cursor.at behind_marker (left.each d (omega arith))) in
+    rest_passed e size c d p k z (output e size c' (x ∷ xs)) (flash d) at.cursor.at (left.long d (omega arith)) (omega (arith, at.cursor.at))
+    (holds_behind e size c k d p (erased z ++ output e size c' (x ∷ xs)) (flash d) at.cursor.at behind_marker (left.each d (omega arith))) in
     let n' : ℕ = n - 1 in
     let one_more : n ≡ suc n' = omega arith in
-    ap (λ (ss : List (ℕ × Seen)). ss ++ up e size flash (suc d) n) rest
-    ∙ (ap (up e size flash (suc d)) one_more
-    ∙ (front e size blocks flash c' (suc d) n' (k - z) x xs ok walks (on n' one_more)
-    ∙ sym (gives_skips e size c c' k x xs (omega arith) (omega (arith, here_is)) same)))
+    gives_moved e size flash d p n (suc d) 0 n' (take (intact size c k (x ∷ xs)) (placed_forms size c (x ∷ xs)))
+    (take (intact size c' (k - z) (x ∷ xs)) (placed_forms size c' (x ∷ xs)))
+    (ap (λ (ss : List (ℕ × Seen)). ss ++ up e size flash (suc d) n) rest ∙ ap (up e size flash (suc d)) one_more)
+    (kept_skips size c c' k x xs (omega arith) (omega (arith, here_is)) same)
+    (front e size blocks flash c' (suc d) n' (k - z) x xs ok walks (on n' one_more))
 
 -- ---- the walk
 
-step : (e : Endian) (size blocks : ℕ) (flash : ℕ → List ℕ) (x : NodeRef) (xs : List NodeRef) → IsStorable e size x → Walks e size blocks flash xs → Walks e size blocks flash (x ∷ xs)
+step : (e : Endian) (size blocks : ℕ) (flash : ℕ → List ℕ) (x : List ℕ) (xs : List (List ℕ)) → IsStorableForm e size x → Walks e size blocks flash xs → Walks e size blocks flash (x ∷ xs)
 step e size blocks flash x xs ok walks c d p n k at = elim at.cursor.beside [
   | inl begins ↦
       subst (λ (q : ℕ). Stands e size blocks flash c d q n k (x ∷ xs) → Gives e size flash c d q n k (x ∷ xs)) (sym begins) (front e size blocks flash c d n k x xs ok walks) at
-  | inr behind_marker ↦ elim (cases_lt size (p + length (canonical e x))) [
+  | inr behind_marker ↦ elim (cases_lt size (p + length x)) [
     | inl outside ↦ over e size blocks flash c d p n k x xs ok walks behind_marker outside at
     | inr inside ↦ here e size blocks flash c d p n k x xs ok walks behind_marker inside at
   ]
 ]
 
 -- What is told of the flash from a cursor on: of the nodes that were being written there those that are kept.
-pub walks_all : (e : Endian) (size blocks : ℕ) (flash : ℕ → List ℕ) (xs : List NodeRef) → AllByRecursion (IsStorable e size) xs → Walks e size blocks flash xs
+pub walks_all : (e : Endian) (size blocks : ℕ) (flash : ℕ → List ℕ) (xs : List (List ℕ)) → AllByRecursion (IsStorableForm e size) xs → Walks e size blocks flash xs
 walks_all e size blocks flash [] ok = walks_none e size blocks flash
 walks_all e size blocks flash (x ∷ xs) ok = step e size blocks flash x xs ok.0 (walks_all e size blocks flash xs ok.1)

@@ -12,3 +12,11 @@ pub mod Session
 pub mod Done
 pub mod Resuming
 pub mod View
+pub mod Forms
+pub mod Through
+pub mod ThroughLaws
+pub mod Packed
+pub mod HeadlineThrough
+pub mod DoneThrough
+pub mod SessionAs
+pub mod SessionAsLaws

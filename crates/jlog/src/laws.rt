@@ -2,8 +2,13 @@
 
 ghost use Rattle.jlog.specs.Laws.{PlaceIsLeast, PlacesAreLeast, OutputIsLong, OutputGoesOn, OneMoreGoesOut, IntactIsCounted, WholeIsBeginning, AllIsIntact, RoomGoesOn, EndIsWithin, BlocksAreLeast};
 ghost use Rattle.jlog.specs.LeftLaws.{PlacedAreNew, BaseStays, LeftIsWithin, LeftSightings, LeftNodes, LeftRefuses, WholeNodes, WholeRefuses, WrittenIsLeft, MarkerIsLeft, PlacesAreLeft, OutputIsImage};
+ghost use Rattle.jlog.specs.Forms.{LeftForms, WholeForms};
 ghost use Rattle.jlog.specs.Headline.{AcceptedSurvives};
+ghost use Rattle.jlog.specs.DoneThrough.{ThroughBegins, DoneSurvives, DoneGoesOn};
+ghost use Rattle.jlog.specs.HeadlineThrough.{FormsSurvive};
 ghost use Rattle.jlog.specs.MountLaws.{SoundNodesAreApart, LeftIsSound, WholeIsSound, OutputIsSound, OutputMounts};
+ghost use Rattle.jlog.specs.SessionAsLaws.{UnpackedApplies, UnpackedRuns, UnpackedMayPack, RunSurvivesAs, RunGoesOnAs, ShorterFormsFit};
+ghost use Rattle.jlog.specs.ThroughLaws.{LeftExpands, WholeExpands, OutputExpands, PlainMountsThrough, ThroughMountsPlain};
 
 /// A node goes to the least place, and each next one to the least after it.
 pub fn place_is_least()
@@ -65,8 +70,29 @@ pub fn some_are_left()
     ensures marker { MarkerIsLeft }
 {}
 
-/// After a cut there stands what was in the base, and the new nodes that are intact, but for
-/// markers and damage.
+/// After a cut there stands what was in the base, and the forms that are intact, but for markers
+/// and damage; without a cut all of them, weak or not and of any length.
+pub fn left_forms()
+    ensures cut { LeftForms }
+    ensures whole { WholeForms }
+{}
+
+/// Through the compression the nodes are the base's, and those of the forms that are kept; without
+/// a cut those of all. So an image of forms alone has just their nodes.
+pub fn left_expands()
+    ensures cut { LeftExpands }
+    ensures whole { WholeExpands }
+    ensures image { OutputExpands }
+{}
+
+/// An image without compressed nodes mounts through just where it mounts, as the same file system.
+pub fn mount_through()
+    ensures plain { PlainMountsThrough }
+    ensures through { ThroughMountsPlain }
+{}
+
+/// The same of nodes: after a cut there stands what was in the base, and the new nodes that are
+/// intact, but for markers and damage.
 pub fn left_sightings()
     ensures { LeftSightings }
 {}
@@ -104,6 +130,41 @@ pub fn left_is_sound()
 /// left mounts as the file system after the steps whose nodes stand whole.
 pub fn accepted_survives()
     ensures { AcceptedSurvives }
+{}
+
+/// Whatever the base that mounts through, the accepted operations, the forms that their nodes are
+/// put in and the byte where writing stops: what is left mounts through as the file system after
+/// the steps whose forms stand whole.
+pub fn forms_survive()
+    ensures { FormsSurvive }
+{}
+
+/// A log goes on from an image that mounts through. What it has done, in whatever forms, survives
+/// while more is written, and it goes on after that.
+pub fn done_survives()
+    ensures begins { ThroughBegins }
+    ensures survives { DoneSurvives }
+    ensures goes_on { DoneGoesOn }
+{}
+
+/// What a run of a session that packs did survives, on whatever base that mounts through, and the
+/// log goes on after it.
+pub fn run_survives_as()
+    ensures survives { RunSurvivesAs }
+    ensures goes_on { RunGoesOnAs }
+{}
+
+/// Forms fit where the nodes' own do.
+pub fn shorter_forms_fit()
+    ensures { ShorterFormsFit }
+{}
+
+/// A session that may pack, and does not, promises what one that never packs does; and what it did
+/// is what one may do that packs.
+pub fn unpacked_is_as_ever()
+    ensures applies { UnpackedApplies }
+    ensures runs { UnpackedRuns }
+    ensures may { UnpackedMayPack }
 {}
 
 /// What goes out for any nodes from the start of an erased flash on is an image of these nodes, at

@@ -10,3 +10,5 @@ pub mod FitsLemmas
 pub mod UndoLemmas
 pub mod CutLemmas
 pub mod StoredLemmas
+pub mod FormLemmas
+pub mod WholeLemmas

@@ -57,14 +57,14 @@ pub weak_same : (e : Endian) (xs : List ℕ) (j : ℕ) → torn xs j ≡ xs → 
 unfolding is_weak
 weak_same e xs j same = let it : bytes_eq (torn xs j) xs ≡ true = (bytes_eq-Decides _ _).1 same in rw it refl
 
-weak_intact : (e : Endian) (xs : List ℕ) (j : ℕ) → (torn xs j ≡ xs → ⊥) → take 12 (torn xs j) ≡ take 12 xs → is_weak e xs j ≡ is_sound (seen_of e (filled (torn xs j)))
+pub weak_intact : (e : Endian) (xs : List ℕ) (j : ℕ) → (torn xs j ≡ xs → ⊥) → take 12 (torn xs j) ≡ take 12 xs → is_weak e xs j ≡ is_sound (seen_of e (filled (torn xs j)))
 unfolding is_weak
 weak_intact e xs j differs same =
     let all : bytes_eq (torn xs j) xs ≡ false = false_from_ne_true _ (λ t. differs ((bytes_eq-Decides _ _).0 t)) in
     let front : bytes_eq (take 12 (torn xs j)) (take 12 xs) ≡ true = (bytes_eq-Decides _ _).1 same in
     rw (all, front) refl
 
-weak_lost : (e : Endian) (xs : List ℕ) (j : ℕ) → (torn xs j ≡ xs → ⊥) → (take 12 (torn xs j) ≡ take 12 xs → ⊥) → is_weak e xs j ≡ has_bounded_header e (torn xs j)
+pub weak_lost : (e : Endian) (xs : List ℕ) (j : ℕ) → (torn xs j ≡ xs → ⊥) → (take 12 (torn xs j) ≡ take 12 xs → ⊥) → is_weak e xs j ≡ has_bounded_header e (torn xs j)
 unfolding is_weak
 weak_lost e xs j differs other =
     let all : bytes_eq (torn xs j) xs ≡ false = false_from_ne_true _ (λ t. differs ((bytes_eq-Decides _ _).0 t)) in
@@ -109,7 +109,7 @@ left_intact e xs j w within same =
       is = λ differs. ap (λ (zs : List ℕ). is_sound (seen_of e zs)) t.tile ∙ sym (weak_intact e xs j differs front);
     }
 
-bounded : (e : Endian) (front : List ℕ) → is_good_front e front 4194304 ≡ has_bounded_header e front
+pub bounded : (e : Endian) (front : List ℕ) → is_good_front e front 4194304 ≡ has_bounded_header e front
 unfolding is_good_front has_bounded_header
 bounded e front = refl
 
@@ -181,40 +181,40 @@ differs_stored m xs k within =
 
 -- ---- checks that speak of the front alone
 
-same_number : (e : Endian) (n p m : ℕ) (a b : List ℕ) → take m a ≡ take m b → p + n ≤ m → number_at e n p a ≡ number_at e n p b
+pub same_number : (e : Endian) (n p m : ℕ) (a b : List ℕ) → take m a ≡ take m b → p + n ≤ m → number_at e n p a ≡ number_at e n p b
 same_number e n p m a b same within = sym (number_at-take e n p m a within) ∙ ap (number_at e n p) same ∙ number_at-take e n p m b within
 
-same_byte : (i m : ℕ) (a b : List ℕ) → take m a ≡ take m b → i < m → slice_index a i ≡ slice_index b i
+pub same_byte : (i m : ℕ) (a b : List ℕ) → take m a ≡ take m b → i < m → slice_index a i ≡ slice_index b i
 same_byte i m a b same within = sym (get_or-take m a i 0 within) ∙ ap (λ (l : List ℕ). slice_index l i) same ∙ get_or-take m b i 0 within
 
 same_take : (n m : ℕ) (a b : List ℕ) → take m a ≡ take m b → n ≤ m → take n a ≡ take n b
 same_take n m a b same within = sym (take_of_take n m a within) ∙ ap (take n) same ∙ take_of_take n m b within
 
-crc_check : (e : Endian) (place n m : ℕ) (a b : List ℕ) → take m a ≡ take m b → place + 4 ≤ m → n ≤ m
+pub crc_check : (e : Endian) (place n m : ℕ) (a b : List ℕ) → take m a ≡ take m b → place + 4 ≤ m → n ≤ m
     → is_crc_right e a place (take n a) ≡ is_crc_right e b place (take n b)
 unfolding is_crc_right
 crc_check e place n m a b same room covered =
     ap₂ (λ (x : ℕ) (ys : List ℕ). x == crc_of ys) (same_number e 4 place m a b same room) (same_take n m a b same covered)
 
-size_check : (e : Endian) (x y m : ℕ) (a b : List ℕ) → take m a ≡ take m b → 8 ≤ m → x ≡ y → is_size_right e a x ≡ is_size_right e b y
+pub size_check : (e : Endian) (x y m : ℕ) (a b : List ℕ) → take m a ≡ take m b → 8 ≤ m → x ≡ y → is_size_right e a x ≡ is_size_right e b y
 unfolding is_size_right
 size_check e x y m a b same room is =
     ap₂ (λ (s t : ℕ). pad4_of s == pad4_of t) is (same_number e 4 4 m a b same room)
 
-entry_long_check : (e : Endian) (a b : List ℕ) → take 40 a ≡ take 40 b → is_entry_long e a ≡ is_entry_long e b
+pub entry_long_check : (e : Endian) (a b : List ℕ) → take 40 a ≡ take 40 b → is_entry_long e a ≡ is_entry_long e b
 unfolding is_entry_long
 entry_long_check e a b same = ap (nat_le 40) (same_number e 4 4 40 a b same (omega arith))
 
-entry_range_check : (e : Endian) (a b : List ℕ) → take 40 a ≡ take 40 b → is_entry_in_range e a ≡ is_entry_in_range e b
+pub entry_range_check : (e : Endian) (a b : List ℕ) → take 40 a ≡ take 40 b → is_entry_in_range e a ≡ is_entry_in_range e b
 unfolding is_entry_in_range
 entry_range_check e a b same =
     ap₂ (λ (n p : ℕ). nat_le 1 n && nat_le n 254 && nat_lt 0 p) (same_byte 28 40 a b same (omega arith)) (same_number e 4 12 40 a b same (omega arith))
 
-inode_long_check : (e : Endian) (a b : List ℕ) → take 68 a ≡ take 68 b → is_inode_long e a ≡ is_inode_long e b
+pub inode_long_check : (e : Endian) (a b : List ℕ) → take 68 a ≡ take 68 b → is_inode_long e a ≡ is_inode_long e b
 unfolding is_inode_long
 inode_long_check e a b same = ap (nat_le 68) (same_number e 4 4 68 a b same (omega arith))
 
-inode_range_check : (e : Endian) (a b : List ℕ) → take 68 a ≡ take 68 b → is_inode_in_range e a ≡ is_inode_in_range e b
+pub inode_range_check : (e : Endian) (a b : List ℕ) → take 68 a ≡ take 68 b → is_inode_in_range e a ≡ is_inode_in_range e b
 unfolding is_inode_in_range
 inode_range_check e a b same =
     rw (
@@ -226,7 +226,7 @@ inode_range_check e a b same =
     ) refl
 
 -- the last check decides, where the others pass
-last_check : (a b c d f : Bool) (v w x y z : Damage) (r : Seen) → a ≡ true → b ≡ true → c ≡ true → d ≡ true → is_sound r ≡ true
+pub last_check : (a b c d f : Bool) (v w x y z : Damage) (r : Seen) → a ≡ true → b ≡ true → c ≡ true → d ≡ true → is_sound r ≡ true
     → is_sound (cond (not a) (seen.Damaged v) (cond (not b) (seen.Damaged w) (cond (not c) (seen.Damaged x) (cond (not d) (seen.Damaged y) (cond (not f) (seen.Damaged z) r))))) ≡ f
 last_check true true true true true v w x y z r ha hb hc hd sound = sound
 last_check true true true true false v w x y z r ha hb hc hd sound = refl
@@ -305,7 +305,7 @@ inode_stored e n k fits writable =
 
 -- ---- so the cut is weak just where the checksum does not show it
 
-weak_of_sound : (e : Endian) (xs : List ℕ) (m k : ℕ) (s : Bool) → m ≤ length xs → 12 ≤ m → is_sound (seen_of e (filled (torn xs (m + k)))) ≡ s
+pub weak_of_sound : (e : Endian) (xs : List ℕ) (m k : ℕ) (s : Bool) → m ≤ length xs → 12 ≤ m → is_sound (seen_of e (filled (torn xs (m + k)))) ≡ s
     → is_weak e xs (m + k) ≡ (not (bytes_eq (torn (drop m xs) k) (drop m xs)) && s)
 unfolding is_weak
 weak_of_sound e xs m k s within least is =
@@ -313,7 +313,7 @@ weak_of_sound e xs m k s within least is =
     (bytes_eq-Decides _ _).1 (cut_behind_keeps_header xs (m + k) (omega arith) (omega arith)) in
     rw front (ap₂ (λ (x y : Bool). not x && y) (differs_stored m xs k within) is)
 
-none_stored : (stored : List ℕ) (k : ℕ) (x : Bool) → (not (bytes_eq (torn stored k) stored) && ((length stored == 0) || x)) ≡ (not (bytes_eq (torn stored k) stored) && x)
+pub none_stored : (stored : List ℕ) (k : ℕ) (x : Bool) → (not (bytes_eq (torn stored k) stored) && ((length stored == 0) || x)) ≡ (not (bytes_eq (torn stored k) stored) && x)
 none_stored [] k x =
     let it : bytes_eq (torn [] k) [] ≡ true = (bytes_eq-Decides _ _).1 (torn_past [] k (omega arith)) in
     rw it refl
@@ -321,11 +321,11 @@ none_stored (b ∷ stored) k x =
     let some : (length (b ∷ stored) == 0) ≡ false = ne_eqb _ _ (omega arith) in
     rw some refl
 
-seen_as_entry : (e : Endian) (tile : List ℕ) → nodetype_of e tile ≡ 0xE001 → seen_of e tile ≡ entry_seen e tile
+pub seen_as_entry : (e : Endian) (tile : List ℕ) → nodetype_of e tile ≡ 0xE001 → seen_of e tile ≡ entry_seen e tile
 unfolding seen_of
 seen_as_entry e tile kind = rw kind refl
 
-seen_as_inode : (e : Endian) (tile : List ℕ) → nodetype_of e tile ≡ 0xE002 → seen_of e tile ≡ inode_seen e tile
+pub seen_as_inode : (e : Endian) (tile : List ℕ) → nodetype_of e tile ≡ 0xE002 → seen_of e tile ≡ inode_seen e tile
 unfolding seen_of
 seen_as_inode e tile kind = rw kind refl
 

@@ -1,11 +1,13 @@
 -- A write that power cut short leaves the first bytes of a node, and erased flash after them.
-use Rattle.std.specs.Prelude.{◌≡◌, ◌≤◌, ◌==◌, ℕ, ◌-◌, ◌&&◌, not, Bool, true, false, nat_le, bytes_eq, IsTrue, Option, Some, None, List, ◌++◌, length, take, if◌then◌else◌}
+use Rattle.std.specs.Prelude.{◌≡◌, ◌≤◌, ◌==◌, ◌⊎◌, ℕ, ◌+◌, ◌-◌, ◌&&◌, not, Bool, true, false, nat_le, bytes_eq, IsTrue, Option, Some, None, List, ◌++◌, length, take, if◌then◌else◌}
 use Rattle.flashbase.specs.Bytes.{erased}
 use Rattle.flashbase.specs.Crc.{crc_of}
 use Rattle.jnode.specs.Header.{header_len, has_header, nodetype_of, totlen_of}
-use Rattle.jnode.specs.Reading.{seen_of, inode_type, entry_len, inode_len}
+use Rattle.jnode.specs.Compressed.{canonical_compressed, FitsCompressed, IsWritableCompressed}
+use Rattle.jnode.specs.Reading.{seen_of, dirent_type, inode_type, entry_len, inode_len, nsize_of, csize_of}
 use Rattle.jnode.specs.Writing.{filled, totlen_most, canonical, Fits, IsWritable}
 use Rattle.jnode.specs.declared.order.Endian.{Endian}
+use Rattle.jnode.specs.declared.node.CompressedNode.{CompressedNode}
 use Rattle.jnode.specs.declared.node.NodeRef.{NodeRef}
 use Rattle.jnode.specs.declared.node.Seen.{Seen}
 use Rattle.jnode.specs.declared.node.Seen.TheVariants as seen
@@ -50,6 +52,32 @@ pub record IsWrittenAs (e : Endian) (bytes : List ℕ) (node : NodeRef) : Type 0
 -- These bytes are the written form of some node.
 abbrev pub IsWrittenNode : Endian → List ℕ → Type 0
 IsWrittenNode e bytes = (node : NodeRef) × IsWrittenAs e bytes node
+
+-- These bytes are the written form of a compressed node that is not refused.
+pub record IsWrittenCompressed (e : Endian) (bytes : List ℕ) : Type 0 where
+  pub node : CompressedNode
+  pub form : bytes ≡ canonical_compressed e node
+  pub fits : FitsCompressed node
+  pub writable : IsWritableCompressed node
+
+-- These bytes are the written form of a node, compressed or not.
+abbrev pub IsWrittenForm : Endian → List ℕ → Type 0
+IsWrittenForm e bytes = IsWrittenNode e bytes ⊎ IsWrittenCompressed e bytes
+
+-- A form: bytes that begin with a header of right magic and checksum, which tells their length, and
+-- that are seen as a sound node, compressed or not.
+pub record IsForm (e : Endian) (form : List ℕ) : Type 0 where
+  pub least : header_len ≤ length form
+  pub header : IsTrue (has_header e form)
+  pub totlen : totlen_of e form ≡ length form
+  pub sound : IsTrue (is_sound (seen_of e (filled form)))
+
+-- a form that is not too long, and ends where its name or its data do
+pub record IsWholeForm (e : Endian) (form : List ℕ) : Type 0 where
+  pub is : IsForm e form
+  pub most : length form ≤ totlen_most
+  pub name : nodetype_of e form ≡ dirent_type → length form ≡ entry_len + nsize_of form
+  pub «data» : nodetype_of e form ≡ inode_type → length form ≡ inode_len + csize_of e form
 
 -- where the bytes of an entry's name or of an inode node's data begin
 abbrev pub stored_at : Endian → List ℕ → ℕ

@@ -2,7 +2,7 @@
 
 ghost use Rattle.std.specs.Prelude.{◌≡◌, ◌↔◌, ◌+◌, ◌<◌, ◌≤◌, IsTrue, IfSome, length, drop};
 ghost use Rattle.jnode.specs.Tails.{IsTailFrom};
-ghost use Rattle.jnode.specs.Weak.{torn, is_weak, is_sound, IsLeastWeak, IsWrittenNode, IsLeastHidden, stored_at};
+ghost use Rattle.jnode.specs.Weak.{torn, is_weak, is_sound, IsLeastWeak, IsWrittenForm, IsLeastHidden, stored_at};
 
 use crate::header::{front_of, is_good_front};
 use crate::layout::{TOTLEN_MOST, entry, header, inode, nodetype};
@@ -126,7 +126,7 @@ fn is_changed(bytes: &[u8], cut: usize) -> bool
 
 /// Whether the checks do not show a cut, by reading what it leaves.
 fn is_weak_at<E: Order>(bytes: &[u8], cut: usize) -> bool
-    requires written { IsWrittenNode E.order bytes.now }
+    requires written { IsWrittenForm E.order bytes.now }
     requires within { cut ≤ length bytes.now }
     ensures { result ≡ is_weak E.order bytes.now cut }
 {
@@ -145,7 +145,7 @@ fn is_weak_at<E: Order>(bytes: &[u8], cut: usize) -> bool
 
 /// Where the bytes of an entry's name or of an inode node's data begin.
 fn stored_at<E: Order>(bytes: &[u8]) -> usize
-    requires { IsWrittenNode E.order bytes.now }
+    requires { IsWrittenForm E.order bytes.now }
     ensures place { result ≡ stored_at E.order bytes.now }
     ensures within { result ≤ length bytes.now }
 {
@@ -156,16 +156,16 @@ fn stored_at<E: Order>(bytes: &[u8]) -> usize
     }
 }
 
-/// The least weak cut of an entry or inode node, or `None` where it has none: how many of its bytes
+/// The least weak cut of an entry or inode node, compressed or not, or `None` where it has none: how many of its bytes
 /// are on the flash when power fails, so that what is left of it differs from it and no check shows
 /// that. What is left is these bytes and then 0xFF; the checks show it unless its header is the
 /// node's and all its checksums are right, or its header is another one with a right checksum and
 /// length.
 ///
-/// `bytes` is the node as `write_entry` or `write_inode` wrote it, without padding. It takes no
+/// `bytes` is the node as `write_entry`, `write_inode` or `write_compressed` wrote it, without padding. It takes no
 /// memory, and time proportional to the length.
 pub fn weak_cut<E: Order>(bytes: &[u8]) -> Option<usize>
-    requires { IsWrittenNode E.order bytes.now }
+    requires { IsWrittenForm E.order bytes.now }
     ensures { IsLeastWeak E.order bytes.now result }
 {
     let front = stored_at::<E>(bytes);

@@ -1,0 +1,45 @@
+-- What may go out for a node: its own written form, or that of a compressed node that stands for it.
+use Rattle.std.specs.Prelude.{◌≡◌, ◌≢◌, ◌⊎◌, ℕ, ◌+◌, ◌<◌, List, [], ◌∷◌, length, Some}
+use Rattle.flashbase.specs.Bytes.{pad4_of}
+use Rattle.jnode.specs.Compressed.{canonical_compressed, FitsCompressed, IsWritableCompressed}
+use Rattle.jnode.specs.Header.{magic}
+use Rattle.jnode.specs.Reading.{inode_len}
+use Rattle.jnode.specs.Writing.{canonical}
+use Rattle.jnode.specs.declared.node.CompressedNode.{CompressedNode}
+use Rattle.jnode.specs.declared.node.NodeRef.{NodeRef}
+use Rattle.jnode.specs.declared.order.Endian.{Endian}
+use Rattle.jmount.specs.Tree.{type_bits, regular_bits}
+use Rattle.jexpand.specs.Expanded.{node_content, with_content}
+
+-- the number of the method that is written
+abbrev pub zlib_number : ℕ
+zlib_number = 6
+
+-- A compressed node that stands for a node of a regular file: its data give just the bytes of that
+-- node, whose other fields it has, and it takes fewer words.
+pub record StandsFor (packed : CompressedNode) (node : NodeRef) : Type 0 where
+  pub bytes : List ℕ
+  pub content : node_content packed ≡ Some bytes
+  pub expanded : with_content packed bytes ≡ node
+  pub method : packed.compr ≡ zlib_number
+  pub regular : type_bits packed.mode ≡ regular_bits
+  pub shorter : pad4_of (inode_len + length packed.data) < pad4_of (inode_len + length bytes)
+  pub fits : FitsCompressed packed
+  pub writable : IsWritableCompressed packed
+
+-- the written form of a compressed node that stands for a node
+abbrev pub IsPackedForm : Endian → NodeRef → List ℕ → Type 0
+IsPackedForm e node form =
+    (packed : CompressedNode) × StandsFor packed node × (form ≡ canonical_compressed e packed)
+
+-- A form of a node: its own, or a packed one whose length does not spell the magic.
+abbrev pub IsFormFor : Endian → NodeRef → List ℕ → Type 0
+IsFormFor e node form =
+    (form ≡ canonical e node) ⊎ (IsPackedForm e node form × (length form ≢ magic))
+
+-- forms of nodes, one for each and in their order
+abbrev pub AreFormsFor : Endian → List NodeRef → List (List ℕ) → Type 0
+AreFormsFor e [] [] = Unit {0}
+AreFormsFor e [] (form ∷ forms) = ⊥
+AreFormsFor e (node ∷ nodes) [] = ⊥
+AreFormsFor e (node ∷ nodes) (form ∷ forms) = IsFormFor e node form × AreFormsFor e nodes forms
