@@ -1,5 +1,5 @@
 -- The first of some sizes that passes, for two tests together.
-use Rattle.std.proofs.Common.{◌≡◌, ℕ, ◌+◌, ◌*◌, ◌/◌, ◌%◌, ◌≤◌, Bool, true, false, ◌&&◌, List, [], ◌∷◌, max, refl, sym, subst, ap₂, arith, ◌∙◌, ⊎_elim, drop, eqb}
+use Rattle.std.proofs.Common.{◌≡◌, ℕ, ◌+◌, ◌*◌, ◌/◌, ◌≤◌, Bool, true, false, ◌&&◌, List, [], ◌∷◌, max, refl, sym, subst, ap₂, arith, ◌∙◌, ⊎_elim, drop, eqb}
 use Rattle.std.specs.Prelude.{◌==◌, ◌<◌, zero, suc, take, slice_index_or, Some, None, nat_lt, not, length}
 use Rattle.std.specs.List.{position, position_or_len, list_all, list_any}
 use Rattle.std.proofs.lemmas.List.Sums.{prefix_len-le-length}

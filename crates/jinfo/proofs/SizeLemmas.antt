@@ -1,8 +1,8 @@
 -- The sizes that nothing rules out, and those that fit.
-use Rattle.std.proofs.Common.{◌≡◌, ℕ, zero, suc, ◌+◌, ◌-◌, ◌*◌, ◌/◌, ◌%◌, ◌≤◌, ◌<◌, Bool, true, false, ◌&&◌, ◌||◌, List, [], ◌∷◌, length, refl, sym, subst, ap, ap₂, arith, ◌∙◌, ⊎_elim}
-use Rattle.std.specs.Prelude.{◌==◌, slice_index_or, Option, Some, None, IsSomeAnd, IsTrue, nat_le, not, max, if◌then◌else◌}
+use Rattle.std.proofs.Common.{◌≡◌, ℕ, zero, suc, ◌+◌, ◌-◌, ◌*◌, ◌/◌, ◌%◌, ◌≤◌, ◌<◌, Bool, true, false, ◌&&◌, ◌||◌, List, [], ◌∷◌, refl, sym, subst, ap, ap₂, arith, ◌∙◌, ⊎_elim}
+use Rattle.std.specs.Prelude.{◌==◌, slice_index_or, Option, Some, None, IsSomeAnd, nat_le, not, max, if◌then◌else◌}
 use Rattle.std.specs.Int.{IsGcd, ◌∣◌}
-use Rattle.std.specs.List.{list_all, list_any, Contains}
+use Rattle.std.specs.List.{list_all, list_any}
 use Rattle.std.proofs.Math.Nat.{div-mul-le_self, mod-eq_of_lt}
 use Rattle.std.proofs.lemmas.Bool.{cases_Bool, cond_both, cond-true, cond-false, both_ways, and_parts, and_from, and_left, and_right, leb-true, leb-false, le-leb, lt-leb, eqb-true, eq-eqb, ne_eqb, not-true}
 use Rattle.std.proofs.lemmas.Nat.Gcd.{dvd_trans, dvd_of_mod-eq-zero, mod-eq-zero_of_dvd}
@@ -14,7 +14,7 @@ use Rattle.jinfo.specs.Marks.{MarksOf, may_be_by, range_of_marks}
 use Rattle.jinfo.specs.SizeLaws.{FittingAreTold, ToldAreLeft, LeftPowersFit}
 use Rattle.jinfo.specs.declared.marks.Marks.{Marks}
 use Rattle.jinfo.specs.declared.sizes.SizeRange.{SizeRange}
-use Rattle.jinfo.proofs.FirstLemmas.{Rises, all_rise, passes_behind, behind_passes}
+use Rattle.jinfo.proofs.FirstLemmas.{all_rise, passes_behind, behind_passes}
 use Rattle.jinfo.proofs.TallyLemmas.{node_rises}
 
 -- ---- what was counted rules out the same sizes

@@ -1,4 +1,4 @@
-use Rattle.std.proofs.Common.{◌+◌, ◌-◌, ◌*◌, sym, ◌∙◌}
+use Rattle.std.proofs.Common.{◌-◌, ◌*◌, sym, ◌∙◌}
 use Rattle.jinfo.specs.Marks.{may_be_by}
 use Rattle.jinfo.proofs.SizeLemmas.{downwards_more, downwards_here, downwards_none, downwards_from}
 use Rattle.jinfo.proofs.marks.Marks.greatest.Goals as goal

@@ -1,4 +1,4 @@
-use Rattle.std.proofs.Common.{◌≡◌, ◌+◌, ◌-◌, ◌*◌}
+use Rattle.std.proofs.Common.{◌≡◌, ◌-◌, ◌*◌}
 use Rattle.jinfo.specs.BlockSizes.{first_downwards, size_count, greatest_passing}
 use Rattle.jinfo.specs.Marks.{may_be_by}
 use Rattle.jinfo.proofs.marks.Marks.greatest.Given as goal

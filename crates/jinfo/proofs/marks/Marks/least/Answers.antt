@@ -1,4 +1,4 @@
-use Rattle.std.proofs.Common.{◌+◌, ◌-◌, ◌*◌, sym, ◌∙◌}
+use Rattle.std.proofs.Common.{◌+◌, ◌*◌, sym, ◌∙◌}
 use Rattle.jinfo.specs.Marks.{may_be_by}
 use Rattle.jinfo.proofs.SizeLemmas.{upwards_more, upwards_here, upwards_none}
 use Rattle.jinfo.proofs.marks.Marks.least.Goals as goal
