@@ -134,7 +134,7 @@ erased 70000 > blank
 run decompress blank out.img; want 0 "decompressed 0 nodes 0 bytes 0" ""; same out.img empty
 run decompress blank /dev/full; want 0 "decompressed 0 nodes 0 bytes 0" ""
 
-# ---- Images of mkfs.jffs2: the folder is that of tests/data/make.sh
+# ---- Images of mkfs.jffs2, and their nodes by LZMA: the folder is that of tests/data/make.sh
 
 seq 1 3000 > log
 head -c 5000 /dev/zero > zeros
@@ -268,6 +268,8 @@ done << 'END'
 default 8192 little 0000018c 6 7 30168
 lzo 65536 big 0000018c 7 8 21700
 rtime 8192 little 0000400c 2 6 30168
+lzma 8192 little 0000018c 8 7 30168
+lzma_big 65536 big 0000018c 8 8 21700
 END
 
 # ---- Faults: nothing is made, and what was there stays
@@ -296,7 +298,7 @@ for value in 0 4095 4097 4194308 4294967295; do
 done
 refused "M3 Incompatible at 0000008c type e0f7" later
 refused "M4 Compressed at 0000008c compr 3" wrong_method
-for name in rtime zlib lzo; do
+for name in rtime zlib lzo lzma; do
     refused "Z1 Data at 0000008c" wrong_$name
     run ls wrong_$name; want 1 "" $'jffs2_image: M4 Compressed at 00000038 compr 6\n'"$note"
 done

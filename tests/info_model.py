@@ -6,18 +6,19 @@
     order none
     block unknown
     nodes entries 0 inodes 0 obsolete 0 damaged 0 other 0
-    data none 0 zero 0 rtime 0 zlib 0 lzo 0 other 0
+    data none 0 zero 0 rtime 0 zlib 0 lzo 0 lzma 0 other 0
     highest inode 0 version 0
 
 It shares nothing with the crates. The layouts are those of include/uapi/linux/jffs2.h of Linux; the rules are those of
 docs/FORMAT.md."""
 import binascii
+import math
 import struct
 import sys
 
 MAGIC, ACCURATE = 0x1985, 0x2000
 DIRENT, INODE, MARKER = 0xE001, 0xE002, 0x2003
-SIZES = [1 << bits for bits in range(12, 23)]
+SIZES = range(4096, 4194305, 4)
 BEGINNINGS = [(b'\x1f\x8b', 'gzip'), (b'\xfd7zXZ\0', 'xz'), (b'UBI#', 'UBI'), (b'hsqs', 'squashfs'),
               (b'HDR0', 'a TRX header'), (b'\x27\x05\x19\x56', 'a uImage header')]
 
@@ -87,11 +88,17 @@ def judged_inode(tile, totlen, order):
 
 def sizes(nodes):
     markers = [node[0] for node in nodes if node[2] == 'marker']
-    least = [size for size in SIZES if all(a // size == (a + n - 1) // size for a, n, *_ in nodes)]
-    greatest = [size for size in SIZES if all(a % size == 0 for a in markers)]
-    if not any(markers) or not least or not greatest or least[0] > greatest[-1]:
+    common = math.gcd(*markers)
+    left = [size for size in SIZES if common % size == 0 and may_be(size, nodes)] if any(markers) else []
+    if not left:
         return 'block unknown'
-    return f'block from {least[0]} to {greatest[-1]} markers {len(markers)}'
+    return f'block from {left[0]} to {left[-1]} markers {len(markers)}'
+
+
+def may_be(size, nodes):
+    if size & (size - 1):
+        return all(n <= size for _, n, *_ in nodes)
+    return all(a // size == (a + n - 1) // size for a, n, *_ in nodes)
 
 
 def lines(image):
@@ -101,13 +108,13 @@ def lines(image):
     ways = [node[5] for node in nodes if node[2] == 'inode']
     order = f"order {'big' if nodes is big else 'little'} nodes {len(nodes)} other {len(other)}"
     counted = [kinds.count(kind) for kind in ('entry', 'inode', 'obsolete', 'damaged')]
-    packed = [ways.count(way) for way in (0, 1, 2, 6, 7)]
+    packed = [ways.count(way) for way in (0, 1, 2, 6, 7, 8)]
     return [
         f'bytes {len(image)}',
         order if nodes else 'order none',
         sizes(nodes),
         'nodes entries {} inodes {} obsolete {} damaged {} other {}'.format(*counted, len(nodes) - sum(counted)),
-        'data none {} zero {} rtime {} zlib {} lzo {} other {}'.format(*packed, len(ways) - sum(packed)),
+        'data none {} zero {} rtime {} zlib {} lzo {} lzma {} other {}'.format(*packed, len(ways) - sum(packed)),
         f'highest inode {max([n[3] for n in nodes], default=0)} version {max([n[4] for n in nodes], default=0)}',
     ]
 

@@ -272,7 +272,10 @@ done
 # Two blocks of 8 KiB; a node over the end of the first 4096 bytes, and the marker of the third such block.
 { marker; entry; hello_flash 68; erased 7984; marker; } > two_blocks
 run info two_blocks
-want 0 $'bytes 8204\norder little nodes 5 other 0\nblock from 4096 to 8192 markers 2\nnodes entries 1 inodes 2 obsolete 0 damaged 0 other 2\ndata none 2 zero 0 rtime 0 zlib 0 lzo 0 other 0\nhighest inode 2 version 2' ""
+want 0 $'bytes 8204\norder little nodes 5 other 0\nblock from 4096 to 8192 markers 2\nnodes entries 1 inodes 2 obsolete 0 damaged 0 other 2\ndata none 2 zero 0 rtime 0 zlib 0 lzo 0 lzma 0 other 0\nhighest inode 2 version 2' ""
+# Blocks of 12 KiB
+{ marker; entry; hello_flash 68; erased 12080; marker; } > twelve
+run info twelve; want 0 $'bytes 12300\norder little nodes 5 other 0\nblock from 4096 to 12288 markers 2\n*' ""
 { cat crossing; erased 3984; marker; } > one_block
 run info one_block
 want 0 $'bytes 8204\norder little nodes 4 other 0\nblock from 8192 to 8192 markers 1\n*' ""
@@ -299,7 +302,7 @@ printf 'two words' > text
 for image in packed xz ubi squashfs trx; do informs 3 $image; done
 informs 0 uimage
 for image in empty block other text "$manual"; do informs 3 $image; done
-for image in "$tree" "$sample" sound flipped crossing two_blocks one_block "$top"/tests/data/*.img; do informs 0 "$image"; done
+for image in "$tree" "$sample" sound flipped crossing two_blocks twelve one_block "$top"/tests/data/*.img; do informs 0 "$image"; done
 run info packed; want 3 $'bytes *\norder none\nblock unknown\n*' "jffs2_image: note: the file begins as gzip does"
 run info uimage; want 0 $'bytes 8196\norder little nodes 24 *' "jffs2_image: note: the file begins as a uImage header does"
 

@@ -1,10 +1,10 @@
 -- The first of some sizes that passes, for two tests together.
-use Rattle.std.proofs.Common.{◌≡◌, ℕ, ◌+◌, ◌*◌, ◌/◌, ◌%◌, ◌≤◌, Bool, true, false, ◌&&◌, List, [], ◌∷◌, max, refl, sym, ap₂, arith, ◌∙◌, ⊎_elim, drop}
-use Rattle.std.specs.Prelude.{Some, None, nat_lt, not, length}
-use Rattle.std.specs.List.{position, position_or_len, list_all}
+use Rattle.std.proofs.Common.{◌≡◌, ℕ, ◌+◌, ◌*◌, ◌/◌, ◌≤◌, Bool, true, false, ◌&&◌, List, [], ◌∷◌, max, refl, sym, subst, ap₂, arith, ◌∙◌, ⊎_elim, drop, eqb}
+use Rattle.std.specs.Prelude.{◌==◌, ◌<◌, zero, suc, take, slice_index_or, Some, None, nat_lt, not, length}
+use Rattle.std.specs.List.{position, position_or_len, list_all, list_any}
 use Rattle.std.proofs.lemmas.List.Sums.{prefix_len-le-length}
-use Rattle.std.proofs.lemmas.Bool.{cond-true, cond-false, cases_Bool, leb-true, le-leb, eqb-true, eq-eqb, ltb-false}
-use Rattle.jinfo.specs.BlockSizes.{block_sizes, sizes_down, lies_within, is_multiple}
+use Rattle.std.proofs.lemmas.Bool.{cond-true, cond-false, cases_Bool, leb-true, le-leb, ltb-false, ne_eqb, eqb-false, both_ways, or_from, or_parts}
+use Rattle.jinfo.specs.BlockSizes.{block_sizes, lies_within}
 
 -- where one passes, the next does
 abbrev pub Rises : (ℕ → Bool) → List ℕ → Type 0
@@ -104,44 +104,6 @@ within_rises addr len =
       ),
     )
 
-half_multiple : (addr size half : ℕ) → (addr % size ≡ 0 → addr % half ≡ 0) → is_multiple addr size ≡ true → is_multiple addr half ≡ true
-unfolding is_multiple
-half_multiple addr size half step here = eq-eqb (addr % half) 0 (step (eqb-true (addr % size) 0 here))
-
-pub multiple_rises : (addr : ℕ) → Rises (is_multiple addr) sizes_down
-multiple_rises addr =
-    let f = is_multiple addr in (
-      next_here f 4194304 2097152 (drop 2 sizes_down) (half_multiple addr 4194304 2097152 (λ h. omega (arith, h))),
-      (
-        next_here f 2097152 1048576 (drop 3 sizes_down) (half_multiple addr 2097152 1048576 (λ h. omega (arith, h))),
-        (
-          next_here f 1048576 524288 (drop 4 sizes_down) (half_multiple addr 1048576 524288 (λ h. omega (arith, h))),
-          (
-            next_here f 524288 262144 (drop 5 sizes_down) (half_multiple addr 524288 262144 (λ h. omega (arith, h))),
-            (
-              next_here f 262144 131072 (drop 6 sizes_down) (half_multiple addr 262144 131072 (λ h. omega (arith, h))),
-              (
-                next_here f 131072 65536 (drop 7 sizes_down) (half_multiple addr 131072 65536 (λ h. omega (arith, h))),
-                (
-                  next_here f 65536 32768 (drop 8 sizes_down) (half_multiple addr 65536 32768 (λ h. omega (arith, h))),
-                  (
-                    next_here f 32768 16384 (drop 9 sizes_down) (half_multiple addr 32768 16384 (λ h. omega (arith, h))),
-                    (
-                      next_here f 16384 8192 (drop 10 sizes_down) (half_multiple addr 16384 8192 (λ h. omega (arith, h))),
-                      (
-                        next_here f 8192 4096 (drop 11 sizes_down) (half_multiple addr 8192 4096 (λ h. omega (arith, h))),
-                        (λ here. refl, tt),
-                      ),
-                    ),
-                  ),
-                ),
-              ),
-            ),
-          ),
-        ),
-      ),
-    )
-
 -- ---- where it stands
 
 pub place_found : (p : ℕ → Bool) (xs : List ℕ) (i : ℕ) → position p xs ≡ Some i → position_or_len p xs ≡ i
@@ -180,7 +142,7 @@ both_rises f g (x ∷ xs) rf rg = (
   both_rises f g xs rf.1 rg.1,
 )
 
-all_rise : {X : Type 0} (f : ℕ → X → Bool) (walk : List X) (xs : List ℕ) → ((s : X) → Rises (λ x. f x s) xs)
+pub all_rise : {X : Type 0} (f : ℕ → X → Bool) (walk : List X) (xs : List ℕ) → ((s : X) → Rises (λ x. f x s) xs)
     → Rises (λ x. list_all (f x) walk) xs
 all_rise f [] xs each = always_rises xs
 all_rise f (s ∷ walk) xs each = both_rises (λ x. f x s) (λ x. list_all (f x) walk) xs (each s) (all_rise f walk xs each)
@@ -190,3 +152,60 @@ pub first_of_all : {X : Type 0} (f : ℕ → X → Bool) (s : X) (walk : List X)
     → position_or_len (λ x. list_all (f x) (s ∷ walk)) xs
     ≡ max (position_or_len (λ x. f x s) xs) (position_or_len (λ x. list_all (f x) walk) xs)
 first_of_all f s walk xs each = first_of_both (λ x. f x s) (λ x. list_all (f x) walk) xs (each s) (all_rise f walk xs each)
+
+-- ---- what stands before the first that passes, and what behind it
+
+first_suc : (f : ℕ → Bool) (x : ℕ) (xs : List ℕ) → f x ≡ false → position_or_len f (x ∷ xs) ≡ suc (position_or_len f xs)
+first_suc f x xs later = omega (arith, first_later f x xs later)
+
+-- whether x is one of the first n of some numbers
+abbrev among_first : ℕ → ℕ → List ℕ → Bool
+among_first n x xs = list_any (λ y. y == x) (take n xs)
+
+-- what passes is none of those before it
+pub passes_behind : (f : ℕ → Bool) (xs : List ℕ) (x : ℕ) → f x ≡ true → among_first (position_or_len f xs) x xs ≡ false
+passes_behind f [] x passes = refl
+passes_behind f (y ∷ ys) x passes =
+    ⊎_elim
+    (λ (here : f y ≡ true). subst (λ (n : ℕ). among_first n x (y ∷ ys) ≡ false) (sym (first_here f y ys here)) refl)
+    (λ (later : f y ≡ false).
+    let other : eqb y x ≡ false = ne_eqb y x (λ (same : y ≡ x). both_ways (f x) (subst (λ (z : ℕ). f z ≡ false) same later) passes) in
+    subst (λ (n : ℕ). among_first n x (y ∷ ys) ≡ false) (sym (first_suc f y ys later))
+    (or_from (y == x) (among_first (position_or_len f ys) x ys) other (passes_behind f ys x passes)))
+    (cases_Bool (f y))
+
+-- where the first passes, all do
+all_pass : (f : ℕ → Bool) (xs : List ℕ) (x k : ℕ) → Rises f xs → position_or_len f xs ≡ 0 → k < length xs → slice_index_or xs k x ≡ x → f x ≡ true
+all_pass f [] x k rises first within at = absurd (omega arith)
+all_pass f (y ∷ ys) x zero rises first within at =
+    ⊎_elim
+    (λ (here : f y ≡ true). subst (λ (z : ℕ). f z ≡ true) at here)
+    (λ (later : f y ≡ false). let far = first_later f y ys later in absurd (omega (arith, far, first)))
+    (cases_Bool (f y))
+all_pass f (y ∷ ys) x (suc k) rises first within at =
+    ⊎_elim
+    (λ (here : f y ≡ true). all_pass f ys x k rises.1 (rises.0 here) (omega arith) at)
+    (λ (later : f y ≡ false). let far = first_later f y ys later in absurd (omega (arith, far, first)))
+    (cases_Bool (f y))
+
+-- of those behind the first that fails, what is none before the first that passes
+rest_among : (f : ℕ → Bool) (y x : ℕ) (ys : List ℕ) → f y ≡ false → among_first (position_or_len f (y ∷ ys)) x (y ∷ ys) ≡ false
+    → ((y == x) ≡ false) × (among_first (position_or_len f ys) x ys ≡ false)
+rest_among f y x ys later none =
+    or_parts (y == x) (among_first (position_or_len f ys) x ys)
+    (subst (λ (n : ℕ). among_first n x (y ∷ ys) ≡ false) (first_suc f y ys later) none)
+
+-- what is none of those before the first that passes, passes
+pub behind_passes : (f : ℕ → Bool) (xs : List ℕ) (x k : ℕ) → Rises f xs → k < length xs → slice_index_or xs k x ≡ x
+    → among_first (position_or_len f xs) x xs ≡ false → f x ≡ true
+behind_passes f [] x k rises within at none = absurd (omega arith)
+behind_passes f (y ∷ ys) x zero rises within at none =
+    ⊎_elim
+    (λ (here : f y ≡ true). subst (λ (z : ℕ). f z ≡ true) at here)
+    (λ (later : f y ≡ false). absurd (eqb-false y x (rest_among f y x ys later none).0 at))
+    (cases_Bool (f y))
+behind_passes f (y ∷ ys) x (suc k) rises within at none =
+    ⊎_elim
+    (λ (here : f y ≡ true). all_pass f (y ∷ ys) x (suc k) rises (first_here f y ys here) within at)
+    (λ (later : f y ≡ false). behind_passes f ys x k rises.1 (omega arith) at (rest_among f y x ys later none).1)
+    (cases_Bool (f y))

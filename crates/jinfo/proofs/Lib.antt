@@ -1,4 +1,5 @@
 pub mod CensusLemmas
 pub mod FirstLemmas
 pub mod LineLemmas
+pub mod SizeLemmas
 pub mod TallyLemmas

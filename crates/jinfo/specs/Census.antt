@@ -89,6 +89,10 @@ zlib = 6
 abbrev pub lzo : ℕ
 lzo = 7
 
+-- of OpenWrt's kernels
+abbrev pub lzma : ℕ
+lzma = 8
+
 -- its data are compressed in this way
 abbrev pub is_packed_by : ℕ → ExtentKind → Bool
 is_packed_by way (Tiled (seen.Compressed compr)) = compr == way
@@ -98,6 +102,7 @@ is_packed_by way _ = false
 abbrev pub is_packed_otherwise : ExtentKind → Bool
 is_packed_otherwise (Tiled (seen.Compressed compr)) =
     not (compr == rtime) && not (compr == zlib) && not (compr == lzo)
+    && not (compr == lzma)
 is_packed_otherwise _ = false
 
 abbrev pub data_counts_of : List Extent → DataCounts
@@ -107,6 +112,7 @@ data_counts_of walk = record {
   rtime = count_in (is_packed_by rtime) walk;
   zlib = count_in (is_packed_by zlib) walk;
   lzo = count_in (is_packed_by lzo) walk;
+  lzma = count_in (is_packed_by lzma) walk;
   other = count_in is_packed_otherwise walk;
 }
 

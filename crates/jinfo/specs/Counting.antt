@@ -4,7 +4,7 @@ use Rattle.jnode.specs.declared.order.Endian.{Endian}
 use Rattle.jscan.specs.Counts.{one_if}
 use Rattle.jscan.specs.declared.extent.ExtentKind.{ExtentKind}
 use Rattle.jscan.specs.declared.extent.Extent.{Extent}
-use Rattle.jinfo.specs.Census.{is_node_tile, is_dirent_tile, is_object_tile, is_obsolete_tile, is_damaged_tile, is_other_tile, is_stored_tile, is_zero_tile, is_packed_by, is_packed_otherwise, rtime, zlib, lzo, ino_named, version_named}
+use Rattle.jinfo.specs.Census.{is_node_tile, is_dirent_tile, is_object_tile, is_obsolete_tile, is_damaged_tile, is_other_tile, is_stored_tile, is_zero_tile, is_packed_by, is_packed_otherwise, rtime, zlib, lzo, lzma, ino_named, version_named}
 use Rattle.jinfo.specs.declared.nodes.NodeCounts.{NodeCounts}
 use Rattle.jinfo.specs.declared.storage.DataCounts.{DataCounts}
 use Rattle.jinfo.specs.declared.highest.Highest.{Highest}
@@ -34,6 +34,7 @@ pub record DataHaveRoom (c : DataCounts) : Type 0 where
   pub rtime : c.rtime + 1 < 2 ^ 64
   pub zlib : c.zlib + 1 < 2 ^ 64
   pub lzo : c.lzo + 1 < 2 ^ 64
+  pub lzma : c.lzma + 1 < 2 ^ 64
   pub other : c.other + 1 < 2 ^ 64
 
 abbrev pub data_counted : DataCounts → ExtentKind → DataCounts
@@ -43,6 +44,7 @@ data_counted c kind = record {
   rtime = c.rtime + one_if (is_packed_by rtime kind);
   zlib = c.zlib + one_if (is_packed_by zlib kind);
   lzo = c.lzo + one_if (is_packed_by lzo kind);
+  lzma = c.lzma + one_if (is_packed_by lzma kind);
   other = c.other + one_if (is_packed_otherwise kind);
 }
 

@@ -46,7 +46,8 @@ data_line counts =
     codes "data none " ++ decimal counts.none ++ codes " zero " ++ decimal counts.zero
     ++ codes " rtime " ++ decimal counts.rtime
     ++ codes " zlib " ++ decimal counts.zlib ++ codes " lzo " ++ decimal counts.lzo
-    ++ codes " other " ++ decimal counts.other ++ codes "\n"
+    ++ codes " lzma " ++ decimal counts.lzma ++ codes " other " ++ decimal counts.other
+    ++ codes "\n"
 
 unfoldable pub highest_line : Highest → List ℕ
 highest_line numbers = codes "highest" ++ codes " inode " ++ decimal numbers.ino

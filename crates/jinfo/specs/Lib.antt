@@ -5,4 +5,5 @@ pub mod Counting
 pub mod InfoText
 pub mod Infos
 pub mod Marks
+pub mod SizeLaws
 pub mod Tallies

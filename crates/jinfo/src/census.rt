@@ -5,11 +5,12 @@ ghost use Rattle.jscan.specs.Extents.{extents};
 ghost use Rattle.jscan.specs.Image.{greatest_image};
 ghost use Rattle.jnode.specs.Writing.{filled};
 ghost use Rattle.jinfo.specs.Infos.{census_of};
-ghost use Rattle.jinfo.specs.Tallies.{TallyHasRoom, no_tally, tally_of, tally_with};
+ghost use Rattle.jinfo.specs.Tallies.{TallyHasRoom, TallyOf, TallyWith, no_tally};
 
 use crate::highest::Highest;
+use crate::marks::Marks;
 use crate::nodes::NodeCounts;
-use crate::sizes::{Marks, SizeRange};
+use crate::sizes::SizeRange;
 use crate::storage::DataCounts;
 use flashbase::{Part, pad4};
 use jnode::Order;
@@ -65,6 +66,7 @@ impl Tally {
                 rtime: 0,
                 zlib: 0,
                 lzo: 0,
+                lzma: 0,
                 other: 0,
             },
             marks: Marks::none(),
@@ -75,7 +77,7 @@ impl Tally {
     /// The same with one extent more of this block.
     fn with<E: Order>(self, block: &Part<'_>, extent: &Extent<'_>) -> Tally
         requires room { TallyHasRoom self }
-        ensures { result ≡ tally_with E.order block.now self extent.now }
+        ensures { TallyWith E.order block.now self extent.now result }
     {
         Tally {
             nodes: self.nodes.with(&extent.kind),
@@ -90,7 +92,7 @@ impl Tally {
 fn tally_of<E: Order>(block: &Part<'_>) -> Tally
     requires whole_words { length block.now % 4 ≡ 0 }
     requires addressed { length block.now < 2 ^ 32 }
-    ensures { result ≡ tally_of E.order block.now (extents E.order 0 block.now) }
+    ensures { TallyOf E.order block.now (extents E.order 0 block.now) result }
 {
     let mut tally = Tally::none();
     for extent in Extents::<E>::of_part(0, block.copied()) {

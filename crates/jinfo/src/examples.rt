@@ -5,7 +5,7 @@ ghost use Rattle.jnode.specs.Vectors.{little_marker, entry_a_big};
 ghost use Rattle.jnode.specs.declared.order.Endian.TheVariants.{Little, Big};
 ghost use Rattle.jnode.specs.declared.node.Seen.TheVariants.{Marker, Padding};
 ghost use Rattle.jscan.specs.declared.extent.ExtentKind.TheVariants.{Tiled, Erased};
-ghost use Rattle.jinfo.specs.BlockSizes.{is_multiple, lies_within, size_range_of};
+ghost use Rattle.jinfo.specs.BlockSizes.{is_multiple, lies_within, may_be_size, size_range_of};
 ghost use Rattle.jinfo.specs.Containers.{container_of};
 ghost use Rattle.jinfo.specs.Infos.{order_of};
 ghost use Rattle.jinfo.specs.declared.container.Container.TheVariants.{Gzip, Xz};
@@ -28,20 +28,22 @@ pub fn known_places()
     ensures no_marker { is_multiple 8192 16384 ≡ false }
 {}
 
-/// The sizes that the blocks of a few images may have.
+/// Which sizes the blocks of a few images may have: clean markers at 0 and 12288 alone, and with a
+/// node of 5000 bytes, which no block of 4096 holds.
 #[tactic(auto, unfolding(crate::specs::BlockSizes::lies_within, crate::specs::BlockSizes::is_multiple))]
 pub fn known_sizes()
-    ensures from_4096 { size_range_of (record { addr = 0; len = 12; kind = Tiled Marker }
-        ∷ record { addr = 24576; len = 12; kind = Tiled Marker } ∷ [])
-        ≡ Some (record { least = 4096; greatest = 8192 }) }
-    ensures from_8192 { size_range_of (record { addr = 12; len = 5000; kind = Tiled Padding }
-        ∷ record { addr = 5012; len = 3180; kind = Erased }
-        ∷ record { addr = 8192; len = 12; kind = Tiled Marker } ∷ [])
-        ≡ Some (record { least = 8192; greatest = 8192 }) }
+    ensures of_12288 { may_be_size (record { addr = 0; len = 12; kind = Tiled Marker }
+        ∷ record { addr = 12288; len = 12; kind = Tiled Marker } ∷ []) 12288 ≡ true }
+    ensures of_4096 { may_be_size (record { addr = 0; len = 12; kind = Tiled Marker }
+        ∷ record { addr = 12288; len = 12; kind = Tiled Marker } ∷ []) 4096 ≡ true }
+    ensures no_divisor { may_be_size (record { addr = 0; len = 12; kind = Tiled Marker }
+        ∷ record { addr = 12288; len = 12; kind = Tiled Marker } ∷ []) 8192 ≡ false }
+    ensures long_enough { may_be_size (record { addr = 12; len = 5000; kind = Tiled Padding }
+        ∷ record { addr = 12288; len = 12; kind = Tiled Marker } ∷ []) 6144 ≡ true }
+    ensures too_short { may_be_size (record { addr = 12; len = 5000; kind = Tiled Padding }
+        ∷ record { addr = 12288; len = 12; kind = Tiled Marker } ∷ []) 4096 ≡ false }
     ensures unknown { size_range_of (record { addr = 0; len = 12; kind = Tiled Marker } ∷ [])
         ≡ None }
-    ensures contradicted { size_range_of (record { addr = 4000; len = 200; kind = Tiled Padding }
-        ∷ record { addr = 12288; len = 12; kind = Tiled Marker } ∷ []) ≡ None }
 {}
 
 /// What a few files begin as.

@@ -15,6 +15,9 @@ pub(crate) const ZLIB: u8 = 6;
 
 pub(crate) const LZO: u8 = 7;
 
+/// Of OpenWrt's kernels.
+pub(crate) const LZMA: u8 = 8;
+
 /// 1 where something is counted.
 pub(crate) fn one_if(counts: bool) -> u64
     ensures value { result ≡ one_if counts }
@@ -116,7 +119,7 @@ pub(crate) fn is_packed_otherwise(kind: &ExtentKind<'_>) -> bool
 {
     match kind {
         ExtentKind::Tiled(Seen::Compressed { compr }) => {
-            *compr != RTIME && *compr != ZLIB && *compr != LZO
+            *compr != RTIME && *compr != ZLIB && *compr != LZO && *compr != LZMA
         }
         _ => false,
     }

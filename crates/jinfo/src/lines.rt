@@ -131,6 +131,8 @@ fn push_data(line: &mut LineBuffer, counts: &DataCounts)
     line.push_decimal(counts.zlib);
     line.push_text(b" lzo ");
     line.push_decimal(counts.lzo);
+    line.push_text(b" lzma ");
+    line.push_decimal(counts.lzma);
     line.push_text(b" other ");
     line.push_decimal(counts.other);
     line.push_text(b"\n");

@@ -4,7 +4,7 @@ ghost use Rattle.std.specs.Prelude.{◌≡◌};
 ghost use Rattle.jinfo.specs.Counting.{DataHaveRoom, data_counted};
 
 use crate::kinds::{
-    LZO, RTIME, ZLIB, is_packed_by, is_packed_otherwise, is_stored, is_zero, one_if,
+    LZMA, LZO, RTIME, ZLIB, is_packed_by, is_packed_otherwise, is_stored, is_zero, one_if,
 };
 use jscan::ExtentKind;
 
@@ -18,6 +18,7 @@ pub struct DataCounts {
     pub rtime: u64,
     pub zlib: u64,
     pub lzo: u64,
+    pub lzma: u64,
     /// Compressed in another way.
     pub other: u64,
 }
@@ -34,6 +35,7 @@ impl DataCounts {
             rtime: self.rtime + one_if(is_packed_by(RTIME, kind)),
             zlib: self.zlib + one_if(is_packed_by(ZLIB, kind)),
             lzo: self.lzo + one_if(is_packed_by(LZO, kind)),
+            lzma: self.lzma + one_if(is_packed_by(LZMA, kind)),
             other: self.other + one_if(is_packed_otherwise(kind)),
         }
     }
