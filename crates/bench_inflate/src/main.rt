@@ -108,7 +108,7 @@ fn decompress_all(alloc: Global, bytes: &[u8], out: &mut Vec<u8>) -> u64 {
 
 /// Where the answer to a stream of a method is counted.
 fn place_of(method: Method, answer: Answer) -> usize
-    ensures { result < 9 }
+    ensures { result < 12 }
 {
     match (method, answer) {
         (Method::Rtime, Answer::Accepted) => 0,
@@ -120,13 +120,16 @@ fn place_of(method: Method, answer: Answer) -> usize
         (Method::Lzo, Answer::Accepted) => 6,
         (Method::Lzo, Answer::Refused) => 7,
         (Method::Lzo, Answer::Other) => 8,
+        (Method::Lzma, Answer::Accepted) => 9,
+        (Method::Lzma, Answer::Refused) => 10,
+        (Method::Lzma, Answer::Other) => 11,
     }
 }
 
 /// Compares each stream's answer, and prints the place of each other one, and the counts.
 fn compare_all(rt: &(impl Print + AllocGlobal), bytes: &[u8]) -> Option<()> {
     let mut out = Vec::new(rt.alloc());
-    let mut counts = [0u64; 9];
+    let mut counts = [0u64; 12];
     let mut left = bytes;
     for _ in 0..u64::MAX {
         let Some((stream, rest)) = next_stream(left) else {
@@ -141,10 +144,11 @@ fn compare_all(rt: &(impl Print + AllocGlobal), bytes: &[u8]) -> Option<()> {
         counts[place] = counts[place].wrapping_add(1);
         left = rest;
     }
-    let [a, b, c, d, e, f, g, h, i] = counts;
+    let [a, b, c, d, e, f, g, h, i, j, k, l] = counts;
     println!(rt; "rtime accepted {a} refused {b} other {c}").ok()?;
     println!(rt; "zlib accepted {d} refused {e} other {f}").ok()?;
-    println!(rt; "lzo accepted {g} refused {h} other {i}").ok()
+    println!(rt; "lzo accepted {g} refused {h} other {i}").ok()?;
+    println!(rt; "lzma accepted {j} refused {k} other {l}").ok()
 }
 
 fn run<R: std::rt::Files + std::rt::Env + Print + AllocGlobal>(rt: &R) -> Option<()> {

@@ -294,15 +294,15 @@ Exit status:
 
 pub(crate) const DECOMPRESS_EPILOGUE: &str = "\
 OUT has the nodes of IMAGE in the order of their addresses, from the first block
-on. Where data are compressed, by RTIME, ZLIB or LZO, they stand there as they
-were before. So the other commands can take what mkfs.jffs2 makes by default and
-what Linux writes. What makes no part of the file system is left out: markers,
-padding, obsolete and damaged nodes, extended attributes and dirt. A note on
-standard error counts damage and dirt in IMAGE, as for ls.
+on. Where data are compressed, by RTIME, ZLIB, LZO or LZMA, they stand there as
+they were before. So the other commands can take what mkfs.jffs2 makes by
+default and what Linux writes. What makes no part of the file system is left
+out: markers, padding, obsolete and damaged nodes, extended attributes and dirt.
+A note on standard error counts damage and dirt in IMAGE, as for ls.
 
 'decompressed C nodes N bytes B' is printed: C nodes of IMAGE are compressed,
 and OUT has N nodes and B bytes. All else is judged before OUT is made. M4
-Compressed: the method is none of the three. Z1 Data: the data are not what
+Compressed: the method is none of the four. Z1 Data: the data are not what
 their method makes. Z2 TooLong: decompressed, a node does not fit into a block.
 
 Garbage collection of Linux writes some nodes anew under their old version, with
@@ -421,15 +421,16 @@ prints, also where the numbers are 0,
   order little nodes N other N     or big; 'order none' where no node is found
   block from MIN to MAX markers N  or 'block unknown'
   nodes entries N inodes N obsolete N damaged N other N
-  data none N zero N rtime N zlib N lzo N other N
+  data none N zero N rtime N zlib N lzo N lzma N other N
   highest inode N version N
 
 The second line counts the nodes in the image's order, and in the other one.
-MIN and MAX are powers of two from 4096 to 4194304. MAX is the greatest of which
-each clean marker's address is a multiple, MIN the least of whose blocks no node
-passes the end. They are unknown where no marker stands past address 0, or where
-MIN is above MAX. 'data' counts sound inode nodes by how their data are stored;
-rtime, zlib and lzo want --decompress.
+MIN and MAX are the least and the greatest size of blocks, a multiple of 4 from
+4096 to 4194304, that nothing rules out: an address of a clean marker that is no
+multiple of it, a longer node, or, of a power of two, a node that passes the end
+of a block. They are unknown where no marker stands past address 0, or no size
+is left. 'data' counts sound inode nodes by how their data are stored; rtime,
+zlib, lzo and lzma want --decompress.
 
 A note on standard error tells where the file begins as gzip, xz, UBI, squashfs,
 TRX or uImage do: then an image may be in it, or it is none.

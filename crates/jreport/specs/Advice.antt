@@ -44,9 +44,9 @@ rule_note (rule.Word n broken) = codes "word " ++ decimal n ++ word_note broken
 -- ---- an image
 
 -- a method of compression that `decompress` reads: RTIME, ZLIB, LZO (Linux,
--- include/uapi/linux/jffs2.h)
+-- include/uapi/linux/jffs2.h), and LZMA of OpenWrt
 abbrev pub is_read_method : ℕ → Bool
-is_read_method compr = (compr == 2) || (compr == 6) || (compr == 7)
+is_read_method compr = (compr == 2) || (compr == 6) || (compr == 7) || (compr == 8)
 
 -- that an image has compressed data
 unfoldable pub compressed_note : List ℕ

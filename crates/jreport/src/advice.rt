@@ -86,7 +86,7 @@ fn push_rule(line: &mut LineBuffer, rule: Rule)
 fn is_read_method(compr: u8) -> bool
     ensures { result ≡ is_read_method compr }
 {
-    compr == 2 || compr == 6 || compr == 7
+    compr == 2 || compr == 6 || compr == 7 || compr == 8
 }
 
 /// What is said of an image that does not mount.

@@ -21,6 +21,13 @@ const LONG: &[u8] =
     \x00\x00\x00\x00\x00\x00\x00\x00\x00\x00\x00\x00\x00\x00\x00\x00\x00\x00\x00\x00\
     \x00\x00\x00\x00\x00\x00\x6F\x03\x47\x0A\xA1\x7A";
 
+/// 70,000 bytes 0x61 by LZMA.
+const LETTERS: &[u8] =
+    b"\x00\x30\xF0\x7B\xC1\xFE\xAE\x8F\xA1\x40\x13\xBD\x53\x36\x9D\xB4\x18\x63\x6B\xA1\
+    \xEE\x71\xF7\xE6\x8D\x7B\x7D\x65\xF9\xD6\x31\x7D\x20\x98\x30\x08\xD0\xAA\x63\x74\
+    \x59\x0F\xA5\x2B\xC9\xEA\xDD\xE2\x79\x08\x7C\xDE\xA8\x9A\x58\x55\x0F\x3A\x12\xB5\
+    \x00\x00";
+
 /// 68,885 bytes 0x61: a literal, and a copy whose length takes 271 bytes.
 fn long_copy() -> [u8; 279] {
     let mut data = [0; 279];
@@ -41,6 +48,8 @@ fn rows() -> &'static [(Method, &'static [u8], usize, Option<u32>)] {
         (Method::Zlib, TEXT, 96, Some(0x4C22_6E7D)),
         (Method::Zlib, TEXT, 95, None),
         (Method::Zlib, LONG, 70_000, Some(0xB480_2AD8)),
+        (Method::Lzma, LETTERS, 70_000, Some(0xB480_2AD8)),
+        (Method::Lzma, LETTERS, 69_999, None),
     ]
 }
 

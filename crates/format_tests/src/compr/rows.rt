@@ -58,6 +58,14 @@ fn contents() -> &'static [(Method, &'static [u8], usize, &'static [u8])] {
             WORDS,
         ),
         (Method::Lzo, b"\x11\x00\x00", 0, b""),
+        (Method::Lzma, b"\x00\x00\x00\x00\x00", 0, b""),
+        (Method::Lzma, b"\x00\x30\xEE\x8D\xF0\x00\x00", 20, RUN),
+        (
+            Method::Lzma,
+            b"\x00\x30\x99\xAB\xDD\xC0\xCB\x07\x00free",
+            18,
+            THREES,
+        ),
     ]
 }
 
@@ -83,6 +91,10 @@ fn refused() -> &'static [(Method, &'static [u8], usize)] {
         ),
         (Method::Zlib, b"", 0),
         (Method::Lzo, b"\x11\x00\x00\x00", 0),
+        (Method::Lzma, b"\x00\x30\xEE\x8D\xF0\x00\x00", 19),
+        (Method::Lzma, b"\x00\x30\xEE\x8D\xF0\x00\x00", 21),
+        (Method::Lzma, b"\x00\x30\xEE\x8D\xF0\x00\x01", 20),
+        (Method::Lzma, b"\x00\x00\x00\x00", 0),
     ]
 }
 
@@ -121,6 +133,7 @@ fn numbers_of_methods(rt: HostRuntime) {
             2 => Some(Method::Rtime),
             6 => Some(Method::Zlib),
             7 => Some(Method::Lzo),
+            8 => Some(Method::Lzma),
             _ => None,
         };
         equal_at(&rt, Method::of(number), wanted, number);

@@ -2,10 +2,10 @@
 //! crates.
 
 use crate::info::vectors::{
-    BIG_BAD_DATA, BIG_BAD_NAME, BIG_BAD_NODE, BIG_ENTRY, BIG_LONG, BIG_LZO, BIG_MARKER,
+    BIG_BAD_DATA, BIG_BAD_NAME, BIG_BAD_NODE, BIG_ENTRY, BIG_LONG, BIG_LZMA, BIG_LZO, BIG_MARKER,
     BIG_OBSOLETE, BIG_OLD, BIG_PADDING, BIG_PARENT, BIG_READ_ONLY, BIG_RTIME, BIG_STORED,
     BIG_SUMMARY, BIG_ZEROS, BIG_ZLIB, LITTLE_BAD_DATA, LITTLE_BAD_NAME, LITTLE_BAD_NODE,
-    LITTLE_ENTRY, LITTLE_LONG, LITTLE_LZO, LITTLE_MARKER, LITTLE_OBSOLETE, LITTLE_OLD,
+    LITTLE_ENTRY, LITTLE_LONG, LITTLE_LZMA, LITTLE_LZO, LITTLE_MARKER, LITTLE_OBSOLETE, LITTLE_OLD,
     LITTLE_PADDING, LITTLE_PARENT, LITTLE_READ_ONLY, LITTLE_RTIME, LITTLE_STORED, LITTLE_SUMMARY,
     LITTLE_ZEROS, LITTLE_ZLIB,
 };
@@ -19,7 +19,7 @@ pub(crate) struct Row {
     pub text: &'static str,
 }
 
-pub(crate) const ROWS: [Row; 14] = [
+pub(crate) const ROWS: [Row; 17] = [
     Row {
         name: "nothing",
         len: 0,
@@ -28,7 +28,7 @@ pub(crate) const ROWS: [Row; 14] = [
 order none\n\
 block unknown\n\
 nodes entries 0 inodes 0 obsolete 0 damaged 0 other 0\n\
-data none 0 zero 0 rtime 0 zlib 0 lzo 0 other 0\n\
+data none 0 zero 0 rtime 0 zlib 0 lzo 0 lzma 0 other 0\n\
 highest inode 0 version 0\n",
     },
     Row {
@@ -39,7 +39,7 @@ highest inode 0 version 0\n",
 order none\n\
 block unknown\n\
 nodes entries 0 inodes 0 obsolete 0 damaged 0 other 0\n\
-data none 0 zero 0 rtime 0 zlib 0 lzo 0 other 0\n\
+data none 0 zero 0 rtime 0 zlib 0 lzo 0 lzma 0 other 0\n\
 highest inode 0 version 0\n",
     },
     Row {
@@ -50,7 +50,7 @@ highest inode 0 version 0\n",
 order none\n\
 block unknown\n\
 nodes entries 0 inodes 0 obsolete 0 damaged 0 other 0\n\
-data none 0 zero 0 rtime 0 zlib 0 lzo 0 other 0\n\
+data none 0 zero 0 rtime 0 zlib 0 lzo 0 lzma 0 other 0\n\
 highest inode 0 version 0\n",
     },
     Row {
@@ -114,7 +114,7 @@ highest inode 0 version 0\n",
 order little nodes 52 other 0\n\
 block from 4096 to 8192 markers 2\n\
 nodes entries 4 inodes 21 obsolete 7 damaged 9 other 11\n\
-data none 3 zero 2 rtime 4 zlib 5 lzo 6 other 1\n\
+data none 3 zero 2 rtime 4 zlib 5 lzo 6 lzma 0 other 1\n\
 highest inode 4000 version 70000\n",
     },
     Row {
@@ -178,7 +178,7 @@ highest inode 4000 version 70000\n",
 order big nodes 52 other 0\n\
 block from 4096 to 8192 markers 2\n\
 nodes entries 4 inodes 21 obsolete 7 damaged 9 other 11\n\
-data none 3 zero 2 rtime 4 zlib 5 lzo 6 other 1\n\
+data none 3 zero 2 rtime 4 zlib 5 lzo 6 lzma 0 other 1\n\
 highest inode 4000 version 70000\n",
     },
     Row {
@@ -189,7 +189,7 @@ highest inode 4000 version 70000\n",
 order little nodes 1 other 0\n\
 block unknown\n\
 nodes entries 0 inodes 0 obsolete 0 damaged 0 other 1\n\
-data none 0 zero 0 rtime 0 zlib 0 lzo 0 other 0\n\
+data none 0 zero 0 rtime 0 zlib 0 lzo 0 lzma 0 other 0\n\
 highest inode 0 version 0\n",
     },
     Row {
@@ -205,7 +205,7 @@ highest inode 0 version 0\n",
 order little nodes 4 other 0\n\
 block from 8192 to 16384 markers 3\n\
 nodes entries 0 inodes 0 obsolete 0 damaged 0 other 4\n\
-data none 0 zero 0 rtime 0 zlib 0 lzo 0 other 0\n\
+data none 0 zero 0 rtime 0 zlib 0 lzo 0 lzma 0 other 0\n\
 highest inode 0 version 0\n",
     },
     Row {
@@ -222,7 +222,7 @@ highest inode 0 version 0\n",
 order little nodes 4 other 1\n\
 block from 8192 to 8192 markers 3\n\
 nodes entries 0 inodes 0 obsolete 0 damaged 0 other 4\n\
-data none 0 zero 0 rtime 0 zlib 0 lzo 0 other 0\n\
+data none 0 zero 0 rtime 0 zlib 0 lzo 0 lzma 0 other 0\n\
 highest inode 0 version 0\n",
     },
     Row {
@@ -231,9 +231,9 @@ highest inode 0 version 0\n",
         nodes: &[(8000, &BIG_LONG), (24576, &BIG_MARKER)],
         text: "bytes 40960\n\
 order big nodes 2 other 0\n\
-block unknown\n\
+block from 6144 to 24576 markers 1\n\
 nodes entries 0 inodes 0 obsolete 0 damaged 0 other 2\n\
-data none 0 zero 0 rtime 0 zlib 0 lzo 0 other 0\n\
+data none 0 zero 0 rtime 0 zlib 0 lzo 0 lzma 0 other 0\n\
 highest inode 0 version 0\n",
     },
     Row {
@@ -242,9 +242,24 @@ highest inode 0 version 0\n",
         nodes: &[(0, &LITTLE_MARKER), (8280, &LITTLE_MARKER)],
         text: "bytes 8292\n\
 order little nodes 2 other 0\n\
-block unknown\n\
+block from 4140 to 8280 markers 2\n\
 nodes entries 0 inodes 0 obsolete 0 damaged 0 other 2\n\
-data none 0 zero 0 rtime 0 zlib 0 lzo 0 other 0\n\
+data none 0 zero 0 rtime 0 zlib 0 lzo 0 lzma 0 other 0\n\
+highest inode 0 version 0\n",
+    },
+    Row {
+        name: "markers 12 bytes apart",
+        len: 8304,
+        nodes: &[
+            (0, &LITTLE_MARKER),
+            (8280, &LITTLE_MARKER),
+            (8292, &LITTLE_MARKER),
+        ],
+        text: "bytes 8304\n\
+order little nodes 3 other 0\n\
+block unknown\n\
+nodes entries 0 inodes 0 obsolete 0 damaged 0 other 3\n\
+data none 0 zero 0 rtime 0 zlib 0 lzo 0 lzma 0 other 0\n\
 highest inode 0 version 0\n",
     },
     Row {
@@ -260,7 +275,7 @@ highest inode 0 version 0\n",
 order little nodes 2 other 2\n\
 block unknown\n\
 nodes entries 0 inodes 0 obsolete 0 damaged 0 other 2\n\
-data none 0 zero 0 rtime 0 zlib 0 lzo 0 other 0\n\
+data none 0 zero 0 rtime 0 zlib 0 lzo 0 lzma 0 other 0\n\
 highest inode 0 version 0\n",
     },
     Row {
@@ -277,7 +292,7 @@ highest inode 0 version 0\n",
 order big nodes 3 other 2\n\
 block unknown\n\
 nodes entries 0 inodes 0 obsolete 0 damaged 0 other 3\n\
-data none 0 zero 0 rtime 0 zlib 0 lzo 0 other 0\n\
+data none 0 zero 0 rtime 0 zlib 0 lzo 0 lzma 0 other 0\n\
 highest inode 0 version 0\n",
     },
     Row {
@@ -288,7 +303,7 @@ highest inode 0 version 0\n",
 order little nodes 2 other 0\n\
 block unknown\n\
 nodes entries 1 inodes 0 obsolete 0 damaged 0 other 1\n\
-data none 0 zero 0 rtime 0 zlib 0 lzo 0 other 0\n\
+data none 0 zero 0 rtime 0 zlib 0 lzo 0 lzma 0 other 0\n\
 highest inode 4000 version 6\n",
     },
     Row {
@@ -299,7 +314,43 @@ highest inode 4000 version 6\n",
 order little nodes 1 other 0\n\
 block from 4096 to 4194304 markers 1\n\
 nodes entries 0 inodes 0 obsolete 0 damaged 0 other 1\n\
-data none 0 zero 0 rtime 0 zlib 0 lzo 0 other 0\n\
+data none 0 zero 0 rtime 0 zlib 0 lzo 0 lzma 0 other 0\n\
 highest inode 0 version 0\n",
+    },
+    Row {
+        name: "blocks of 12288 with nodes of LZMA, in little order",
+        len: 24600,
+        nodes: &[
+            (0, &LITTLE_MARKER),
+            (12, &LITTLE_LZMA),
+            (12288, &LITTLE_MARKER),
+            (12300, &LITTLE_LZMA),
+            (12376, &LITTLE_LZMA),
+            (24576, &LITTLE_MARKER),
+        ],
+        text: "bytes 24600\n\
+order little nodes 6 other 0\n\
+block from 4096 to 12288 markers 3\n\
+nodes entries 0 inodes 3 obsolete 0 damaged 0 other 3\n\
+data none 0 zero 0 rtime 0 zlib 0 lzo 0 lzma 3 other 0\n\
+highest inode 3000 version 60000\n",
+    },
+    Row {
+        name: "blocks of 12288 with nodes of LZMA, in big order",
+        len: 24600,
+        nodes: &[
+            (0, &BIG_MARKER),
+            (12, &BIG_LZMA),
+            (12288, &BIG_MARKER),
+            (12300, &BIG_LZMA),
+            (12376, &BIG_LZMA),
+            (24576, &BIG_MARKER),
+        ],
+        text: "bytes 24600\n\
+order big nodes 6 other 0\n\
+block from 4096 to 12288 markers 3\n\
+nodes entries 0 inodes 3 obsolete 0 damaged 0 other 3\n\
+data none 0 zero 0 rtime 0 zlib 0 lzo 0 lzma 3 other 0\n\
+highest inode 3000 version 60000\n",
     },
 ];
