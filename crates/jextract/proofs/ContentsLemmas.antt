@@ -139,6 +139,41 @@ blocks_more old mid new bytes block j hole left within is has puts =
       omega (arith, has.3, puts.3, size),
     )
 
+all_zero : (bytes : List ℕ) → ((i : ℕ) → i < length bytes → slice_index bytes i ≡ 0) → is_zero bytes ≡ true
+all_zero [] zeros = refl
+all_zero (b ∷ bytes) zeros =
+    let first = zeros 0 (omega arith) in
+    let rest : is_zero bytes ≡ true = all_zero bytes (λ i h. zeros (suc i) (omega arith)) in
+    grind (arith, common_steps, nat_tests)
+
+-- places are zeros, from a block on
+abbrev pub BlankFrom : List ℕ → ℕ → ℕ → Type 0
+BlankFrom bytes j k = (i : ℕ) → hole_block * j ≤ i → i < hole_block * (j + k) → slice_index bytes i ≡ 0
+
+blank_block : (bytes : List ℕ) (j : ℕ) → hole_block * (j + 1) ≤ length bytes → BlankFrom bytes j 1 → is_zero (block_at bytes j) ≡ true
+blank_block bytes j within zeros =
+    let size : length (block_at bytes j) ≡ min 4096 (length bytes - 4096 * j) = length-take 4096 (drop (4096 * j) bytes) ∙ ap (min 4096) (length-drop (4096 * j) bytes) in
+    all_zero (block_at bytes j)
+    (λ i h. get_or-take 4096 (drop (4096 * j) bytes) i 0 (omega (arith, size)) ∙ get_or-drop (4096 * j) bytes i 0 ∙ zeros (4096 * j + i) (omega arith) (omega (arith, size)))
+
+-- blocks of zeros make the hole longer
+pub blank_more : (old mid : Option Cells) (bytes : List ℕ) (j k hole : ℕ) → hole_block * (j + k) ≤ length bytes → BlankFrom bytes j k
+    → HasBlocks old mid bytes j hole → HasBlocks old mid bytes (j + k) (hole + k * 4096)
+blank_more old mid bytes j zero hole within zeros has =
+    let same : j ≡ j + 0 = omega arith in
+    let long : hole ≡ hole + 0 * 4096 = omega arith in
+    subst (λ (h : ℕ). HasBlocks old mid bytes (j + 0) h) long (subst (λ (n : ℕ). HasBlocks old mid bytes n hole) same has)
+blank_more old mid bytes j (suc k) hole within zeros has =
+    let before = blank_more old mid bytes j k hole (omega arith) (λ i from to. zeros i from (omega arith)) has in
+    let block : List ℕ = block_at bytes (j + k) in
+    let size : length block ≡ 4096 = length-take 4096 (drop (4096 * (j + k)) bytes) ∙ ap (min 4096) (length-drop (4096 * (j + k)) bytes) ∙ omega arith in
+    let blank = blank_block bytes (j + k) (omega arith) (λ i from to. zeros i (omega arith) (omega arith)) in
+    let more = blocks_more old mid mid bytes block (j + k) (hole + k * 4096) (hole + k * 4096 + length block) (omega arith) refl before
+    (zeros_put mid (hole + k * 4096) block blank) in
+    let same : j + k + 1 ≡ j + suc k = omega arith in
+    let long : hole + k * 4096 + length block ≡ hole + suc k * 4096 = omega (arith, size) in
+    subst (λ (h : ℕ). HasBlocks old mid bytes (j + suc k) h) long (subst (λ (n : ℕ). HasBlocks old mid bytes n (hole + k * 4096 + length block)) same more)
+
 -- all blocks, and the hole at the end
 all_blocks : (old mid new : Option Cells) (bytes : List ℕ) (j hole : ℕ) → length bytes ≤ hole_block * j → HasBlocks old mid bytes j hole → Extends mid new (skipped hole)
     → Extends old new (cells_of bytes)

@@ -1,6 +1,6 @@
 //! The bytes of a file, and its holes.
 
-ghost use Rattle.std.specs.Prelude.{◌≡◌, ◌≤◌, ◌<◌, ◌+◌, ◌-◌, ◌*◌, ◌^◌, length};
+ghost use Rattle.std.specs.Prelude.{◌≡◌, ◌≤◌, ◌<◌, ◌+◌, ◌-◌, ◌*◌, ◌^◌, ℕ, length, slice_index};
 ghost use Rattle.jmount.specs.Shown.{readable};
 ghost use Rattle.jextract.specs.Cells.{AddsCells, Fails, cells_of, is_zero, skipped};
 ghost use Rattle.jextract.specs.Filling.{PutsBlock};
@@ -58,7 +58,20 @@ fn blocks_of(size: u32) -> u64
     u64::from(size).div_ceil(4096)
 }
 
-/// Puts the bytes of an object of so many bytes, and a hole for each block of zeros.
+/// How many whole blocks, from the one of this number on, have nothing but zeros that no node has.
+fn blank_blocks(mounted: &Mounted<'_>, ino: u32, index: u64) -> u64
+    requires { index < 2 ^ 32 }
+    ensures zeros { (i : ℕ) → 4096 * index ≤ i → i < 4096 * (index + result)
+        → slice_index (readable mounted.now.state ino) i ≡ 0 }
+    ensures within { 0 < result
+        → 4096 * (index + result) ≤ length (readable mounted.now.state ino) }
+{
+    let offset = index * 4096;
+    (mounted.hole_end(ino, offset) - offset) / 4096
+}
+
+/// Puts the bytes of an object of so many bytes, and a hole for each block of zeros. What no node
+/// has is passed over, not read.
 pub(crate) fn put_contents<W: FilledFile>(
     mounted: &Mounted<'_>,
     ino: u32,
@@ -72,9 +85,18 @@ pub(crate) fn put_contents<W: FilledFile>(
 {
     let mut block = [0u8; BLOCK];
     let mut hole = 0u64;
-    for index in 0..blocks_of(size) {
+    let blocks = blocks_of(size);
+    let mut index = 0u64;
+    while index < blocks {
+        let blank = blank_blocks(mounted, ino, index);
+        if blank > 0 {
+            hole += blank * 4096;
+            index += blank;
+            continue;
+        }
         let count = mounted.read_at(ino, index * 4096, &mut block);
         hole = put_block(file, hole, &block[..count])?;
+        index += 1;
     }
     put_hole(file, hole)
 }
