@@ -5,7 +5,7 @@
 //! nodes whose node_crc is 0xFFFFFFFF, so that only the checksum of the data shows a cut in it.
 #![tactic(auto)]
 
-ghost use Rattle.jnode.specs.Weak.{IsWrittenNode};
+ghost use Rattle.jnode.specs.Weak.{IsWrittenForm};
 ghost use Rattle.jnode.specs.declared.order.Endian.TheVariants.{Little};
 
 use byteorder::LittleEndian;
@@ -50,8 +50,8 @@ fn checksums(first: &[u8], second: &[u8], count: u32) -> u32 {
 }
 
 fn weak_cuts(first: &[u8], second: &[u8], count: u32) -> u32
-    requires first { IsWrittenNode Little first.now }
-    requires second { IsWrittenNode Little second.now }
+    requires first { IsWrittenForm Little first.now }
+    requires second { IsWrittenForm Little second.now }
 {
     let mut sum: u32 = 0;
     for _ in 0..count {
@@ -78,8 +78,8 @@ fn work_of(word: &str) -> Option<(Work, [(u32, u32); 2])> {
 }
 
 fn work_on(work: Work, first: &[u8], second: &[u8], count: u32) -> u32
-    requires first { IsWrittenNode Little first.now }
-    requires second { IsWrittenNode Little second.now }
+    requires first { IsWrittenForm Little first.now }
+    requires second { IsWrittenForm Little second.now }
 {
     match work {
         Work::Checksums => checksums(first, second, count),

@@ -57,7 +57,8 @@ use Rattle.jconvert.specs.Tallying.{IsCursor}
 use Rattle.jconvert.proofs.CallLemmas.{size_most, tile_fault}
 use Rattle.jconvert.proofs.JudgeLemmas.{both_none, flash_decides, if_false, no_less}
 use Rattle.jconvert.proofs.TallyLemmas.{nodes_of_tiles, length_form}
-use Rattle.jconvert.specs.Compressing.{packed_as, StandsFor, IsPackedForm, AreFormsFor, PutsPackedPart, packed_number, pack_fault, pack_fault_among, compress_fault, Compresses}
+use Rattle.jlog.specs.Packed.{StandsFor, IsPackedForm}
+use Rattle.jconvert.specs.Compressing.{packed_as, AreFormsFor, PutsPackedPart, packed_number, pack_fault, pack_fault_among, compress_fault, Compresses}
 
 -- ---- one node
 

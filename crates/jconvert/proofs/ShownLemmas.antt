@@ -35,7 +35,8 @@ use Rattle.jexpand.specs.Expanded.{rest_at, compressed_node_at, node_content, wi
 use Rattle.jexpand.specs.Refused.{too_long, compressed_fault, node_fault, fault_among}
 use Rattle.jexpand.specs.declared.fault.ConvertFault.{ConvertFault}
 use Rattle.jexpand.proofs.NodeLemmas.{content_long, compressed_ok}
-use Rattle.jconvert.specs.Compressing.{StandsFor, IsPackedForm, AreFormsFor}
+use Rattle.jlog.specs.Packed.{StandsFor, IsPackedForm}
+use Rattle.jconvert.specs.Compressing.{AreFormsFor}
 use Rattle.jconvert.specs.Converting.{is_changed}
 use Rattle.jconvert.proofs.JudgeLemmas.{both_none}
 use Rattle.jconvert.proofs.PackLemmas.{fewer_words}

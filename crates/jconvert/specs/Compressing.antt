@@ -2,11 +2,8 @@
 use Rattle.std.specs.Prelude.{◌≡◌, ◌⊎◌, ℕ, suc, ◌+◌, ◌<◌, Bool, true, false, not, nat_lt, IsTrue, List, [], ◌∷◌, length, Option, Some, None, Result, Ok, Err, if◌then◌else◌}
 use Rattle.std.specs.Option.{option_or}
 use Rattle.std.specs.Io.KnownBytes.{Appends}
-use Rattle.flashbase.specs.Bytes.{pad4_of}
 use Rattle.flashbase.specs.Device.{PutsPart, next_count}
 use Rattle.flashbase.specs.Sinks.{SinkChange}
-use Rattle.jnode.specs.Compressed.{canonical_compressed, FitsCompressed, IsWritableCompressed}
-use Rattle.jnode.specs.Reading.{inode_len}
 use Rattle.jnode.specs.Writing.{canonical}
 use Rattle.jnode.specs.declared.node.CompressedNode.{CompressedNode}
 use Rattle.jnode.specs.declared.node.InodeNode.{InodeNode}
@@ -15,9 +12,9 @@ use Rattle.jnode.specs.declared.node.Seen.{Seen}
 use Rattle.jnode.specs.declared.node.Seen.TheVariants as seen
 use Rattle.jnode.specs.declared.order.Endian.{Endian}
 use Rattle.jscan.specs.Image.{is_block_size, greatest_image, sightings}
-use Rattle.jmount.specs.Tree.{type_bits, regular_bits}
 use Rattle.jlog.specs.Output.{output}
-use Rattle.jexpand.specs.Expanded.{node_content, with_content, expanded_nodes}
+use Rattle.jlog.specs.Packed.{zlib_number, IsPackedForm}
+use Rattle.jexpand.specs.Expanded.{expanded_nodes}
 use Rattle.jexpand.specs.Refused.{node_fault}
 use Rattle.jexpand.specs.declared.fault.ConvertFault.{ConvertFault}
 use Rattle.jexpand.specs.declared.fault.ConvertFault.TheVariants as fault
@@ -25,10 +22,6 @@ use Rattle.jconvert.specs.Converting.{flash_fault}
 use Rattle.jconvert.specs.declared.converted.Converted.{Converted}
 
 -- ---- what may stand for a node
-
--- the number of the method that is written
-abbrev pub zlib_number : ℕ
-zlib_number = 6
 
 -- the compressed node of the same fields as an inode node, with these data
 abbrev pub packed_as : InodeNode → List ℕ → CompressedNode
@@ -47,23 +40,6 @@ packed_as inode stream = record {
   compr = zlib_number;
   «data» = stream;
 }
-
--- A compressed node that stands for a node of a regular file: its data give just the bytes of that
--- node, whose other fields it has, and it takes fewer words.
-pub record StandsFor (packed : CompressedNode) (node : NodeRef) : Type 0 where
-  pub bytes : List ℕ
-  pub content : node_content packed ≡ Some bytes
-  pub expanded : with_content packed bytes ≡ node
-  pub method : packed.compr ≡ zlib_number
-  pub regular : type_bits packed.mode ≡ regular_bits
-  pub shorter : pad4_of (inode_len + length packed.data) < pad4_of (inode_len + length bytes)
-  pub fits : FitsCompressed packed
-  pub writable : IsWritableCompressed packed
-
--- the written form of a compressed node that stands for a node
-abbrev pub IsPackedForm : Endian → NodeRef → List ℕ → Type 0
-IsPackedForm e node form =
-    (packed : CompressedNode) × StandsFor packed node × (form ≡ canonical_compressed e packed)
 
 -- The written forms that go out for nodes, one for each and in their order: the node's own, or that
 -- of a compressed node that stands for it, of which there are so many.

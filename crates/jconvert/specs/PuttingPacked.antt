@@ -9,7 +9,8 @@ use Rattle.jnode.specs.declared.order.Endian.{Endian}
 use Rattle.jlog.specs.Places.{end_after}
 use Rattle.jexpand.specs.declared.fault.ConvertFault.{ConvertFault}
 use Rattle.jexpand.specs.declared.fault.ConvertFault.TheVariants as fault
-use Rattle.jconvert.specs.Compressing.{IsPackedForm, IsPackedImage, PutsPackedPart}
+use Rattle.jlog.specs.Packed.{IsPackedForm}
+use Rattle.jconvert.specs.Compressing.{IsPackedImage, PutsPackedPart}
 use Rattle.jconvert.specs.Putting.{form_piece}
 use Rattle.jconvert.specs.Tallying.{IsCursor}
 

@@ -10,7 +10,7 @@ ghost use Rattle.jexpand.specs.declared.fault.ConvertFault.TheVariants.{Sink, Ou
 ghost use Rattle.jconvert.specs.Compressing.{packed_number, pack_fault, pack_fault_among, compress_fault, Compresses};
 ghost use Rattle.jconvert.specs.Converting.{least_written, convert_fault};
 ghost use Rattle.jconvert.specs.PuttingPacked.{IsMadeFor, PutsPacked, WritesPacked};
-ghost use Rattle.jconvert.specs.Compressing.{IsPackedForm};
+ghost use Rattle.jlog.specs.Packed.{IsPackedForm};
 ghost use Rattle.jnode.specs.declared.node.InodeNode.{InodeNode};
 ghost use Rattle.jnode.specs.declared.node.NodeRef.TheVariants as node;
 ghost use Rattle.jconvert.specs.Tallying.{IsCursor};

@@ -8,7 +8,8 @@ ghost use Rattle.jnode.specs.Writing.{totlen_most};
 ghost use Rattle.jnode.specs.declared.node.Fill.TheVariants.{Data};
 ghost use Rattle.jnode.specs.declared.node.NodeRef.TheVariants as node;
 ghost use Rattle.jexpand.specs.declared.fault.ConvertFault.TheVariants.{OutOfMemory};
-ghost use Rattle.jconvert.specs.Compressing.{packed_as, IsPackedForm};
+ghost use Rattle.jlog.specs.Packed.{IsPackedForm};
+ghost use Rattle.jconvert.specs.Compressing.{packed_as};
 
 use flashbase::{Part, pad4};
 use jexpand::ConvertFault;

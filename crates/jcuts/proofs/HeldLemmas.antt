@@ -3,7 +3,7 @@ use Rattle.std.proofs.Common.{◌≡◌, ℕ, ◌+◌, ◌-◌, ◌%◌, ◌<◌
 use Rattle.std.specs.List.{AllByRecursion}
 use Rattle.std.proofs.lemmas.List.{take_at, drop_at}
 use Rattle.flashbase.specs.Bytes.{pad4_of, erased}
-use Rattle.jnode.specs.Weak.{IsWrittenNode}
+use Rattle.jnode.specs.Weak.{IsWrittenForm}
 use Rattle.jnode.specs.Writing.{filled}
 use Rattle.jnode.specs.declared.order.Endian.{Endian}
 use Rattle.jlog.specs.Places.{place_after, end_after, places}
@@ -60,7 +60,7 @@ standings_are_in e size start from front (node ∷ nodes) words ok sum =
 abbrev pub EndsBelow : ℕ → List (ℕ × ℕ) → Type 0
 EndsBelow limit ps = AllByRecursion (λ (place : ℕ × ℕ). place.0 + place.1 < limit) ps
 
-pub nodes_are_in : (e : Endian) (size start from : ℕ) (front : List ℕ) (nodes : List (List ℕ)) → size % 4 ≡ 0 → AllByRecursion (FitsBlock size) nodes → AllByRecursion (IsWrittenNode e) nodes
+pub nodes_are_in : (e : Endian) (size start from : ℕ) (front : List ℕ) (nodes : List (List ℕ)) → size % 4 ≡ 0 → AllByRecursion (FitsBlock size) nodes → AllByRecursion (IsWrittenForm e) nodes
     → EndsBelow 0x1_0000_0000 (places size from nodes) → start + length front ≡ from
     → AllByRecursion (IsNodeIn e start (front ++ output e size from nodes)) (map shown_place (places size from nodes))
 nodes_are_in e size start from front [] words ok written low sum = tt
@@ -77,7 +77,7 @@ nodes_are_in e size start from front (node ∷ nodes) words ok written low sum =
         up = omega arith;
         within = subst (λ (l : List ℕ). at - start + len ≤ length l) (sym same) both.1;
         low = low.0;
-        node = subst (IsWrittenNode e) (sym (ap (λ (l : List ℕ). bytes_at start l (at, len)) same ∙ both.0)) written.0;
+        node = subst (IsWrittenForm e) (sym (ap (λ (l : List ℕ). bytes_at start l (at, len)) same ∙ both.0)) written.0;
       },
       subst (λ (l : List ℕ). AllByRecursion (IsNodeIn e start l) (map shown_place (places size (end_after size from len) nodes))) (sym (passed e size from front node nodes))
           (nodes_are_in e size start (end_after size from len) (front ++ (g ++ filled node)) nodes words ok.1 written.1 low.1 next),

@@ -1,11 +1,11 @@
 -- Planning an operation.
-use Rattle.std.proofs.Common.{◌≡◌, ℕ, ◌+◌, ◌*◌, ◌%◌, ◌<◌, ◌≤◌, Bool, List, [], ◌∷◌, ◌++◌, length, map, refl, sym, ap, subst, ◌∙◌, arith, Option, Some, Ok, Err}
+use Rattle.std.proofs.Common.{◌≡◌, ℕ, ◌+◌, ◌*◌, ◌%◌, ◌<◌, ◌≤◌, Bool, List, [], ◌∷◌, ◌++◌, length, map, refl, sym, ap, subst, ◌∙◌, arith, inl, Option, Some, Ok, Err}
 use Rattle.std.specs.Prelude.{IsTrue, IsFalse, nat_le, nat_lt, ◌&&◌, ◌==◌}
 use Rattle.std.specs.List.{AllByRecursion, list_all}
 use Rattle.std.specs.Io.KnownBytes.{Appends}
 use Rattle.std.proofs.lemmas.Bool.{and_parts, both_ways, leb-true, eqb-true}
 use Rattle.flashbase.proofs.BytesLemmas.{le_pad4}
-use Rattle.jnode.specs.Weak.{IsWrittenNode}
+use Rattle.jnode.specs.Weak.{IsWrittenForm}
 use Rattle.jnode.specs.declared.order.Endian.{Endian}
 use Rattle.jnode.proofs.WritingLemmas.{writable_is_computed}
 use Rattle.jscan.specs.Image.{is_block_size, greatest_image}
@@ -44,10 +44,10 @@ flash_words size blocks ok =
     eqb-true _ _ both.1
 
 -- the bytes of steps that can be written are those of nodes
-nodes_written : (page : ℕ) (e : Endian) (x : Indexed) (steps : List Step) → CanWriteAll page e x steps → AllByRecursion (IsWrittenNode e) (written e x steps)
+nodes_written : (page : ℕ) (e : Endian) (x : Indexed) (steps : List Step) → CanWriteAll page e x steps → AllByRecursion (IsWrittenForm e) (written e x steps)
 nodes_written page e x [] can = tt
 nodes_written page e x (s ∷ steps) can = (
-  (node_of x s, record { form = refl; fits = can.0.node.fits; writable = (writable_is_computed (node_of x s)).0 can.0.node.writable }),
+  inl (node_of x s, record { form = refl; fits = can.0.node.fits; writable = (writable_is_computed (node_of x s)).0 can.0.node.writable }),
   nodes_written page e (advanced x s) steps can.1,
 )
 

@@ -1,7 +1,7 @@
 -- From where on a node stands whole, and whether a cut of it can go unseen.
 use Rattle.std.specs.Prelude.{◌≡◌, ℕ, zero, suc, ◌+◌, ◌-◌, ◌==◌, ◌≤◌, ◌<◌, Option, List, [], ◌∷◌, length, find, if◌then◌else◌}
 use Rattle.std.specs.List.{range_with_len}
-use Rattle.jnode.specs.Weak.{torn, is_weak, IsWrittenNode}
+use Rattle.jnode.specs.Weak.{torn, is_weak, IsWrittenForm}
 use Rattle.jnode.specs.declared.order.Endian.{Endian}
 use Rattle.jlog.specs.Places.{place_after, end_after}
 use Rattle.jlog.specs.Left.{bytes_at}
@@ -43,12 +43,13 @@ standings e size from (node ∷ nodes) =
 
 -- ---- the same of the bytes that go out
 
--- a place within these bytes, which go out from an address on, and a node that is there
+-- a place within these bytes, which go out from an address on, and a node that is there, compressed
+-- or not
 pub record IsNodeIn (e : Endian) (from : ℕ) (out : List ℕ) (place : Place) : Type 0 where
   pub up : from ≤ place.addr
   pub within : place.addr - from + place.totlen ≤ length out
   pub low : place.addr + place.totlen < 0x1_0000_0000
-  pub node : IsWrittenNode e (bytes_at from out (place.addr, place.totlen))
+  pub node : IsWrittenForm e (bytes_at from out (place.addr, place.totlen))
 
 abbrev pub standing_in : Endian → ℕ → List ℕ → Place → Standing
 standing_in e from out place =

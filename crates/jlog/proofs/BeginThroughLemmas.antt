@@ -25,7 +25,10 @@ index_is e size m is = λ j.
     index_by (sym is.mounts.same j) (λ i. (ap (λ tops. top_at tops i) is.tops ∙ top_at-tops_of (expanded_nodes e size m.image) i) j)
 
 pub through_begins : ThroughBegins
-through_begins page e size blocks at m is are_bytes resumes =
+through_begins flash at m is are_bytes resumes =
+    let e : Endian = flash.order in
+    let size : ℕ = flash.size in
+    let blocks : ℕ = flash.blocks in
     let ok = resumed_at e size blocks m at resumes in
     let holds = holds_parts size blocks m.image ok.flash in
     let start : ℕ = resume_address e size blocks m.image in

@@ -25,7 +25,7 @@ use Rattle.jlog.specs.Laws.{FitsBlock, OutputIsJoined}
 use Rattle.jlog.specs.Forms.{IsLoggableForm}
 use Rattle.jlog.specs.Headline.{resume_address}
 use Rattle.jlog.specs.HeadlineThrough.{state_through, index_through, AreFormsOn, AreAcceptedAs, SurvivesAs}
-use Rattle.jlog.specs.Packed.{AreFormsFor}
+use Rattle.jlog.specs.Packed.{AreNodeForms}
 use Rattle.jlog.specs.Through.{MountsThroughAs}
 use Rattle.jlog.specs.DoneThrough.{steps_through, GoesOnAs, FitAs, EarlierStandAs, SurvivesAfterAs, DoneSurvives, DoneGoesOn}
 use Rattle.jlog.proofs.DoneLemmas.{FirstOps, PlansOn, after_on, all_both, all_right, count_on, first_ops, nodes_long, nodes_on, plans_on}
@@ -34,17 +34,18 @@ use Rattle.jlog.proofs.HeadlineThroughLemmas.{Goes, all_fit_through, forms_goes,
 use Rattle.jlog.proofs.ImageLemmas.{block_size}
 use Rattle.jlog.proofs.LeftLemmas.{forms_have_room, storable_forms}
 use Rattle.jlog.proofs.OutputLemmas.{output_goes_on}
+use Rattle.jlog.proofs.Parts.{flash_by}
 use Rattle.jlog.proofs.RoomLemmas.{room_goes_on}
 
 -- ---- forms after forms
 
-pub forms_on : (e : Endian) (ns ms : List NodeRef) (fs gs : List (List ℕ)) → AreFormsFor e ns fs → AreFormsFor e ms gs → AreFormsFor e (ns ++ ms) (fs ++ gs)
+pub forms_on : (e : Endian) (ns ms : List NodeRef) (fs gs : List (List ℕ)) → AreNodeForms e ns fs → AreNodeForms e ms gs → AreNodeForms e (ns ++ ms) (fs ++ gs)
 forms_on e [] ms [] gs these those = those
 forms_on e [] ms (f ∷ fs) gs these those = absurd these
 forms_on e (n ∷ ns) ms [] gs these those = absurd these
 forms_on e (n ∷ ns) ms (f ∷ fs) gs these those = (these.0, forms_on e ns ms fs gs these.1 those)
 
-forms_long : (e : Endian) (ns : List NodeRef) (fs : List (List ℕ)) → AreFormsFor e ns fs → length fs ≡ length ns
+forms_long : (e : Endian) (ns : List NodeRef) (fs : List (List ℕ)) → AreNodeForms e ns fs → length fs ≡ length ns
 forms_long e [] [] are = refl
 forms_long e [] (f ∷ fs) are = absurd are
 forms_long e (n ∷ ns) [] are = absurd are
@@ -83,16 +84,16 @@ record FitAfter (page : ℕ) (e : Endian) (size blocks : ℕ) (base : List ℕ) 
   accepted : AreAcceptedAs page e size blocks base (done ++ ops) (length done + n) (before ++ forms)
 
 fit_after : (page : ℕ) (e : Endian) (size blocks from : ℕ) (base : List ℕ) (done ops : List Op) (before forms : List (List ℕ)) (x : Indexed) (n : ℕ)
-    → GoesOnAs page e size blocks base done before from x → FitAs page e size blocks base before from x ops n forms
+    → GoesOnAs (flash_by page e size blocks) base done before from x → FitAs (flash_by page e size blocks) base before from x ops n forms
     → FitAfter page e size blocks base done ops n before forms
 fit_after page e size blocks from base done ops before forms x n on here =
     let start : ℕ = resume_address e size blocks base in
     let z : Indexed = index_through e size base in
     let earlier : List Step = steps_through page e size base done in
     let y : Indexed = advanced_all z earlier in
-    let at : FitAs page e size blocks base before (end_of_all size start before) y ops n forms =
-    subst (λ (w : Indexed). FitAs page e size blocks base before (end_of_all size start before) w ops n forms) on.index_is
-    (subst (λ (c : ℕ). FitAs page e size blocks base before c x ops n forms) on.cursor_is here) in
+    let at : FitAs (flash_by page e size blocks) base before (end_of_all size start before) y ops n forms =
+    subst (λ (w : Indexed). FitAs (flash_by page e size blocks) base before (end_of_all size start before) w ops n forms) on.index_is
+    (subst (λ (c : ℕ). FitAs (flash_by page e size blocks) base before c x ops n forms) on.cursor_is here) in
     let steps : List Step = steps_of_first page y ops n in
     let plans : PlansOn page z done ops (length done + n) n = plans_on page z done ops (length done + n) n refl on.accepted.planned at.planned in
     let was : AreFormsOn e size blocks base earlier before = on.accepted.forms_on in
@@ -102,7 +103,7 @@ fit_after page e size blocks from base done ops before forms x n on here =
         planned = plans.planned;
         forms_on = subst (λ (l : List Step). AreFormsOn e size blocks base l (before ++ forms)) (sym plans.steps_are)
             (record {
-              are = subst (λ (ns : List NodeRef). AreFormsFor e ns (before ++ forms)) (sym (nodes_on z earlier steps)) (forms_on e (nodes_of z earlier) (nodes_of y steps) before forms was.are at.are);
+              are = subst (λ (ns : List NodeRef). AreNodeForms e ns (before ++ forms)) (sym (nodes_on z earlier steps)) (forms_on e (nodes_of z earlier) (nodes_of y steps) before forms was.are at.are);
               fits = subst IsTrue (sym (room_goes_on size blocks start before forms)) (and_from _ _ was.fits at.fits);
               contents = at.contents;
             });
@@ -110,18 +111,18 @@ fit_after page e size blocks from base done ops before forms x n on here =
     }
 
 first_fit : (page : ℕ) (e : Endian) (size blocks from : ℕ) (base : List ℕ) (before forms : List (List ℕ)) (x : Indexed) (ops : List Op) (n : ℕ)
-    → FitAs page e size blocks base before from x ops n forms → FitAs page e size blocks base before from x (take n ops) n forms
+    → FitAs (flash_by page e size blocks) base before from x ops n forms → FitAs (flash_by page e size blocks) base before from x (take n ops) n forms
 first_fit page e size blocks from base before forms x ops n here =
     let first : FirstOps page x ops n = first_ops page x ops n here.planned in
     record {
       planned = first.planned;
-      are = subst (λ (l : List Step). AreFormsFor e (nodes_of x l) forms) (sym first.steps_are) here.are;
+      are = subst (λ (l : List Step). AreNodeForms e (nodes_of x l) forms) (sym first.steps_are) here.are;
       fits = here.fits;
       contents = here.contents;
     }
 
 survives_after : (page : ℕ) (e : Endian) (size blocks from n : ℕ) (base : List ℕ) (done ops : List Op) (before forms : List (List ℕ)) (x : Indexed) → IsPage page → page + 80 ≤ size
-    → GoesOnAs page e size blocks base done before from x → AreBytes base → AllByRecursion OpFits ops → FitAs page e size blocks base before from x ops n forms
+    → GoesOnAs (flash_by page e size blocks) base done before from x → AreBytes base → AllByRecursion OpFits ops → FitAs (flash_by page e size blocks) base before from x ops n forms
     → SurvivesAfterAs e size blocks base (steps_through page e size base done) (steps_of_first page x ops n) before forms
 survives_after page e size blocks from n base done ops before forms x is_page room on are_bytes widths here =
     let z : Indexed = index_through e size base in
@@ -143,13 +144,21 @@ survives_after page e size blocks from n base done ops before forms x is_page ro
       stand = earlier_stand_as page e size blocks base earlier steps before forms len goes;
     })
 
-pub done_survives : DoneSurvives
-done_survives page e size blocks from n base done ops before forms x is_page room on are_bytes widths here =
+survives_first : (page : ℕ) (e : Endian) (size blocks from n : ℕ) (base : List ℕ) (done ops : List Op) (before forms : List (List ℕ)) (x : Indexed) → IsPage page → page + 80 ≤ size
+    → GoesOnAs (flash_by page e size blocks) base done before from x → AreBytes base → AllByRecursion OpFits (take n ops) → FitAs (flash_by page e size blocks) base before from x ops n forms
+    → SurvivesAfterAs e size blocks base (steps_through page e size base done) (steps_of_first page x ops n) before forms
+survives_first page e size blocks from n base done ops before forms x is_page room on are_bytes widths here =
     subst (λ (l : List Step). SurvivesAfterAs e size blocks base (steps_through page e size base done) l before forms) (first_ops page x ops n here.planned).steps_are
     (survives_after page e size blocks from n base done (take n ops) before forms x is_page room on are_bytes widths (first_fit page e size blocks from base before forms x ops n here))
 
-pub done_goes_on : DoneGoesOn
-done_goes_on page e size blocks from n base done ops before forms x on widths here =
+pub done_survives : DoneSurvives
+done_survives flash from n base done ops before forms x is_page room on are_bytes widths here =
+    survives_first flash.page flash.order flash.size flash.blocks from n base done ops before forms x is_page room on are_bytes widths here
+
+goes_on_first : (page : ℕ) (e : Endian) (size blocks from n : ℕ) (base : List ℕ) (done ops : List Op) (before forms : List (List ℕ)) (x : Indexed)
+    → GoesOnAs (flash_by page e size blocks) base done before from x → AllByRecursion OpFits (take n ops) → FitAs (flash_by page e size blocks) base before from x ops n forms
+    → GoesOnAs (flash_by page e size blocks) base (done ++ take n ops) (before ++ forms) (end_of_all size from forms) (advanced_all x (steps_of_first page x ops n))
+goes_on_first page e size blocks from n base done ops before forms x on widths here =
     let start : ℕ = resume_address e size blocks base in
     let z : Indexed = index_through e size base in
     let earlier : List Step = steps_through page e size base done in
@@ -170,3 +179,7 @@ done_goes_on page e size blocks from n base done ops before forms x on widths he
       index_is = ap (λ (w : Indexed). advanced_all w steps) on.index_is
           ∙ (sym (advanced_all-append z earlier steps) ∙ ap (advanced_all z) (sym all_steps));
     }
+
+pub done_goes_on : DoneGoesOn
+done_goes_on flash from n base done ops before forms x on widths here =
+    goes_on_first flash.page flash.order flash.size flash.blocks from n base done ops before forms x on widths here

@@ -23,7 +23,7 @@ use Rattle.jlog.specs.Places.{places}
 use Rattle.jlog.specs.Left.{count_whole}
 use Rattle.jlog.specs.Output.{output}
 use Rattle.jlog.specs.MountLaws.{GoesOnSoundly}
-use Rattle.jlog.specs.Packed.{AreFormsFor}
+use Rattle.jlog.specs.Packed.{AreNodeForms}
 use Rattle.jlog.specs.Through.{form_content, MountsThroughAs}
 use Rattle.jlog.specs.ThroughLaws.{NoneCompressed}
 use Rattle.jlog.proofs.HeadlineLemmas.{all_fit, planned_loggable, readable, soundly}
@@ -57,7 +57,7 @@ accepted_follows page e size blocks n base ops is_page room is_base are_bytes fi
     let in_forms : AreAcceptedAs page e size blocks base ops n forms = record {
       planned = subst (λ (l : List NodeRef). n ≤ length (plans_of page (index_of l) ops)) (sym same) accepted.planned;
       forms_on = record {
-        are = subst (λ (l : List NodeRef). AreFormsFor e (nodes_of (index_of l) (steps_of_first page (index_of l) ops n)) forms) (sym same) (own_forms e new);
+        are = subst (λ (l : List NodeRef). AreNodeForms e (nodes_of (index_of l) (steps_of_first page (index_of l) ops n)) forms) (sym same) (own_forms e new);
         fits = accepted.fits;
         contents = omega (arith, ap length none_held, ap length none_packed);
       };

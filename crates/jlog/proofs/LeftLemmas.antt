@@ -22,7 +22,7 @@ use Rattle.jlog.proofs.IntactLemmas.{all_is_intact, storable, storable_has_room}
 use Rattle.jlog.proofs.TellLemmas.{nodes_told, refuses_as}
 use Rattle.jlog.proofs.ByteLemmas.{erased_end, block_long, block_byte}
 use Rattle.jlog.proofs.PlaceLemmas.{place_front}
-use Rattle.jlog.proofs.FormLemmas.{form_is_not_erased}
+use Rattle.jnode.proofs.FormLemmas.{form_is_not_erased}
 use Rattle.jlog.proofs.SightLemmas.{marker_long, node_is_form, whole_seen}
 use Rattle.jlog.proofs.FlashLemmas.{BlockLeft, up}
 use Rattle.jlog.proofs.HereLemmas.{Sure, none_weak, none_cut}

@@ -1,7 +1,6 @@
 pub mod ByteLemmas
 pub mod PlaceLemmas
 pub mod OutputLemmas
-pub mod FormLemmas
 pub mod SightLemmas
 pub mod FlashLemmas
 pub mod HereLemmas

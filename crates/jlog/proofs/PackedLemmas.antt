@@ -27,9 +27,9 @@ use Rattle.jexpand.specs.Refused.{too_long, compressed_fault}
 use Rattle.jexpand.proofs.NodeLemmas.{content_long, compressed_ok}
 use Rattle.jlog.specs.LeftLaws.{IsStorable, IsLoggable, sighting_of}
 use Rattle.jlog.specs.Forms.{IsLoggableForm}
-use Rattle.jlog.specs.Packed.{StandsFor, IsFormFor, AreFormsFor}
+use Rattle.jlog.specs.Packed.{StandsFor, IsNodeForm, AreNodeForms}
 use Rattle.jlog.specs.Through.{content_by, node_by, fault_by, form_content, form_node, IsReadForm}
-use Rattle.jlog.proofs.FormLemmas.{tile_is_form}
+use Rattle.jnode.proofs.FormLemmas.{tile_is_form}
 use Rattle.jlog.proofs.SightLemmas.{node_is_form, whole_seen}
 
 -- what a form of a node has that goes out for it
@@ -120,7 +120,7 @@ packed_carries e size n packed ok stands plain =
 
 -- ---- either
 
-pub form_carries : (e : Endian) (size : ℕ) (n : NodeRef) (form : List ℕ) → IsLoggable e size n → IsFormFor e n form → Carries e size n form
+pub form_carries : (e : Endian) (size : ℕ) (n : NodeRef) (form : List ℕ) → IsLoggable e size n → IsNodeForm e n form → Carries e size n form
 form_carries e size n form ok (inl own) = subst (Carries e size n) (sym own) (own_carries e size n ok)
 form_carries e size n form ok (inr (is, plain)) =
     subst (Carries e size n) (sym is.2) (packed_carries e size n is.0 ok is.1 (subst (λ (f : List ℕ). length f ≢ 6533) is.2 plain))
@@ -141,7 +141,7 @@ carry_none : (e : Endian) (m : ℕ) → filter_map (form_node e) (take m []) ≡
 carry_none e zero = refl
 carry_none e (suc m) = refl
 
-pub forms_carry : (e : Endian) (size : ℕ) (ns : List NodeRef) (forms : List (List ℕ)) → AllByRecursion (IsLoggable e size) ns → AreFormsFor e ns forms → AllCarry e size ns forms
+pub forms_carry : (e : Endian) (size : ℕ) (ns : List NodeRef) (forms : List (List ℕ)) → AllByRecursion (IsLoggable e size) ns → AreNodeForms e ns forms → AllCarry e size ns forms
 forms_carry e size [] [] ok are = record { loggable = tt; read = tt; gives = carry_none e }
 forms_carry e size [] (form ∷ forms) ok are = absurd are
 forms_carry e size (n ∷ ns) [] ok are = absurd are

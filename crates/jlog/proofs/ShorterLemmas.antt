@@ -14,7 +14,7 @@ use Rattle.jnode.proofs.CompressedLemmas.{length-canonical_compressed}
 use Rattle.jexpand.specs.Expanded.{node_length}
 use Rattle.jlog.specs.Places.{IsPlace, place_after, end_after, fit}
 use Rattle.jlog.specs.LeftLaws.{IsLoggable}
-use Rattle.jlog.specs.Packed.{IsFormFor, AreFormsFor}
+use Rattle.jlog.specs.Packed.{IsNodeForm, AreNodeForms}
 use Rattle.jlog.specs.SessionAsLaws.{ShorterFormsFit}
 use Rattle.jlog.proofs.PackedLemmas.{Carries, canonical_length, fewer_words, form_carries}
 use Rattle.jlog.proofs.PlaceLemmas.{place_is_least}
@@ -36,14 +36,14 @@ end_before size a b short long words some less room up =
     omega (arith, place, padded)
 
 -- a form is no longer than the node's own
-no_longer : (e : Endian) (n : NodeRef) (form : List ℕ) → IsFormFor e n form → length form ≤ length (canonical e n)
+no_longer : (e : Endian) (n : NodeRef) (form : List ℕ) → IsNodeForm e n form → length form ≤ length (canonical e n)
 no_longer e n form (inl own) = omega (arith, ap length own)
 no_longer e n form (inr (is, plain)) =
     let long = ap length is.2 ∙ length-canonical_compressed e is.0 in
     let own : length (canonical e n) ≡ inode_len + length is.1.bytes = canonical_length e n ∙ sym (ap node_length is.1.expanded) in
     omega (arith, long, own, fewer_words (inode_len + length is.0.«data») (inode_len + length is.1.bytes) is.1.shorter)
 
-fits_before : (e : Endian) (size blocks a b : ℕ) (ns : List NodeRef) (forms : List (List ℕ)) → size % 4 ≡ 0 → AllByRecursion (IsLoggable e size) ns → AreFormsFor e ns forms → a ≤ b
+fits_before : (e : Endian) (size blocks a b : ℕ) (ns : List NodeRef) (forms : List (List ℕ)) → size % 4 ≡ 0 → AllByRecursion (IsLoggable e size) ns → AreNodeForms e ns forms → a ≤ b
     → IsTrue (fit size blocks b (map (canonical e) ns)) → IsTrue (fit size blocks a forms)
 fits_before e size blocks a b [] [] words ok are up fits = fits
 fits_before e size blocks a b [] (form ∷ forms) words ok are up fits = absurd are

@@ -9,7 +9,7 @@ use Rattle.flashbase.proofs.BytesLemmas.{le_pad4, pad4_words}
 use Rattle.jnode.specs.Header.{is_good}
 use Rattle.jnode.specs.Laws.{IsPlain}
 use Rattle.jnode.specs.Reading.{seen_of, tile_of}
-use Rattle.jnode.specs.Weak.{torn, is_sound, is_weak}
+use Rattle.jnode.specs.Weak.{torn, is_sound, is_weak, IsForm}
 use Rattle.jnode.specs.Writing.{canonical, clean_marker, filled}
 use Rattle.jnode.specs.declared.node.NodeRef.{NodeRef}
 use Rattle.jnode.specs.declared.node.NodeRef.TheVariants as node
@@ -28,8 +28,8 @@ use Rattle.jscan.proofs.TileLemmas.{tile_good, tile_then_rest}
 use Rattle.jscan.proofs.HeaderlessLemmas.{seen_among, headerless_has_no_nodes, erased_none_good}
 use Rattle.jscan.proofs.MarkedLemmas.{marked_has_no_nodes}
 use Rattle.jlog.specs.LeftLaws.{IsStorable, tells, sighting_of}
-use Rattle.jlog.specs.Forms.{IsForm, form_sighted}
-use Rattle.jlog.proofs.FormLemmas.{tile_is_form, form_is_tile, torn_form_header_is_none, torn_form_is_damaged, torn_form_is_tile}
+use Rattle.jlog.specs.Forms.{form_sighted}
+use Rattle.jnode.proofs.FormLemmas.{tile_is_form, form_is_tile, torn_form_header_is_none, torn_form_is_damaged, torn_form_is_tile}
 
 -- what is told of the rest of a block, from a place on
 abbrev pub told : Endian → ℕ → ℕ → List ℕ → List (ℕ × Seen)

@@ -12,7 +12,7 @@ use Rattle.std.proofs.lemmas.Grind.{flat_map-append}
 use Rattle.flashbase.proofs.MemberLemmas.{Contains-here, Contains-there, Contains-filter_from}
 use Rattle.jnode.specs.Compressed.{compressed_of}
 use Rattle.jnode.specs.Reading.{seen_of, tile_of}
-use Rattle.jnode.specs.Weak.{is_sound}
+use Rattle.jnode.specs.Weak.{is_sound, IsForm}
 use Rattle.jnode.specs.Writing.{filled}
 use Rattle.jnode.specs.declared.node.CompressedNode.{CompressedNode}
 use Rattle.jnode.specs.declared.node.NodeRef.{NodeRef}
@@ -29,12 +29,12 @@ use Rattle.jexpand.proofs.SightedLemmas.{sighted_at}
 use Rattle.jlog.specs.Output.{output}
 use Rattle.jlog.specs.Left.{IsLeft}
 use Rattle.jlog.specs.LeftLaws.{tells}
-use Rattle.jlog.specs.Forms.{IsForm, IsStorableForm, AreStoredForms, placed_forms, intact_forms, form_sighted, StandsIn, HasForms}
+use Rattle.jlog.specs.Forms.{IsStorableForm, AreStoredForms, placed_forms, intact_forms, form_sighted, StandsIn, HasForms}
 use Rattle.jlog.specs.Places.{end_after}
 use Rattle.jlog.specs.Left.{intact}
 use Rattle.jlog.specs.Through.{node_by, content_by, fault_by, through_fault_among, first_fault, form_node, form_content, IsReadForm, Expands}
 use Rattle.jlog.proofs.ByteLemmas.{block_long, block_byte}
-use Rattle.jlog.proofs.FormLemmas.{form_is_tile}
+use Rattle.jnode.proofs.FormLemmas.{form_is_tile}
 use Rattle.jlog.proofs.ImageLemmas.{below_same, told_image, block_size}
 use Rattle.jlog.proofs.LeftLemmas.{base_stays, forms_have_room, told_of_base, left_has_forms, stored_forms}
 use Rattle.jlog.proofs.HereLemmas.{Sure, none_cut, none_weak}

@@ -21,9 +21,9 @@ use Rattle.jlog.specs.Output.{output}
 use Rattle.jlog.specs.Left.{IsLeft, count_whole}
 use Rattle.jlog.specs.Forms.{NoFormWeak}
 use Rattle.jlog.specs.Headline.{resume_address}
-use Rattle.jlog.specs.Packed.{AreFormsFor}
+use Rattle.jlog.specs.Packed.{AreNodeForms}
 use Rattle.jlog.specs.Resuming.{resumes_at}
-use Rattle.jlog.specs.Session.{IsGoing}
+use Rattle.jlog.specs.Session.{Flash, IsGoing}
 use Rattle.jlog.specs.Through.{form_content, MountsThroughAs, IsMountThroughOf}
 use Rattle.jlog.specs.HeadlineThrough.{state_through, IsBaseThrough, index_through, AreAcceptedAs, SurvivesAs}
 
@@ -34,27 +34,29 @@ steps_through page e size base done =
 
 -- A log goes on from a base by way of operations: they were accepted one after the other, these
 -- forms went out for their nodes, and their steps lead to this address and this index.
-pub record GoesOnAs (page : ℕ) (e : Endian) (size blocks : ℕ) (base : List ℕ) (done : List Op)
-    (forms : List (List ℕ)) (from : ℕ) (x : Indexed) : Type 0 where
-  pub is_base : IsBaseThrough e size blocks base
+pub record GoesOnAs (flash : Flash) (base : List ℕ) (done : List Op) (forms : List (List ℕ))
+    (from : ℕ) (x : Indexed) : Type 0 where
+  pub is_base : IsBaseThrough flash.order flash.size flash.blocks base
   pub widths : AllByRecursion OpFits done
-  pub accepted : AreAcceptedAs page e size blocks base done (length done) forms
-  pub cursor_is : from ≡ end_of_all size (resume_address e size blocks base) forms
-  pub index_is : x ≡ advanced_all (index_through e size base) (steps_through page e size base done)
+  pub accepted : AreAcceptedAs flash.page flash.order flash.size flash.blocks base done
+      (length done) forms
+  pub cursor_is : from
+      ≡ end_of_all flash.size (resume_address flash.order flash.size flash.blocks base) forms
+  pub index_is : x ≡ advanced_all (index_through flash.order flash.size base)
+      (steps_through flash.page flash.order flash.size base done)
 
 -- So many operations have steps, and these forms of their nodes fit, after earlier ones.
-pub record FitAs (page : ℕ) (e : Endian) (size blocks : ℕ) (base : List ℕ)
-    (before : List (List ℕ)) (from : ℕ) (x : Indexed) (ops : List Op) (n : ℕ)
-    (forms : List (List ℕ)) : Type 0 where
-  pub planned : n ≤ length (plans_of page x ops)
-  pub are : AreFormsFor e (nodes_of x (steps_of_first page x ops n)) forms
-  pub fits : IsTrue (fit size blocks from forms)
-  pub contents : length (unpacked_bytes e size base)
-      + length (flat_map (form_content e) (before ++ forms)) ≤ greatest_image
+pub record FitAs (flash : Flash) (base : List ℕ) (before : List (List ℕ)) (from : ℕ)
+    (x : Indexed) (ops : List Op) (n : ℕ) (forms : List (List ℕ)) : Type 0 where
+  pub planned : n ≤ length (plans_of flash.page x ops)
+  pub are : AreNodeForms flash.order (nodes_of x (steps_of_first flash.page x ops n)) forms
+  pub fits : IsTrue (fit flash.size flash.blocks from forms)
+  pub contents : length (unpacked_bytes flash.order flash.size base)
+      + length (flat_map (form_content flash.order) (before ++ forms)) ≤ greatest_image
 
 -- A stop while more forms were being written, after all bytes of the earlier ones and k more,
--- leaves an image that mounts through as the file system after all earlier steps, and after those of
--- the others whose forms stand whole.
+-- leaves an image that mounts through as the file system after all earlier steps, and after those
+-- of the others whose forms stand whole.
 abbrev pub EarlierStandAs : Endian → ℕ → ℕ → List ℕ → List Step → List Step → List (List ℕ)
     → List (List ℕ) → Type 0
 EarlierStandAs e size blocks base earlier steps before forms =
@@ -77,32 +79,32 @@ pub record SurvivesAfterAs (e : Endian) (size blocks : ℕ) (base : List ℕ)
 -- ---- the laws
 
 -- A log that goes on from a mount through goes on soundly, and has done nothing yet.
-pub record BeginsOn (page : ℕ) (e : Endian) (size blocks : ℕ) (m : Mount) (at : ℕ) : Type 0 where
-  pub going : IsGoing size blocks at (indexed m)
-  pub done : GoesOnAs page e size blocks m.image [] [] at (indexed m)
+pub record BeginsOn (flash : Flash) (m : Mount) (at : ℕ) : Type 0 where
+  pub going : IsGoing flash.size flash.blocks at (indexed m)
+  pub done : GoesOnAs flash m.image [] [] at (indexed m)
 
 abbrev pub ThroughBegins : Type 0
-ThroughBegins = (page : ℕ) (e : Endian) (size blocks at : ℕ) (m : Mount)
-    → IsMountThroughOf e size m → AreBytes m.image → resumes_at e size blocks m ≡ Ok at
-    → BeginsOn page e size blocks m at
+ThroughBegins = (flash : Flash) (at : ℕ) (m : Mount)
+    → IsMountThroughOf flash.order flash.size m → AreBytes m.image
+    → resumes_at flash.order flash.size flash.blocks m ≡ Ok at → BeginsOn flash m at
 
 -- What was done survives, and so do the operations that are accepted next, in whatever forms,
 abbrev pub DoneSurvives : Type 0
-DoneSurvives = (page : ℕ) (e : Endian) (size blocks from n : ℕ) (base : List ℕ) (done ops : List Op)
+DoneSurvives = (flash : Flash) (from n : ℕ) (base : List ℕ) (done ops : List Op)
     (before forms : List (List ℕ)) (x : Indexed)
-    → IsPage page → page + (header_len + inode_len) ≤ size
-    → GoesOnAs page e size blocks base done before from x
+    → IsPage flash.page → flash.page + (header_len + inode_len) ≤ flash.size
+    → GoesOnAs flash base done before from x
     → AreBytes base → AllByRecursion OpFits (take n ops)
-    → FitAs page e size blocks base before from x ops n forms
-    → SurvivesAfterAs e size blocks base (steps_through page e size base done)
-    (steps_of_first page x ops n) before forms
+    → FitAs flash base before from x ops n forms
+    → SurvivesAfterAs flash.order flash.size flash.blocks base
+    (steps_through flash.page flash.order flash.size base done)
+    (steps_of_first flash.page x ops n) before forms
 
 -- and the log goes on after them.
 abbrev pub DoneGoesOn : Type 0
-DoneGoesOn = (page : ℕ) (e : Endian) (size blocks from n : ℕ) (base : List ℕ) (done ops : List Op)
+DoneGoesOn = (flash : Flash) (from n : ℕ) (base : List ℕ) (done ops : List Op)
     (before forms : List (List ℕ)) (x : Indexed)
-    → GoesOnAs page e size blocks base done before from x
-    → AllByRecursion OpFits (take n ops)
-    → FitAs page e size blocks base before from x ops n forms
-    → GoesOnAs page e size blocks base (done ++ take n ops) (before ++ forms)
-    (end_of_all size from forms) (advanced_all x (steps_of_first page x ops n))
+    → GoesOnAs flash base done before from x → AllByRecursion OpFits (take n ops)
+    → FitAs flash base before from x ops n forms
+    → GoesOnAs flash base (done ++ take n ops) (before ++ forms)
+    (end_of_all flash.size from forms) (advanced_all x (steps_of_first flash.page x ops n))

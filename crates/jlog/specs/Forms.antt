@@ -1,10 +1,10 @@
 -- What goes out, whatever stands for a node: bytes that are a tile of their own.
 use Rattle.std.specs.Prelude.{◌≡◌, ℕ, ◌+◌, ◌*◌, ◌/◌, ◌%◌, ◌≤◌, IsTrue, None, List, [], ◌∷◌, ◌++◌, length, map, filter, take, drop}
 use Rattle.std.specs.List.{AllByRecursion}
-use Rattle.jnode.specs.Header.{header_len, has_header, totlen_of}
+use Rattle.jnode.specs.Header.{header_len}
 use Rattle.jnode.specs.Laws.{IsPlain}
 use Rattle.jnode.specs.Reading.{seen_of}
-use Rattle.jnode.specs.Weak.{is_sound, IsLeastWeak}
+use Rattle.jnode.specs.Weak.{IsForm, IsLeastWeak}
 use Rattle.jnode.specs.Writing.{filled}
 use Rattle.jnode.specs.declared.node.Seen.{Seen}
 use Rattle.jnode.specs.declared.order.Endian.{Endian}
@@ -15,15 +15,7 @@ use Rattle.jlog.specs.Output.{output}
 use Rattle.jlog.specs.Left.{IsLeft, intact}
 use Rattle.jlog.specs.LeftLaws.{tells}
 
--- ---- forms
-
--- A form: bytes that begin with a header of right magic and checksum, which tells their length, and
--- that are seen as a sound node, compressed or not.
-pub record IsForm (e : Endian) (form : List ℕ) : Type 0 where
-  pub least : header_len ≤ length form
-  pub header : IsTrue (has_header e form)
-  pub totlen : totlen_of e form ≡ length form
-  pub sound : IsTrue (is_sound (seen_of e (filled form)))
+-- ---- forms of nodes (IsForm of jnode)
 
 -- what blocks of this size hold, each after its marker
 pub record IsStorableForm (e : Endian) (size : ℕ) (form : List ℕ) : Type 0 where

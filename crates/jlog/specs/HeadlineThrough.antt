@@ -1,5 +1,5 @@
--- What stays of a compressed file system when power fails while operations are written to it, packed
--- or not.
+-- What stays of a compressed file system when power fails while operations are written to it,
+-- packed or not.
 use Rattle.std.specs.Prelude.{ℕ, ◌+◌, ◌≤◌, IsTrue, List, length, take}
 use Rattle.std.specs.List.{AllByRecursion, flat_map}
 use Rattle.flashbase.specs.Ranges.{AreBytes}
@@ -23,7 +23,7 @@ use Rattle.jlog.specs.Output.{output}
 use Rattle.jlog.specs.Left.{IsLeft, count_whole}
 use Rattle.jlog.specs.Forms.{NoFormWeak}
 use Rattle.jlog.specs.Headline.{is_flash_of, resume_address}
-use Rattle.jlog.specs.Packed.{AreFormsFor}
+use Rattle.jlog.specs.Packed.{AreNodeForms}
 use Rattle.jlog.specs.Through.{form_content, MountsThroughAs}
 
 -- the file system of an image, through its compression
@@ -46,7 +46,7 @@ nodes_through e size base steps = nodes_of (index_through e size base) steps
 -- These forms of the nodes of steps on a base fit, and the view has room for their contents.
 pub record AreFormsOn (e : Endian) (size blocks : ℕ) (base : List ℕ) (steps : List Step)
     (forms : List (List ℕ)) : Type 0 where
-  pub are : AreFormsFor e (nodes_through e size base steps) forms
+  pub are : AreNodeForms e (nodes_through e size base steps) forms
   pub fits : IsTrue (fit size blocks (resume_address e size blocks base) forms)
   pub contents : length (unpacked_bytes e size base) + length (flat_map (form_content e) forms)
       ≤ greatest_image

@@ -1,4 +1,5 @@
--- What may go out for a node: its own written form, or that of a compressed node that stands for it.
+-- What may go out for a node: its own written form, or that of a compressed node that stands for
+-- it.
 use Rattle.std.specs.Prelude.{◌≡◌, ◌≢◌, ◌⊎◌, ℕ, ◌+◌, ◌<◌, List, [], ◌∷◌, length, Some}
 use Rattle.flashbase.specs.Bytes.{pad4_of}
 use Rattle.jnode.specs.Compressed.{canonical_compressed, FitsCompressed, IsWritableCompressed}
@@ -33,13 +34,13 @@ IsPackedForm e node form =
     (packed : CompressedNode) × StandsFor packed node × (form ≡ canonical_compressed e packed)
 
 -- A form of a node: its own, or a packed one whose length does not spell the magic.
-abbrev pub IsFormFor : Endian → NodeRef → List ℕ → Type 0
-IsFormFor e node form =
+abbrev pub IsNodeForm : Endian → NodeRef → List ℕ → Type 0
+IsNodeForm e node form =
     (form ≡ canonical e node) ⊎ (IsPackedForm e node form × (length form ≢ magic))
 
 -- forms of nodes, one for each and in their order
-abbrev pub AreFormsFor : Endian → List NodeRef → List (List ℕ) → Type 0
-AreFormsFor e [] [] = Unit {0}
-AreFormsFor e [] (form ∷ forms) = ⊥
-AreFormsFor e (node ∷ nodes) [] = ⊥
-AreFormsFor e (node ∷ nodes) (form ∷ forms) = IsFormFor e node form × AreFormsFor e nodes forms
+abbrev pub AreNodeForms : Endian → List NodeRef → List (List ℕ) → Type 0
+AreNodeForms e [] [] = Unit {0}
+AreNodeForms e [] (form ∷ forms) = ⊥
+AreNodeForms e (node ∷ nodes) [] = ⊥
+AreNodeForms e (node ∷ nodes) (form ∷ forms) = IsNodeForm e node form × AreNodeForms e nodes forms

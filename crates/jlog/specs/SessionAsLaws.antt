@@ -13,33 +13,36 @@ use Rattle.jsteps.specs.Refusals.{steps_of_first}
 use Rattle.jexpand.specs.Expanded.{unpacked_bytes}
 use Rattle.jlog.specs.Places.{fit}
 use Rattle.jlog.specs.LeftLaws.{IsLoggable}
-use Rattle.jlog.specs.Packed.{AreFormsFor}
+use Rattle.jlog.specs.Packed.{AreNodeForms}
 use Rattle.jlog.specs.Running.{Log}
 use Rattle.jlog.specs.DoneThrough.{steps_through, GoesOnAs, SurvivesAfterAs}
 use Rattle.flashbase.specs.Sinks.{SinkChange}
 use Rattle.jsteps.specs.declared.op.Op.{Op}
 use Rattle.jlog.specs.Session.{Flash, LogState, Applies, Runs, attempted}
-use Rattle.jlog.specs.SessionAs.{content_len, AppliesAs, RunsAs}
+use Rattle.jlog.specs.SessionAs.{content_len, flash_as, AppliesAs, RunsAs}
 use Rattle.jlog.specs.declared.fault.SessionFault.{SessionFault}
 
+-- One that does not pack applies an operation as it always did,
 abbrev pub UnpackedApplies : Type 0
-UnpackedApplies = (held : ℕ) (flash : Flash) (from : LogState) (o : Op) (to : LogState) (sink : SinkChange)
-    (result : Result (Unit {0}) SessionFault)
-    → AppliesAs false held flash from o to sink result → Applies flash from o to sink result
+UnpackedApplies = (held : ℕ) (flash : Flash) (from : LogState) (o : Op) (to : LogState)
+    (sink : SinkChange) (result : Result (Unit {0}) SessionFault)
+    → AppliesAs (flash_as false held flash) from o to sink result
+    → Applies flash from o to sink result
 
+-- and runs as it did.
 abbrev pub UnpackedRuns : Type 0
-UnpackedRuns = (held : ℕ) (flash : Flash) (from : LogState) (ops : List Op) (n : ℕ) (forms : List (List ℕ))
-    (to : LogState) (sink : SinkChange) (stopped : Option SessionFault)
-    → RunsAs false held flash from ops n forms to sink stopped
+UnpackedRuns = (held : ℕ) (flash : Flash) (from : LogState) (ops : List Op) (n : ℕ)
+    (forms : List (List ℕ)) (to : LogState) (sink : SinkChange) (stopped : Option SessionFault)
+    → RunsAs (flash_as false held flash) from ops n forms to sink stopped
     → Runs flash from ops n to sink stopped
 
--- And what a session does that does not pack, one does that may: so what survives of the one does of
--- the other, on a base that is seen through its compression too.
+-- And what a session does that does not pack, one does that may: so what survives of the one does
+-- of the other, on a base that is seen through its compression too.
 abbrev pub UnpackedMayPack : Type 0
 UnpackedMayPack = (held : ℕ) (flash : Flash) (from : LogState) (ops : List Op) (n : ℕ)
     (forms : List (List ℕ)) (to : LogState) (sink : SinkChange) (stopped : Option SessionFault)
-    → RunsAs false held flash from ops n forms to sink stopped
-    → RunsAs true held flash from ops n forms to sink stopped
+    → RunsAs (flash_as false held flash) from ops n forms to sink stopped
+    → RunsAs (flash_as true held flash) from ops n forms to sink stopped
 
 -- ---- what a run does on a base that is seen through its compression
 
@@ -47,15 +50,15 @@ UnpackedMayPack = (held : ℕ) (flash : Flash) (from : LogState) (ops : List Op)
 abbrev pub held_by : Endian → ℕ → List ℕ → List (List ℕ) → ℕ
 held_by e size base before = length (unpacked_bytes e size base) + content_len e before
 
--- Whatever was done before, in whatever forms: its steps, and then those of the operations that were
--- attempted, survive on the base, in the forms that went out or were to go out.
+-- Whatever was done before, in whatever forms: its steps, and then those of the operations that
+-- were attempted, survive on the base, in the forms that went out or were to go out.
 abbrev pub RunSurvivesAs : Type 0
 RunSurvivesAs = (flash : Flash) (base : List ℕ) (done ops : List Op) (before forms : List (List ℕ))
     (from : Log) (n : ℕ) (to : LogState) (sink : SinkChange) (stopped : Option SessionFault)
     → IsPage flash.page → flash.page + (header_len + inode_len) ≤ flash.size
-    → GoesOnAs flash.page flash.order flash.size flash.blocks base done before from.cursor from.index
+    → GoesOnAs flash base done before from.cursor from.index
     → AreBytes base → AllByRecursion OpFits (take (attempted n to.broken) ops)
-    → RunsAs true (held_by flash.order flash.size base before) flash
+    → RunsAs (flash_as true (held_by flash.order flash.size base before) flash)
     (record { log = from; broken = false }) ops n forms to sink stopped
     → (more : List (List ℕ)) × SurvivesAfterAs flash.order flash.size flash.blocks base
     (steps_through flash.page flash.order flash.size base done)
@@ -65,12 +68,11 @@ RunSurvivesAs = (flash : Flash) (base : List ℕ) (done ops : List Op) (before f
 abbrev pub RunGoesOnAs : Type 0
 RunGoesOnAs = (flash : Flash) (base : List ℕ) (done ops : List Op) (before forms : List (List ℕ))
     (from : Log) (n : ℕ) (to : LogState) (sink : SinkChange) (stopped : Option SessionFault)
-    → GoesOnAs flash.page flash.order flash.size flash.blocks base done before from.cursor from.index
+    → GoesOnAs flash base done before from.cursor from.index
     → AllByRecursion OpFits (take n ops) → IsFalse to.broken
-    → RunsAs true (held_by flash.order flash.size base before) flash
+    → RunsAs (flash_as true (held_by flash.order flash.size base before) flash)
     (record { log = from; broken = false }) ops n forms to sink stopped
-    → GoesOnAs flash.page flash.order flash.size flash.blocks base (done ++ take n ops)
-    (before ++ forms) to.log.cursor to.log.index
+    → GoesOnAs flash base (done ++ take n ops) (before ++ forms) to.log.cursor to.log.index
 
 -- ---- room
 
@@ -78,5 +80,5 @@ RunGoesOnAs = (flash : Flash) (base : List ℕ) (done ops : List Op) (before for
 -- accepted before any of them is packed.
 abbrev pub ShorterFormsFit : Type 0
 ShorterFormsFit = (e : Endian) (size blocks from : ℕ) (nodes : List NodeRef) (forms : List (List ℕ))
-    → size % 4 ≡ 0 → AllByRecursion (IsLoggable e size) nodes → AreFormsFor e nodes forms
+    → size % 4 ≡ 0 → AllByRecursion (IsLoggable e size) nodes → AreNodeForms e nodes forms
     → IsTrue (fit size blocks from (map (canonical e) nodes)) → IsTrue (fit size blocks from forms)

@@ -1,4 +1,5 @@
--- An image seen through its compression: each compressed node stands as the inode node of its content.
+-- An image seen through its compression: each compressed node stands as the inode node of its
+-- content.
 use Rattle.std.specs.Prelude.{◌≡◌, ℕ, ◌≤◌, IsTrue, List, [], ◌∷◌, ◌++◌, length, filter_map, Option, None, Some, option_map, unwrap_or}
 use Rattle.std.specs.List.{flat_map}
 use Rattle.std.specs.Option.{option_or}

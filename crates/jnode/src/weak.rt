@@ -156,14 +156,14 @@ fn stored_at<E: Order>(bytes: &[u8]) -> usize
     }
 }
 
-/// The least weak cut of an entry or inode node, compressed or not, or `None` where it has none: how many of its bytes
-/// are on the flash when power fails, so that what is left of it differs from it and no check shows
-/// that. What is left is these bytes and then 0xFF; the checks show it unless its header is the
-/// node's and all its checksums are right, or its header is another one with a right checksum and
-/// length.
+/// The least weak cut of an entry or inode node, compressed or not, or `None` where it has none: how
+/// many of its bytes are on the flash when power fails, so that what is left of it differs from it
+/// and no check shows that. What is left is these bytes and then 0xFF; the checks show it unless its
+/// header is the node's and all its checksums are right, or its header is another one with a right
+/// checksum and length.
 ///
-/// `bytes` is the node as `write_entry`, `write_inode` or `write_compressed` wrote it, without padding. It takes no
-/// memory, and time proportional to the length.
+/// `bytes` is the node as `write_entry`, `write_inode` or `write_compressed` wrote it, without
+/// padding. It takes no memory, and time proportional to the length.
 pub fn weak_cut<E: Order>(bytes: &[u8]) -> Option<usize>
     requires { IsWrittenForm E.order bytes.now }
     ensures { IsLeastWeak E.order bytes.now result }
