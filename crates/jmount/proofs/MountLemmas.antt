@@ -26,12 +26,13 @@ use Rattle.jmount.specs.Mounts.{Answers, IsMountOf, IsSound, state, plain_nodes}
 use Rattle.jmount.specs.MountsNodes.{IsMountable, AreMountable, MountsNodes, IsMountedWith, AnswersNodes}
 use Rattle.jmount.specs.StateOf.{body_of, piece_of, state_of, tops_of}
 use Rattle.jmount.specs.Stored.{ObjectsByNumber, stored_state, stored_tops}
+use Rattle.jmount.specs.Clash.{NoneClash}
 use Rattle.jmount.specs.Collected.{Collected, FirstClash, HasNoClash, StopsCollecting, without_addresses, greatest_number, refusal_fault}
 use Rattle.jmount.specs.declared.fault.MountFault.{MountFault}
 use Rattle.jmount.specs.declared.fault.MountFault.TheVariants as fault
-use Rattle.jmount.proofs.ClashLemmas.{from_entries, from_inodes}
+use Rattle.jmount.proofs.ClashLemmas.{from_entries, from_inodes, no_clash_at}
 use Rattle.jmount.proofs.FaultLemmas.{Ascends, ascends_from_splits, first_clash_answers, refusal_answers, nodes_are_all, none_is_sound}
-use Rattle.jmount.proofs.CollectedLemmas.{collected_has_no_clash}
+use Rattle.jmount.proofs.CollectedLemmas.{collected_none_clash}
 use Rattle.jmount.proofs.StoredStateLemmas.{HasEach, state_stored, tops_stored}
 
 ascends : (e : Endian) (size : ℕ) (image : List ℕ) → Ascends (sightings e size image)
@@ -99,14 +100,14 @@ module _ (ns : List (ℕ × NodeRef)) (names : List Dirent) (inode_list : List I
   same_tops : stored_tops objects names ≡ tops_of (without_addresses ns)
   same_tops = tops_stored objects names inode_list (without_addresses ns) keeps.ordered keeps.each keeps.collected.same_inodes keeps.collected.same_entries
 
-  apart : HasNoClash ns
-  apart = collected_has_no_clash names inode_list ns keeps.collected
+  apart : NoneClash (without_addresses ns)
+  apart = collected_none_clash names inode_list ns keeps.collected
 
   root_is : (b : Bool) → b ≡ is_directory (stored_state objects names next) 1 → b ≡ is_directory (state_of (without_addresses ns)) 1
   root_is b is = is ∙ ap (λ (s : State). is_directory s 1) same_state
 
   pub not_a_directory : (image : List ℕ) (mount : Mount) (found : List Finding) (forbids b : Bool) → mount ≡ record { image = image; state = stored_state objects names next; tops = stored_tops objects names; findings = found; read_only = forbids }
-      → b ≡ is_directory mount.state 1 → b ≡ false → HasNoClash ns × IsFalse (is_directory (state_of (without_addresses ns)) 1)
+      → b ≡ is_directory mount.state 1 → b ≡ false → NoneClash (without_addresses ns) × IsFalse (is_directory (state_of (without_addresses ns)) 1)
   not_a_directory image mount found forbids b is same is_false = (apart, sym (root_is b (same ∙ ap (λ (m : Mount). is_directory m.state 1) is)) ∙ is_false)
 
   pub mounted : (image : List ℕ) (mount : Mount) (found : List Finding) (forbids b : Bool) → mount ≡ record { image = image; state = stored_state objects names next; tops = stored_tops objects names; findings = found; read_only = forbids }
@@ -132,8 +133,8 @@ module _ (e : Endian) (size : ℕ) (image : List ℕ) (ns : List (ℕ × NodeRef
   are : ns ≡ nodes e size image
   are = all ∙ nodes_are_all e size image none
 
-  is_sound : HasNoClash ns → IsSound e size image
-  is_sound apart = none_is_sound e size image scannable none (subst HasNoClash are apart)
+  is_sound : NoneClash (without_addresses ns) → IsSound e size image
+  is_sound apart = none_is_sound e size image scannable none (subst HasNoClash are (no_clash_at ns apart))
 
   whole_state : state_of (without_addresses ns) ≡ state e size image
   whole_state = ap (λ (l : List (ℕ × NodeRef)). state_of (without_addresses l)) are

@@ -4,7 +4,8 @@ use Rattle.jnode.specs.declared.node.NodeRef.{NodeRef}
 use Rattle.jnode.specs.declared.node.NodeRef.TheVariants.{Entry, Inode}
 use Rattle.jfrag.specs.Pieces.{end_of}
 use Rattle.jscan.specs.declared.finding.Finding.{Finding}
-use Rattle.jmount.specs.Collected.{FirstClash, HasNoClash, without_addresses}
+use Rattle.jmount.specs.Collected.{FirstClash, without_addresses}
+use Rattle.jmount.specs.Clash.{NoneClash}
 use Rattle.jmount.specs.Mount.{Mount}
 use Rattle.jmount.specs.StateOf.{piece_of, state_of, tops_of}
 use Rattle.jmount.specs.Tree.{is_directory}
@@ -21,15 +22,15 @@ AreMountable ns = (n : ℕ × NodeRef) → Contains ns n → IsMountable n.1
 
 -- the mount shows the file system of these nodes, no two of which clash
 pub record MountsNodes (ns : List (ℕ × NodeRef)) (mount : Mount) : Type 0 where
-  pub apart : HasNoClash ns
+  pub apart : NoneClash (without_addresses ns)
   pub root : IsTrue (is_directory (state_of (without_addresses ns)) 1)
   pub state : mount.state ≡ state_of (without_addresses ns)
   pub tops : mount.tops ≡ tops_of (without_addresses ns)
 
 -- and beside it what it was given
-pub record IsMountedWith (image : List ℕ) (found : List Finding) (forbids : Bool) (mount : Mount) : Type
+pub record IsMountedWith (bytes : List ℕ) (found : List Finding) (forbids : Bool) (mount : Mount) : Type
     0 where
-  pub image : mount.image ≡ image
+  pub image : mount.image ≡ bytes
   pub findings : mount.findings ≡ found
   pub read_only : mount.read_only ≡ forbids
 
@@ -41,7 +42,8 @@ AnswersNodes image ns found forbids (Ok mount) =
     MountsNodes ns mount × IsMountedWith image found forbids mount
 AnswersNodes image ns found forbids (Err (fault.Clash addr)) = FirstClash ns addr
 AnswersNodes image ns found forbids (Err fault.RootKind) =
-    HasNoClash ns × IsFalse (is_directory (state_of (without_addresses ns)) 1)
+    NoneClash (without_addresses ns)
+    × IsFalse (is_directory (state_of (without_addresses ns)) 1)
 AnswersNodes image ns found forbids (Err fault.OutOfMemory) = ⊤
 AnswersNodes image ns found forbids (Err fault.BlockSize) = ⊥
 AnswersNodes image ns found forbids (Err fault.TooLarge) = ⊥

@@ -3,7 +3,8 @@
 ghost use Rattle.std.specs.Prelude.{ℕ, IfErr, OnOk};
 ghost use Rattle.jnode.specs.declared.order.Endian.{Endian};
 ghost use Rattle.jscan.specs.PartialScans.{IsScanOf};
-ghost use Rattle.jmount.specs.Collected.{HasNoClash, StopsCollecting};
+ghost use Rattle.jmount.specs.Clash.{NoneClash};
+ghost use Rattle.jmount.specs.Collected.{StopsCollecting, without_addresses};
 ghost use Rattle.jmount.specs.Mounts.{Answers};
 ghost use Rattle.jmount.specs.MountsNodes.{AreMountable, AnswersNodes};
 
@@ -99,7 +100,7 @@ pub fn mount_nodes<'a>(
 /// `Clash`, at the first node of the list that clashes with one before it. `OutOfMemory` may come
 /// at any time.
 pub fn refuse_clashes(alloc: Global, nodes: Vec<(u32, NodeRef<'_>)>) -> Result<(), MountFault>
-    ensures ok { OnOk result (HasNoClash nodes.entry.items) }
+    ensures ok { OnOk result (NoneClash (without_addresses nodes.entry.items)) }
     ensures err { IfErr result (StopsCollecting nodes.entry.items) }
 {
     collect(alloc, nodes)?;

@@ -4,6 +4,7 @@ use Rattle.jscan.specs.Scans.{first_refused}
 use Rattle.jmount.specs.Collected.{HasNoClash, StopsCollecting}
 use Rattle.jmount.specs.Mounts.{Answers}
 use Rattle.jmount.specs.MountsNodes.{AreMountable}
+use Rattle.jmount.proofs.ClashLemmas.{no_clash_at}
 use Rattle.jmount.proofs.FaultLemmas.{nodes_are_all}
 use Rattle.jmount.proofs.MountLemmas.{stop_answers, refused_answers, nodes_mountable, image_answers}
 use Rattle.jmount.proofs.mounting.mount_scanned.Goals as goal
@@ -18,7 +19,7 @@ returns-in-Some-in_err c = λ e size scan.
 pub returns-in-Some : goal.returns-in-Some
 returns-in-Some c = λ e size scan.
     refused_answers e size c.args.image.now c.in-Some.refusal c.from.result scan.scannable
-    (subst HasNoClash scan.nodes c.in_ok.ensures.ok)
+    (subst HasNoClash scan.nodes (no_clash_at c.args.partial.nodes.items c.in_ok.ensures.ok))
     (sym scan.refused ∙ c.in-Some.is) c.from.ensures
 
 pub mount_nodes-requires : goal.mount_nodes-requires
