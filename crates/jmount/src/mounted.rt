@@ -1,6 +1,6 @@
 //! A mounted image.
 
-ghost use Rattle.std.specs.Prelude.{◌≡◌, ℕ, ◌-◌, ◌<◌, ◌≤◌, ◌++◌, true, not, Decides, IfOk, map, max, option_map, length, min, slice_index, take, drop};
+ghost use Rattle.std.specs.Prelude.{◌≡◌, ℕ, ◌-◌, ◌<◌, ◌≤◌, ◌++◌, true, not, Decides, IsOk, IfOk, map, max, option_map, length, min, slice_index, take, drop};
 ghost use Rattle.flashbase.specs.Sinks.{PutsTo};
 ghost use Rattle.jmount.specs.Tree as tree;
 ghost use Rattle.jmount.specs.Find as walk;
@@ -262,6 +262,17 @@ impl<'a> Mounted<'a> {
         ensures { Decides result (HasShape self.now.state) }
     {
         self.has_shape
+    }
+
+    /// The same, as a call that may want memory. It never does: this was found out at the mount.
+    ///
+    /// # Errors
+    /// None comes.
+    pub fn shape(&self) -> Result<bool, AllocError>
+        ensures found { IsOk result }
+        ensures shape { IfOk result (λ has. Decides has (HasShape self.now.state)) }
+    {
+        Ok(self.has_shape())
     }
 
     /// Reads the bytes of a regular file or a symlink from an offset on: as many as the slice and
