@@ -55,6 +55,7 @@ tests/listings.py $program
 tests/commands.py --try $program
 tests/quick.sh $program
 tests/completions.py
+tests/kit.sh
 tests/trace.py
 tests/form.py
 SUITES
