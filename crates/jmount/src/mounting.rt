@@ -78,7 +78,7 @@ pub fn mount_nodes<'a>(
     read_only: bool,
 ) -> Result<Mounted<'a>, MountFault>
     requires mountable { AreMountable nodes.items }
-    ensures { AnswersNodes image.now nodes.entry.items findings.entry.items read_only result }
+    ensures { AnswersNodes image.now nodes.entry.items findings.items read_only result }
 {
     let NodeTables {
         names,

@@ -9,17 +9,17 @@ use Rattle.jmount.proofs.FaultLemmas.{nodes_are_all}
 use Rattle.jmount.proofs.MountLemmas.{stop_answers, refused_answers, nodes_mountable, image_answers}
 use Rattle.jmount.proofs.mounting.mount_scanned.Goals as goal
 
-pub returns-in-Some-in_err : goal.returns-in-Some-in_err
-returns-in-Some-in_err c = λ e size scan.
-    let same : c.from_residual.result ≡ Err c.in_err.field-0.0 = search rules in
+pub returns-in_err-refuse_clashes : goal.returns-in_err-refuse_clashes
+returns-in_err-refuse_clashes c = λ e size scan.
+    let same : c.from_residual.result ≡ Err c.in_err-refuse_clashes.field-0.0 = search rules in
     subst (λ r. Answers e size c.args.image.now r) (sym same)
-    (stop_answers e size c.args.image.now c.in_err.field-0.0 scan.scannable
-    (subst (λ (ns : List (ℕ × NodeRef)). StopsCollecting ns c.in_err.field-0.0) scan.nodes c.in_err.ensures.err))
+    (stop_answers e size c.args.image.now c.in_err-refuse_clashes.field-0.0 scan.scannable
+    (subst (λ (ns : List (ℕ × NodeRef)). StopsCollecting ns c.in_err-refuse_clashes.field-0.0) scan.nodes c.in_err-refuse_clashes.ensures.err))
 
 pub returns-in-Some : goal.returns-in-Some
 returns-in-Some c = λ e size scan.
     refused_answers e size c.args.image.now c.in-Some.refusal c.from.result scan.scannable
-    (subst HasNoClash scan.nodes (no_clash_at c.args.partial.nodes.items c.in_ok.ensures.ok))
+    (subst HasNoClash scan.nodes (no_clash_at c.args.partial.nodes.items c.in_ok-refuse_clashes.ensures.ok))
     (sym scan.refused ∙ c.in-Some.is) c.from.ensures
 
 pub mount_nodes-requires : goal.mount_nodes-requires
