@@ -22,7 +22,7 @@ use Rattle.jscan.proofs.BlockLemmas.{count_within}
 use Rattle.jmount.specs.Mounts.{MountsAs, plain_nodes}
 use Rattle.jmount.specs.Tree.{State, is_directory}
 use Rattle.jmount.specs.StateOf.{state_of}
-use Rattle.jsteps.specs.Laws.{NoneClash}
+use Rattle.jmount.specs.Clash.{NoneClash}
 use Rattle.jlog.specs.Laws.{FitsBlock}
 use Rattle.jlog.specs.LeftLaws.{IsStorable, tells}
 use Rattle.jlog.specs.Output.{output}

@@ -24,12 +24,11 @@ use Rattle.jnode.proofs.TileLemmas.{tile_headed}
 use Rattle.jnode.proofs.WritingLemmas.{writable_is_computed}
 use Rattle.jscan.specs.Image.{is_block_size, greatest_image, block_of, sightings, node_sighted, nodes}
 use Rattle.jscan.proofs.FitLaws.{nodes_fit, nodes_writable}
-use Rattle.jmount.specs.Clash.{IsClashAt}
+use Rattle.jmount.specs.Clash.{IsClashAt, NoneClash}
 use Rattle.jmount.specs.Mounts.{IsFaultAt, MountsAs, Answers, plain_nodes}
 use Rattle.jmount.specs.StateOf.{state_of}
 use Rattle.jmount.specs.Tree.{is_directory}
 use Rattle.jmount.specs.declared.fault.MountFault.TheVariants as fault
-use Rattle.jsteps.specs.Laws.{NoneClash}
 use Rattle.jlog.specs.LeftLaws.{IsStorable, AreStorable, IsImageOfNodes, placed}
 use Rattle.jlog.proofs.AnewLemmas.{output_is_image, output_is_sound, output_mounts}
 use Rattle.jexpand.specs.Expanded.{rest_at, compressed_node_at, node_content, with_content, expanded_node, expanded_nodes, node_length}

@@ -15,10 +15,10 @@ use Rattle.jscan.specs.Image.{sightings}
 use Rattle.jmount.specs.Mounts.{MountsAs, plain_nodes}
 use Rattle.jmount.specs.StateOf.{state_of}
 use Rattle.jmount.specs.Tree.{is_directory}
-use Rattle.jsteps.specs.Laws.{NoneClash}
+use Rattle.jmount.specs.Clash.{NoneClash}
 use Rattle.jlog.specs.Output.{gap, output}
 use Rattle.jlog.specs.Places.{place_after, end_after}
-use Rattle.jlog.specs.Through.{through_fault, through_fault_among}
+use Rattle.jview.specs.Through.{through_fault, through_fault_among}
 use Rattle.jlog.proofs.LeftLemmas.{placed_are_new}
 use Rattle.jlog.proofs.SoundLemmas.{sound_nodes_are_apart}
 use Rattle.jexpand.specs.Expanded.{compressed_node_at, expanded_node, expanded_nodes, node_content, node_length, tile_content, unpacked_bytes, with_content}

@@ -2,14 +2,13 @@
 use Rattle.std.specs.Prelude.{◌≡◌, ◌↔◌, ℕ, IsTrue, IsFalse, List, None, Err}
 use Rattle.flashbase.specs.Ranges.{AreBytes}
 use Rattle.jnode.specs.declared.order.Endian.{Endian}
-use Rattle.jmount.specs.Clash.{IsClashAt}
+use Rattle.jmount.specs.Clash.{IsClashAt, NoneClash}
 use Rattle.jmount.specs.Mounts.{IsFaultAt, MountsAs, Answers}
 use Rattle.jmount.specs.StateOf.{state_of}
 use Rattle.jmount.specs.Tree.{State, is_directory}
 use Rattle.jmount.specs.declared.fault.MountFault.TheVariants as fault
-use Rattle.jsteps.specs.Laws.{NoneClash}
 use Rattle.jlog.specs.LeftLaws.{IsImageOfNodes, placed}
-use Rattle.jlog.specs.Through.{MountsThroughAs}
+use Rattle.jview.specs.Through.{MountsThroughAs}
 use Rattle.jexpand.specs.Expanded.{expanded_nodes}
 use Rattle.jconvert.specs.Converting.{greatest_blocks, converted_image, convert_fault}
 

@@ -17,7 +17,7 @@ use Rattle.jmount.specs.Mounts.{IsSound, IsFaultAt, plain_nodes}
 use Rattle.jmount.specs.StateOf.{state_of}
 use Rattle.jmount.specs.declared.fault.MountFault.{MountFault}
 use Rattle.jmount.specs.declared.fault.MountFault.TheVariants as fault
-use Rattle.jsteps.specs.Laws.{NoneClash}
+use Rattle.jmount.specs.Clash.{NoneClash}
 use Rattle.jlog.specs.Places.{end_of_all, fit}
 use Rattle.jlog.specs.Output.{output}
 use Rattle.jlog.specs.Left.{IsLeft}

@@ -12,7 +12,7 @@ use Rattle.jexpand.specs.Expanded.{expanded_nodes}
 use Rattle.jlog.specs.Headline.{resume_address}
 use Rattle.jlog.specs.HeadlineThrough.{IsBaseThrough, index_through}
 use Rattle.jlog.specs.Session.{IsGoing}
-use Rattle.jlog.specs.Through.{IsMountThroughOf}
+use Rattle.jview.specs.Through.{IsMountThroughOf}
 use Rattle.jlog.specs.DoneThrough.{ThroughBegins}
 use Rattle.jlog.proofs.HeadlineThroughLemmas.{all_fit_through}
 use Rattle.jlog.proofs.PlaceLemmas.{times_words}

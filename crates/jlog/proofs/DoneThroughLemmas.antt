@@ -26,7 +26,7 @@ use Rattle.jlog.specs.Forms.{IsLoggableForm}
 use Rattle.jlog.specs.Headline.{resume_address}
 use Rattle.jlog.specs.HeadlineThrough.{state_through, index_through, AreFormsOn, AreAcceptedAs, SurvivesAs}
 use Rattle.jlog.specs.Packed.{AreNodeForms}
-use Rattle.jlog.specs.Through.{MountsThroughAs}
+use Rattle.jview.specs.Through.{MountsThroughAs}
 use Rattle.jlog.specs.DoneThrough.{steps_through, GoesOnAs, FitAs, EarlierStandAs, SurvivesAfterAs, DoneSurvives, DoneGoesOn}
 use Rattle.jlog.proofs.DoneLemmas.{FirstOps, PlansOn, after_on, all_both, all_right, count_on, first_ops, nodes_long, nodes_on, plans_on}
 use Rattle.jlog.proofs.HereLemmas.{Sure, cuts_seen}

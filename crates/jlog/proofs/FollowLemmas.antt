@@ -24,7 +24,8 @@ use Rattle.jlog.specs.Left.{count_whole}
 use Rattle.jlog.specs.Output.{output}
 use Rattle.jlog.specs.MountLaws.{GoesOnSoundly}
 use Rattle.jlog.specs.Packed.{AreNodeForms}
-use Rattle.jlog.specs.Through.{form_content, MountsThroughAs}
+use Rattle.jview.specs.Through.{MountsThroughAs}
+use Rattle.jlog.specs.Through.{form_content}
 use Rattle.jlog.specs.ThroughLaws.{NoneCompressed}
 use Rattle.jlog.proofs.HeadlineLemmas.{all_fit, planned_loggable, readable, soundly}
 use Rattle.jlog.proofs.HeadlineThroughLemmas.{forms_survive}

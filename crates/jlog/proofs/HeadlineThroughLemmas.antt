@@ -27,7 +27,8 @@ use Rattle.jmount.specs.Tree.{State, is_directory}
 use Rattle.jmount.specs.StateOf.{state_of}
 use Rattle.jsteps.specs.Steps.{bytes, after}
 use Rattle.jsteps.specs.Refusals.{steps_of_first}
-use Rattle.jsteps.specs.Laws.{AllFit, IsPlanned, GoesOn, NoneClash}
+use Rattle.jsteps.specs.Laws.{AllFit, IsPlanned, GoesOn}
+use Rattle.jmount.specs.Clash.{NoneClash}
 use Rattle.jsteps.specs.declared.step.Step.{Step}
 use Rattle.jsteps.proofs.GoesOnLemmas.{planned_goes_on}
 use Rattle.jexpand.specs.Expanded.{rest_at, compressed_node_at, node_content, with_content, expanded_node, expanded_nodes, unpacked_bytes}
@@ -38,7 +39,8 @@ use Rattle.jlog.specs.LeftLaws.{IsLoggable}
 use Rattle.jlog.specs.Forms.{AreLoggedForms, AreStoredForms}
 use Rattle.jlog.specs.Headline.{is_flash_of, resume_address}
 use Rattle.jlog.specs.HeadlineThrough.{state_through, IsBaseThrough, index_through, nodes_through, AreFormsOn, FormsSurvive}
-use Rattle.jlog.specs.Through.{form_content, Expands, MountsThroughAs}
+use Rattle.jview.specs.Through.{MountsThroughAs}
+use Rattle.jlog.specs.Through.{form_content, Expands}
 use Rattle.jlog.proofs.HereLemmas.{Sure, none_weak, none_cut}
 use Rattle.jlog.proofs.ImageLemmas.{block_size}
 use Rattle.jlog.proofs.IntactLemmas.{intact_is_counted, all_is_intact}

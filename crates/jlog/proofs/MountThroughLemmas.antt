@@ -15,11 +15,11 @@ use Rattle.jmount.specs.StateOf.{state_of}
 use Rattle.jmount.specs.Mounts.{IsSound, plain_nodes, IsFaultAt}
 use Rattle.jmount.specs.declared.fault.MountFault.{MountFault}
 use Rattle.jmount.specs.declared.fault.MountFault.TheVariants as fault
-use Rattle.jsteps.specs.Laws.{NoneClash}
+use Rattle.jmount.specs.Clash.{NoneClash}
 use Rattle.jsteps.proofs.ImageLemmas.{none_clashes_at_address}
 use Rattle.jexpand.specs.Expanded.{expanded_node, expanded_nodes, tile_content, unpacked_bytes}
 use Rattle.jexpand.specs.declared.fault.ConvertFault.{ConvertFault}
-use Rattle.jlog.specs.Through.{through_fault, through_fault_among, first_fault}
+use Rattle.jview.specs.Through.{through_fault, through_fault_among, first_fault}
 use Rattle.jlog.specs.ThroughLaws.{NoneCompressed, PlainMountsThrough, ThroughMountsPlain}
 use Rattle.jlog.proofs.SoundLemmas.{sound_nodes_are_apart}
 

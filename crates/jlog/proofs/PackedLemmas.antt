@@ -28,7 +28,8 @@ use Rattle.jexpand.proofs.NodeLemmas.{content_long, compressed_ok}
 use Rattle.jlog.specs.LeftLaws.{IsStorable, IsLoggable, sighting_of}
 use Rattle.jlog.specs.Forms.{IsLoggableForm}
 use Rattle.jlog.specs.Packed.{StandsFor, IsNodeForm, AreNodeForms}
-use Rattle.jlog.specs.Through.{content_by, node_by, fault_by, form_content, form_node, IsReadForm}
+use Rattle.jview.specs.Through.{content_by, node_by, fault_by}
+use Rattle.jlog.specs.Through.{form_content, form_node, IsReadForm}
 use Rattle.jnode.proofs.FormLemmas.{tile_is_form}
 use Rattle.jlog.proofs.SightLemmas.{node_is_form, whole_seen}
 

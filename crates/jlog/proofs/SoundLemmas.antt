@@ -10,12 +10,11 @@ use Rattle.jnode.specs.declared.node.NodeRef.TheVariants.{Entry, Inode}
 use Rattle.jnode.specs.declared.node.Seen.TheVariants as seen
 use Rattle.jnode.specs.declared.order.Endian.{Endian}
 use Rattle.jscan.specs.Image.{nodes}
-use Rattle.jmount.specs.Clash.{NodesClash}
+use Rattle.jmount.specs.Clash.{NodesClash, NoneClash}
 use Rattle.jmount.specs.Mounts.{IsSound, IsFaultAt, plain_nodes}
 use Rattle.jmount.specs.declared.fault.MountFault.{MountFault}
 use Rattle.jmount.specs.declared.fault.MountFault.TheVariants as fault
 use Rattle.jscan.proofs.AddressLaws.{nodes_ascend}
-use Rattle.jsteps.specs.Laws.{NoneClash}
 use Rattle.jlog.specs.Places.{places}
 use Rattle.jlog.specs.Output.{output}
 use Rattle.jlog.specs.Left.{count_whole, intact}

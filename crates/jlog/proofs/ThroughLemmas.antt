@@ -32,7 +32,8 @@ use Rattle.jlog.specs.LeftLaws.{tells}
 use Rattle.jlog.specs.Forms.{IsStorableForm, AreStoredForms, placed_forms, intact_forms, form_sighted, StandsIn, HasForms}
 use Rattle.jlog.specs.Places.{end_after}
 use Rattle.jlog.specs.Left.{intact}
-use Rattle.jlog.specs.Through.{node_by, content_by, fault_by, through_fault_among, first_fault, form_node, form_content, IsReadForm, Expands}
+use Rattle.jview.specs.Through.{node_by, content_by, fault_by, through_fault_among, first_fault}
+use Rattle.jlog.specs.Through.{form_node, form_content, IsReadForm, Expands}
 use Rattle.jlog.proofs.ByteLemmas.{block_long, block_byte}
 use Rattle.jnode.proofs.FormLemmas.{form_is_tile}
 use Rattle.jlog.proofs.ImageLemmas.{below_same, told_image, block_size}

@@ -7,7 +7,6 @@ use Rattle.jnode.specs.Header.{header_len}
 use Rattle.jnode.specs.Reading.{inode_len}
 use Rattle.jnode.specs.declared.order.Endian.{Endian}
 use Rattle.jmount.specs.Mount.{Mount}
-use Rattle.jscan.specs.Image.{greatest_image}
 use Rattle.jscan.specs.Pages.{IsPage}
 use Rattle.jsteps.specs.Steps.{bytes, after}
 use Rattle.jsteps.specs.Nodes.{Indexed, indexed, nodes_of, advanced_all}
@@ -24,7 +23,8 @@ use Rattle.jlog.specs.Headline.{resume_address}
 use Rattle.jlog.specs.Packed.{AreNodeForms}
 use Rattle.jlog.specs.Resuming.{resumes_at}
 use Rattle.jlog.specs.Session.{Flash, IsGoing}
-use Rattle.jlog.specs.Through.{form_content, MountsThroughAs, IsMountThroughOf}
+use Rattle.jview.specs.Through.{greatest_contents, MountsThroughAs, IsMountThroughOf}
+use Rattle.jlog.specs.Through.{form_content}
 use Rattle.jlog.specs.HeadlineThrough.{state_through, IsBaseThrough, index_through, AreAcceptedAs, SurvivesAs}
 
 -- the steps of all these operations on a base
@@ -52,7 +52,7 @@ pub record FitAs (flash : Flash) (base : List ℕ) (before : List (List ℕ)) (f
   pub are : AreNodeForms flash.order (nodes_of x (steps_of_first flash.page x ops n)) forms
   pub fits : IsTrue (fit flash.size flash.blocks from forms)
   pub contents : length (unpacked_bytes flash.order flash.size base)
-      + length (flat_map (form_content flash.order) (before ++ forms)) ≤ greatest_image
+      + length (flat_map (form_content flash.order) (before ++ forms)) ≤ greatest_contents
 
 -- A stop while more forms were being written, after all bytes of the earlier ones and k more,
 -- leaves an image that mounts through as the file system after all earlier steps, and after those

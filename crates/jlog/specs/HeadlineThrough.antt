@@ -7,7 +7,6 @@ use Rattle.jnode.specs.Header.{header_len}
 use Rattle.jnode.specs.Reading.{inode_len}
 use Rattle.jnode.specs.declared.node.NodeRef.{NodeRef}
 use Rattle.jnode.specs.declared.order.Endian.{Endian}
-use Rattle.jscan.specs.Image.{greatest_image}
 use Rattle.jscan.specs.Pages.{IsPage}
 use Rattle.jmount.specs.Tree.{State}
 use Rattle.jmount.specs.StateOf.{state_of}
@@ -24,7 +23,8 @@ use Rattle.jlog.specs.Left.{IsLeft, count_whole}
 use Rattle.jlog.specs.Forms.{NoFormWeak}
 use Rattle.jlog.specs.Headline.{is_flash_of, resume_address}
 use Rattle.jlog.specs.Packed.{AreNodeForms}
-use Rattle.jlog.specs.Through.{form_content, MountsThroughAs}
+use Rattle.jview.specs.Through.{greatest_contents, MountsThroughAs}
+use Rattle.jlog.specs.Through.{form_content}
 
 -- the file system of an image, through its compression
 abbrev pub state_through : Endian → ℕ → List ℕ → State
@@ -49,7 +49,7 @@ pub record AreFormsOn (e : Endian) (size blocks : ℕ) (base : List ℕ) (steps 
   pub are : AreNodeForms e (nodes_through e size base steps) forms
   pub fits : IsTrue (fit size blocks (resume_address e size blocks base) forms)
   pub contents : length (unpacked_bytes e size base) + length (flat_map (form_content e) forms)
-      ≤ greatest_image
+      ≤ greatest_contents
 
 -- so many operations have steps on a base, and these forms of their nodes go out
 pub record AreAcceptedAs (page : ℕ) (e : Endian) (size blocks : ℕ) (base : List ℕ) (ops : List Op)

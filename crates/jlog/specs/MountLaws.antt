@@ -8,7 +8,7 @@ use Rattle.jscan.specs.Image.{greatest_image}
 use Rattle.jmount.specs.Mounts.{IsSound, MountsAs, plain_nodes}
 use Rattle.jmount.specs.StateOf.{state_of}
 use Rattle.jmount.specs.Tree.{is_directory}
-use Rattle.jsteps.specs.Laws.{NoneClash}
+use Rattle.jmount.specs.Clash.{NoneClash}
 use Rattle.jlog.specs.Places.{places}
 use Rattle.jlog.specs.Output.{output}
 use Rattle.jlog.specs.Left.{count_whole}

@@ -8,7 +8,6 @@ use Rattle.flashbase.specs.Sinks.{SinkChange}
 use Rattle.jnode.specs.Writing.{canonical}
 use Rattle.jnode.specs.declared.node.NodeRef.{NodeRef}
 use Rattle.jnode.specs.declared.order.Endian.{Endian}
-use Rattle.jscan.specs.Image.{greatest_image}
 use Rattle.jsteps.specs.Nodes.{nodes_of, advanced_all}
 use Rattle.jsteps.specs.Refusals.{planned_by, plans_of, steps_of_first}
 use Rattle.jsteps.specs.declared.op.Op.{Op}
@@ -16,6 +15,7 @@ use Rattle.jsteps.specs.declared.step.Step.{Step}
 use Rattle.jlog.specs.Places.{places, end_of_all, fit, needed, free}
 use Rattle.jlog.specs.Output.{output}
 use Rattle.jlog.specs.Packed.{AreNodeForms}
+use Rattle.jview.specs.Through.{greatest_contents}
 use Rattle.jlog.specs.Through.{form_content}
 use Rattle.jlog.specs.Running.{Log, shown_place}
 use Rattle.jlog.specs.Session.{Flash, LogState, IsUntouched}
@@ -78,7 +78,7 @@ pub record IsTakenAs (packs : Bool) (held : ℕ) (flash : Flash) (from : Log) (o
   pub planned : planned_by flash.page from.index o ≡ Ok steps
   pub are : AreFormsOf packs flash from steps forms
   pub fits : IsTrue (fit flash.size flash.blocks from.cursor forms)
-  pub contents : held + content_len flash.order forms ≤ greatest_image
+  pub contents : held + content_len flash.order forms ≤ greatest_contents
 
 -- it has steps, and the forms that would have gone out do not fit, which need so much room
 pub record IsTooMuch (packs : Bool) (flash : Flash) (from : Log) (o : Op) (wanted left : ℕ) : Type
@@ -134,7 +134,7 @@ pub record IsRunAs (on : FlashAs) (from : Log) (ops : List Op) (n : ℕ) (forms 
   pub planned : n ≤ length (plans_of on.flash.page from.index ops)
   pub are : AreFormsOf on.packs on.flash from (steps_of_first on.flash.page from.index ops n) forms
   pub fits : IsTrue (fit on.flash.size on.flash.blocks from.cursor forms)
-  pub contents : on.held + content_len on.flash.order forms ≤ greatest_image
+  pub contents : on.held + content_len on.flash.order forms ≤ greatest_contents
   pub wrote : IsPutAs on.flash from (steps_of_first on.flash.page from.index ops n) forms to old new
 
 -- The next one was not.

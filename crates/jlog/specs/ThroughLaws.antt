@@ -10,7 +10,8 @@ use Rattle.jlog.specs.Places.{fit}
 use Rattle.jlog.specs.Output.{output}
 use Rattle.jlog.specs.Left.{IsLeft, intact}
 use Rattle.jlog.specs.Forms.{IsStorableForm, AreLoggedForms, AreStoredForms, NoFormWeak}
-use Rattle.jlog.specs.Through.{IsReadForm, Expands, MountsThroughAs}
+use Rattle.jview.specs.Through.{MountsThroughAs}
+use Rattle.jlog.specs.Through.{IsReadForm, Expands}
 
 -- After a cut the nodes are the base's, and those of the forms that are kept.
 abbrev pub LeftExpands : Type 0

@@ -8,7 +8,7 @@ use Rattle.jnode.specs.declared.node.NodeRef.{NodeRef}
 use Rattle.jnode.specs.declared.node.NodeRef.TheVariants.{Entry, Inode}
 use Rattle.jname.specs.Clash as names
 use Rattle.flashbase.proofs.MemberLemmas.{Contains-map, Contains-map_from, Contains-filter_map, Contains-filter_map_from}
-use Rattle.jmount.specs.Clash.{NodesClash, SomeInodeClashesWith, NoInodesClash, IsClashAt}
+use Rattle.jmount.specs.Clash.{NodesClash, SomeInodeClashesWith, NoInodesClash, IsClashAt, NoneClash}
 use Rattle.jmount.specs.Collected.{without_addresses, HasNoClash, ClashesIn}
 use Rattle.jmount.specs.StateOf.{inode_in, entry_in, inodes, entries}
 
@@ -51,16 +51,19 @@ from_inodes ns inode h =
     subst (λ (node : NodeRef). Contains ns node) (inode_is found.0 inode found.2) found.1
 
 -- where no entries clash and no inode nodes, no nodes do
-plain_apart : (ns : List NodeRef) → names.NoEntriesClash (entries ns) → NoInodesClash (inodes ns) → (a b : NodeRef) → Contains ns a → Contains ns b → NodesClash a b → ⊥
+pub plain_apart : (ns : List NodeRef) → names.NoEntriesClash (entries ns) → NoInodesClash (inodes ns) → (a b : NodeRef) → Contains ns a → Contains ns b → NodesClash a b → ⊥
 plain_apart ns of_entries of_inodes (Entry a) (Entry b) h g c = of_entries b (in_entries ns b g) a (in_entries ns a h) c
 plain_apart ns of_entries of_inodes (Inode a) (Inode b) h g c = of_inodes b (in_inodes ns b g) a (in_inodes ns a h) c
 plain_apart ns of_entries of_inodes (Entry a) (Inode b) h g c = c
 plain_apart ns of_entries of_inodes (Inode a) (Entry b) h g c = c
 
-pub tables_have_no_clash : (ns : List (ℕ × NodeRef)) → names.NoEntriesClash (entries (map (λ n. n.1) ns)) → NoInodesClash (inodes (map (λ n. n.1) ns)) → HasNoClash ns
-tables_have_no_clash ns of_entries of_inodes at c =
-    plain_apart (without_addresses ns) of_entries of_inodes c.0 c.2
+pub no_clash_at : (ns : List (ℕ × NodeRef)) → NoneClash (without_addresses ns) → HasNoClash ns
+no_clash_at ns none at c =
+    none c.0 c.2
     (Contains-map (λ (n : ℕ × NodeRef). n.1) ns (at, c.0) c.3) (Contains-map (λ (n : ℕ × NodeRef). n.1) ns (c.1, c.2) c.4) c.6
+
+pub tables_have_no_clash : (ns : List (ℕ × NodeRef)) → names.NoEntriesClash (entries (map (λ n. n.1) ns)) → NoInodesClash (inodes (map (λ n. n.1) ns)) → HasNoClash ns
+tables_have_no_clash ns of_entries of_inodes = no_clash_at ns (plain_apart (without_addresses ns) of_entries of_inodes)
 
 with_address : (ns : List (ℕ × NodeRef)) (node other : NodeRef) → Contains (without_addresses ns) other → NodesClash other node → ClashesIn ns node
 with_address ns node other h c =

@@ -11,7 +11,7 @@ use Rattle.jmount.specs.StateOf.{numbers_in, next_of}
 use Rattle.jmount.specs.Collected.{without_addresses, ClashesIn, FirstClash, Collected, IsRefused, StopsCollecting, greatest_number}
 use Rattle.jmount.specs.declared.fault.MountFault.{MountFault}
 use Rattle.jmount.specs.declared.fault.MountFault.TheVariants as fault
-use Rattle.jmount.proofs.CollectedLemmas.{collected_has_no_clash, collected_entry_clashes, collected_inode_clashes}
+use Rattle.jmount.proofs.CollectedLemmas.{collected_none_clash, collected_entry_clashes, collected_inode_clashes}
 use Rattle.jmount.proofs.OneMoreLemmas.{next_of_one_more}
 use Rattle.std.proofs.lemmas.List.{map_push}
 
@@ -25,7 +25,7 @@ number_push ns addr node before number all e f is =
 first_clash : (gained : List Dirent) (inode_list : List InodeNode) (all pre post : List (ℕ × NodeRef)) (addr at : ℕ) (node : NodeRef)
     → Collected gained inode_list pre → all ≡ pre ++ (addr, node) ∷ post → at ≡ addr → ClashesIn pre node → FirstClash all at
 first_clash gained inode_list all pre post addr at node before is same clash =
-    (pre, node, post, is ∙ ap (λ a. pre ++ (a, node) ∷ post) (sym same), collected_has_no_clash gained inode_list pre before, clash)
+    (pre, node, post, is ∙ ap (λ a. pre ++ (a, node) ∷ post) (sym same), collected_none_clash gained inode_list pre before, clash)
 
 refused : (gained : List Dirent) (inode_list : List InodeNode) (all pre post : List (ℕ × NodeRef)) (addr : ℕ) (node : NodeRef) (Clashing : Type 0) (why : MountFault)
     → Collected gained inode_list pre → all ≡ pre ++ (addr, node) ∷ post → (Clashing → ClashesIn pre node) → IsRefused addr Clashing why → StopsCollecting all why

@@ -14,12 +14,12 @@ use Rattle.flashbase.proofs.MemberLemmas.{Contains-none}
 use Rattle.jscan.specs.Image.{sightings, nodes}
 use Rattle.jscan.specs.Scans.{IsScannable, first_refused, nodes_before_refusal}
 use Rattle.jscan.specs.declared.geometry.ScanFault.{ScanFault}
-use Rattle.jmount.specs.Clash.{InodesClash, SomeInodeClashesWith, NoInodeClashesWith, NoInodesClash}
+use Rattle.jmount.specs.Clash.{InodesClash, SomeInodeClashesWith, NoInodeClashesWith, NoInodesClash, NoneClash}
 use Rattle.jmount.specs.StateOf.{inode_in, entry_in, inodes, entries}
 use Rattle.jmount.specs.Mounts.{IsSound, Answers}
 use Rattle.jmount.specs.declared.fault.MountFault.TheVariants as fault
 use Rattle.jmount.specs.Collected.{without_addresses, HasNoClash, ClashesIn, FirstClash, Collected, refusal_fault}
-use Rattle.jmount.proofs.ClashLemmas.{clashes_sym, tables_have_no_clash, entry_clashes_in, inode_clashes_in}
+use Rattle.jmount.proofs.ClashLemmas.{clashes_sym, plain_apart, tables_have_no_clash, entry_clashes_in, inode_clashes_in}
 use Rattle.jmount.proofs.FaultLemmas.{Ascends, nodes_are_all, clash_is_first, refusal_answers, none_is_sound}
 
 -- ---- nodes collected in order, entries and inode nodes apart
@@ -130,6 +130,9 @@ collected_inodes_apart gained inode_list ns all a h b g c = all.inodes_apart a (
 pub collected_has_no_clash : (gained : List Dirent) (inode_list : List InodeNode) (ns : List (ℕ × NodeRef)) → Collected gained inode_list ns → HasNoClash ns
 collected_has_no_clash gained inode_list ns all = tables_have_no_clash ns (collected_entries_apart gained inode_list ns all) (collected_inodes_apart gained inode_list ns all)
 
+pub collected_none_clash : (gained : List Dirent) (inode_list : List InodeNode) (ns : List (ℕ × NodeRef)) → Collected gained inode_list ns → NoneClash (without_addresses ns)
+collected_none_clash gained inode_list ns all = plain_apart (without_addresses ns) (collected_entries_apart gained inode_list ns all) (collected_inodes_apart gained inode_list ns all)
+
 pub collected_entry_clashes : (gained : List Dirent) (inode_list : List InodeNode) (ns : List (ℕ × NodeRef)) (entry : Dirent) → Collected gained inode_list ns
     → names.SomeEntryClashesWith gained entry → ClashesIn ns (Entry entry)
 collected_entry_clashes gained inode_list ns entry all some = entry_clashes_in ns entry (some.0, (all.same_entries some.0).0 some.1, some.2)
@@ -137,11 +140,6 @@ collected_entry_clashes gained inode_list ns entry all some = entry_clashes_in n
 pub collected_inode_clashes : (gained : List Dirent) (inode_list : List InodeNode) (ns : List (ℕ × NodeRef)) (node : InodeNode) → Collected gained inode_list ns
     → SomeInodeClashesWith inode_list node → ClashesIn ns (Inode node)
 collected_inode_clashes gained inode_list ns node all some = inode_clashes_in ns node (some.0, (all.same_inodes some.0).0 some.1, some.2)
-
--- without a refusal these are all nodes
-pub collected_all_nodes : (e : Endian) (size : ℕ) (image : List ℕ) (gained : List Dirent) (inode_list : List InodeNode) → first_refused e size image ≡ None
-    → Collected gained inode_list (nodes_before_refusal e size image) → Collected gained inode_list (nodes e size image)
-collected_all_nodes e size image gained inode_list none all = subst (λ (ns : List (ℕ × NodeRef)). Collected gained inode_list ns) (nodes_are_all e size image none) all
 
 -- ---- a loop over a list of nodes
 
@@ -184,7 +182,7 @@ first_clash_at gained inode_list ns i n node before at clash = (
   node,
   drop (i + 1) ns,
   sides ns i n at.0 at.1 ∙ ap (λ (m : ℕ × NodeRef). take i ns ++ m ∷ drop (i + 1) ns) (with_node n node at.2),
-  collected_has_no_clash gained inode_list (take i ns) before,
+  collected_none_clash gained inode_list (take i ns) before,
   clash,
 )
 
@@ -197,30 +195,3 @@ pub inode_clashes_first : (gained : List Dirent) (inode_list : List InodeNode) (
     → Collected gained inode_list (take i ns) → IsNodeAt ns i n (Inode node) → SomeInodeClashesWith inode_list node → FirstClash ns n.0
 inode_clashes_first gained inode_list ns i n node before at some =
     first_clash_at gained inode_list ns i n (Inode node) before at (collected_inode_clashes gained inode_list (take i ns) node before some)
-
--- ---- answers
-
-pub entry_clash_answers : (e : Endian) (size : ℕ) (image : List ℕ) (gained : List Dirent) (inode_list : List InodeNode) (pre post : List (ℕ × NodeRef)) (addr : ℕ) (entry : Dirent)
-    → IsScannable size image → Ascends (sightings e size image) → nodes_before_refusal e size image ≡ pre ++ (addr, Entry entry) ∷ post
-    → Collected gained inode_list pre → names.SomeEntryClashesWith gained entry → Answers e size image (Err (fault.Clash addr))
-entry_clash_answers e size image gained inode_list pre post addr entry scannable ascends is all some =
-    let found = collected_entry_clashes gained inode_list pre entry all some in
-    clash_is_first e size image pre post addr (Entry entry) found.0 found.1 scannable ascends is (collected_has_no_clash gained inode_list pre all) found.2 found.3
-
-pub inode_clash_answers : (e : Endian) (size : ℕ) (image : List ℕ) (gained : List Dirent) (inode_list : List InodeNode) (pre post : List (ℕ × NodeRef)) (addr : ℕ) (node : InodeNode)
-    → IsScannable size image → Ascends (sightings e size image) → nodes_before_refusal e size image ≡ pre ++ (addr, Inode node) ∷ post
-    → Collected gained inode_list pre → SomeInodeClashesWith inode_list node → Answers e size image (Err (fault.Clash addr))
-inode_clash_answers e size image gained inode_list pre post addr node scannable ascends is all some =
-    let found = collected_inode_clashes gained inode_list pre node all some in
-    clash_is_first e size image pre post addr (Inode node) found.0 found.1 scannable ascends is (collected_has_no_clash gained inode_list pre all) found.2 found.3
-
-pub collected_refusal_answers : (e : Endian) (size : ℕ) (image : List ℕ) (gained : List Dirent) (inode_list : List InodeNode) (why : ScanFault)
-    → IsScannable size image → Ascends (sightings e size image) → Collected gained inode_list (nodes_before_refusal e size image)
-    → first_refused e size image ≡ Some why → Answers e size image (Err (refusal_fault why))
-collected_refusal_answers e size image gained inode_list why scannable ascends all some =
-    refusal_answers e size image why scannable ascends (collected_has_no_clash gained inode_list (nodes_before_refusal e size image) all) some
-
-pub collected_is_sound : (e : Endian) (size : ℕ) (image : List ℕ) (gained : List Dirent) (inode_list : List InodeNode)
-    → IsScannable size image → first_refused e size image ≡ None → Collected gained inode_list (nodes_before_refusal e size image) → IsSound e size image
-collected_is_sound e size image gained inode_list scannable none all =
-    none_is_sound e size image scannable none (subst (λ (ns : List (ℕ × NodeRef)). HasNoClash ns) (nodes_are_all e size image none) (collected_has_no_clash gained inode_list (nodes_before_refusal e size image) all))

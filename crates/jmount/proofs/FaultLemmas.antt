@@ -22,6 +22,7 @@ use Rattle.jmount.specs.Mounts.{IsFaultAt, IsFirstAt, IsSound, Answers}
 use Rattle.jmount.specs.declared.fault.MountFault.{MountFault}
 use Rattle.jmount.specs.declared.fault.MountFault.TheVariants as fault
 use Rattle.jmount.specs.Collected.{HasNoClash, FirstClash, refusal_fault}
+use Rattle.jmount.proofs.ClashLemmas.{no_clash_at}
 use Rattle.jmount.proofs.ClashLemmas.{clash_among}
 
 -- ---- addresses that ascend
@@ -280,7 +281,7 @@ clash_is_first e size image pre post addr node below other scannable ascends is 
 pub first_clash_answers : (e : Endian) (size : ℕ) (image : List ℕ) (addr : ℕ) → IsScannable size image → Ascends (sightings e size image)
     → FirstClash (nodes_before_refusal e size image) addr → Answers e size image (Err (fault.Clash addr))
 first_clash_answers e size image addr scannable ascends c =
-    clash_is_first e size image c.0 c.2 addr c.1 c.5.0 c.5.1 scannable ascends c.3 c.4 c.5.2 c.5.3
+    clash_is_first e size image c.0 c.2 addr c.1 c.5.0 c.5.1 scannable ascends c.3 (no_clash_at c.0 c.4) c.5.2 c.5.3
 
 -- ---- an image without a clash in front of its refusal
 

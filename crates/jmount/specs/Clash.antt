@@ -38,3 +38,7 @@ abbrev pub IsClashAt : List (ℕ × NodeRef) → ℕ → Type 0
 IsClashAt ns addr =
     (node : NodeRef) × (below : ℕ) × (other : NodeRef)
     × Contains ns (addr, node) × Contains ns (below, other) × (below < addr) × NodesClash node other
+
+-- no two of these nodes clash
+abbrev pub NoneClash : List NodeRef → Type 0
+NoneClash ns = (a b : NodeRef) → Contains ns a → Contains ns b → NodesClash a b → ⊥

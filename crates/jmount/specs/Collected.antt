@@ -7,7 +7,7 @@ use Rattle.jnode.specs.declared.node.NodeRef.{NodeRef}
 use Rattle.jname.specs.Clash as names
 use Rattle.jscan.specs.declared.geometry.ScanFault.{ScanFault}
 use Rattle.jscan.specs.declared.geometry.ScanFault.TheVariants as scan
-use Rattle.jmount.specs.Clash.{NodesClash, NoInodesClash, IsClashAt}
+use Rattle.jmount.specs.Clash.{NodesClash, NoInodesClash, NoneClash, IsClashAt}
 use Rattle.jmount.specs.StateOf.{inodes, entries, numbers_in}
 use Rattle.jmount.specs.declared.fault.MountFault.{MountFault}
 use Rattle.jmount.specs.declared.fault.MountFault.TheVariants as fault
@@ -29,7 +29,8 @@ ClashesIn ns node =
 abbrev pub FirstClash : List (ℕ × NodeRef) → ℕ → Type 0
 FirstClash ns addr =
     (pre : List (ℕ × NodeRef)) × (node : NodeRef) × (post : List (ℕ × NodeRef))
-    × (ns ≡ pre ++ (addr, node) ∷ post) × HasNoClash pre × ClashesIn pre node
+    × (ns ≡ pre ++ (addr, node) ∷ post) × NoneClash (without_addresses pre)
+    × ClashesIn pre node
 
 -- what was collected of these nodes, of which no two clash
 pub record Collected (gained : List Dirent) (inode_list : List InodeNode)

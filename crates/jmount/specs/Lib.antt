@@ -10,6 +10,7 @@ pub mod Kept
 pub mod Laws
 pub mod Mount
 pub mod Mounts
+pub mod MountsNodes
 pub mod Paths
 pub mod Places
 pub mod Shape

@@ -9,9 +9,10 @@ use crate::geometry::{GREATEST_IMAGE, Geometry, ScanFault};
 use crate::parts::block_at;
 use jnode::Order;
 
-/// The extents of an image from a place on. The missing tail of the last block counts as erased.
+/// The extents of an image from a place on, block by block. The missing tail of the last block
+/// counts as erased. It takes no memory.
 #[derive(Drop)]
-pub(crate) struct ImageExtents<'a, E: Order> {
+pub struct ImageExtents<'a, E: Order> {
     image: &'a [u8],
     size: u32,
     /// The number of the block after this one, and where it begins.
@@ -29,7 +30,8 @@ impl<'a, E: Order> ImageExtents<'a, E> {
     ghost use Rattle.jscan.specs.ImageLeft.{image_left, blocks_left};
     ghost use Rattle.jscan.specs.ExtentsLeft.{extents_left};
 
-    pub(crate) fn new(image: &'a [u8], geometry: Geometry) -> Result<Self, ScanFault>
+    /// The extents of an image.
+    pub fn new(image: &'a [u8], geometry: Geometry) -> Result<Self, ScanFault>
         ensures block_size { result ≡ Err ScanFault.BlockSize
             ↔ (is_block_size geometry.block ≡ false) }
         ensures too_large { result ≡ Err ScanFault.TooLarge ↔ (is_block_size geometry.block ≡ true)

@@ -44,6 +44,7 @@ pub use crate::extent::{Extent, ExtentKind};
 pub use crate::extents::Extents;
 pub use crate::finding::{Finding, FindingKind};
 pub use crate::geometry::{GREATEST_BLOCK, GREATEST_IMAGE, Geometry, LEAST_BLOCK, ScanFault};
+pub use crate::image::ImageExtents;
 pub use crate::page::Page;
 pub use crate::parts::block_at;
 pub use crate::scanning::{scan, scan_to_refusal};

@@ -6,7 +6,7 @@ use Rattle.flashbase.specs.Ranges.{AreBytes, IsHalf, IsWord}
 use Rattle.jnode.specs.Writing.{canonical, Fits, is_writable}
 use Rattle.jnode.specs.declared.order.Endian.{Endian}
 use Rattle.jnode.specs.declared.node.NodeRef.{NodeRef}
-use Rattle.jmount.specs.Clash.{NodesClash, IsClashAt}
+use Rattle.jmount.specs.Clash.{NodesClash, IsClashAt, NoneClash}
 use Rattle.jmount.specs.Mount.{Mount}
 use Rattle.jmount.specs.Mounts.{IsMountOf, plain_nodes}
 use Rattle.jmount.specs.Tree.{ObjectOf, State, outline, object, named, is_directory}
@@ -58,10 +58,6 @@ pub record AreSteps (ns : List NodeRef) (steps : List Step) : Type 0 where
 abbrev pub NodesAreSteps : Type 0
 NodesAreSteps =
     (ns : List NodeRef) (steps : List Step) → AllReady (index_of ns) steps → AreSteps ns steps
-
--- no two of these nodes clash
-abbrev pub NoneClash : List NodeRef → Type 0
-NoneClash ns = (a b : NodeRef) → Contains ns a → Contains ns b → NodesClash a b → ⊥
 
 abbrev pub NewNodesDoNotClash : Type 0
 NewNodesDoNotClash = (ns : List NodeRef) (steps : List Step) → AllReady (index_of ns) steps

@@ -1,0 +1,3 @@
+pub mod MountsThrough
+pub mod Through
+pub mod View
