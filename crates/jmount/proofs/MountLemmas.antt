@@ -113,23 +113,23 @@ module _ (ns : List (ℕ × NodeRef)) (names : List Dirent) (inode_list : List I
   pub mounted : (image : List ℕ) (mount : Mount) (found : List Finding) (forbids b : Bool) → mount ≡ record { image = image; state = stored_state objects names next; tops = stored_tops objects names; findings = found; read_only = forbids }
       → b ≡ is_directory mount.state 1 → b ≡ true → MountsNodes ns mount × IsMountedWith image found forbids mount
   mounted image mount found forbids b is same is_true = (
-      record {
-        apart = apart;
-        root = sym (root_is b (same ∙ ap (λ (m : Mount). is_directory m.state 1) is)) ∙ is_true;
-        state = ap (λ (m : Mount). m.state) is ∙ same_state;
-        tops = ap (λ (m : Mount). m.tops) is ∙ same_tops;
-      },
-      record {
-        image = ap (λ (m : Mount). m.image) is;
-        findings = ap (λ (m : Mount). m.findings) is;
-        read_only = ap (λ (m : Mount). m.read_only) is;
-      },
+    record {
+      apart = apart;
+      root = sym (root_is b (same ∙ ap (λ (m : Mount). is_directory m.state 1) is)) ∙ is_true;
+      state = ap (λ (m : Mount). m.state) is ∙ same_state;
+      tops = ap (λ (m : Mount). m.tops) is ∙ same_tops;
+    },
+    record {
+      image = ap (λ (m : Mount). m.image) is;
+      findings = ap (λ (m : Mount). m.findings) is;
+      read_only = ap (λ (m : Mount). m.read_only) is;
+    },
   )
 
 -- ---- an image whose nodes are mounted
 
 module _ (e : Endian) (size : ℕ) (image : List ℕ) (ns : List (ℕ × NodeRef)) (found : List Finding) (forbids : Bool) (scannable : IsScannable size image)
-  (none : first_refused e size image ≡ None) (all : ns ≡ nodes_before_refusal e size image) (findings_are : found ≡ findings e size image) (forbids_is : forbids ≡ is_read_only e size image) where
+    (none : first_refused e size image ≡ None) (all : ns ≡ nodes_before_refusal e size image) (findings_are : found ≡ findings e size image) (forbids_is : forbids ≡ is_read_only e size image) where
   are : ns ≡ nodes e size image
   are = all ∙ nodes_are_all e size image none
 

@@ -4,7 +4,8 @@ use Rattle.std.specs.Prelude.{Contains, IsTrue, IsFalse}
 use Rattle.std.specs.List.{cons_option, flat_map}
 use Rattle.std.specs.Option.{option_or}
 use Rattle.std.proofs.lemmas.List.{append-nil, length-append}
-use Rattle.std.proofs.lemmas.List.Elements.{Contains-append_left, flat_map-append}
+use Rattle.std.proofs.lemmas.List.Elements.{Contains-append_left}
+use Rattle.std.proofs.lemmas.Grind.{flat_map-append}
 use Rattle.flashbase.proofs.MemberLemmas.{Contains-here, Contains-there, Contains-filter_map, Contains-filter_map_from, Contains-map}
 use Rattle.jnode.specs.declared.node.CompressedNode.{CompressedNode}
 use Rattle.jnode.specs.declared.node.NodeRef.{NodeRef}
@@ -14,7 +15,7 @@ use Rattle.jnode.specs.declared.node.Seen.TheVariants as seen
 use Rattle.jnode.specs.declared.order.Endian.{Endian}
 use Rattle.jnode.specs.Reading.{ReadsCompressed, tile_of}
 use Rattle.jnode.proofs.ReadingLemmas.{seen_compressed}
-use Rattle.jnode.proofs.FitsLemmas.{tile_headed}
+use Rattle.jnode.proofs.TileLemmas.{tile_headed}
 use Rattle.jscan.specs.Image.{sightings, node_sighted}
 use Rattle.jscan.specs.Scans.{IsScannable, findings, is_read_only}
 use Rattle.jscan.specs.declared.finding.Finding.{Finding}
@@ -143,8 +144,7 @@ module _ (e : Endian) (size : ℕ) (image : List ℕ) where
         let given = mapped_some (λ (m : NodeRef). (s.x.0, m)) (expanded_node e size image s.x) (addr, c.1) s.gives in
         let at : s.x.0 ≡ addr = ap (λ (n : ℕ × NodeRef). n.0) given.2 in
         let node_is : given.0 ≡ c.1 = ap (λ (n : ℕ × NodeRef). n.1) given.2 in
-        let front : without_addresses c.0 ≡ nodes_of_tiles e size image s.before = ap without_addresses (sym s.front) ∙ plain_are s.before in
-        (
+        let front : without_addresses c.0 ≡ nodes_of_tiles e size image s.before = ap without_addresses (sym s.front) ∙ plain_are s.before in (
           s.before,
           s.x,
           s.after ++ is.rest,
@@ -177,8 +177,7 @@ module _ (e : Endian) (size : ℕ) (image : List ℕ) where
     first_refused : (why : ViewFault) (nodes : List (ℕ × NodeRef)) → view.refused ≡ Some why → nodes ≡ placed_nodes e size image view.tiles.items → NoneClash (without_addresses nodes)
         → (s : ℕ × Seen) × (after : List (ℕ × Seen)) × (sightings e size image ≡ is.done ++ s ∷ after) × AreSoundThrough e size image is.done × IsRefusedBy e size image is.done s why
     first_refused why nodes refused same apart =
-        let ends : EndsView e size image is.done is.rest view (Some why) = subst (EndsView e size image is.done is.rest view) refused is.ends in
-        (
+        let ends : EndsView e size image is.done is.rest view (Some why) = subst (EndsView e size image is.done is.rest view) refused is.ends in (
           ends.0,
           ends.1,
           is.all ∙ ap (λ (l : List (ℕ × Seen)). is.done ++ l) ends.2,
@@ -204,9 +203,9 @@ module _ (e : Endian) (size : ℕ) (image : List ℕ) where
 
     -- ---- an image that nothing refuses by itself
 
-    module _ (nodes : List (ℕ × NodeRef)) (same : nodes ≡ placed_nodes e size image view.tiles.items) (open : view.refused ≡ None) where
+    module _ (nodes : List (ℕ × NodeRef)) (same : nodes ≡ placed_nodes e size image view.tiles.items) (going : view.refused ≡ None) where
       ends : EndsView e size image is.done is.rest view None
-      ends = subst (EndsView e size image is.done is.rest view) open is.ends
+      ends = subst (EndsView e size image is.done is.rest view) going is.ends
 
       all_done : sightings e size image ≡ is.done
       all_done = is.all ∙ ap (λ (l : List (ℕ × Seen)). is.done ++ l) ends.0 ∙ append-nil is.done
@@ -242,8 +241,7 @@ module _ (e : Endian) (size : ℕ) (image : List ℕ) where
             tops = h.0.tops ∙ ap tops_of expanded_are;
             findings = h.1.findings ∙ ends.1;
             read_only = h.1.read_only ∙ ends.2;
-          } in
-          (
+          } in (
             h.1.image,
             subst (λ (l : List ℕ). IsMountThroughOf e size (record { image = l; state = mounted.state; tops = mounted.tops; findings = mounted.findings; read_only = mounted.read_only })) (sym h.1.image) of_image,
           )

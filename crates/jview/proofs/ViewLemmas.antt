@@ -3,7 +3,8 @@ use Rattle.std.proofs.Common.{◌≡◌, ℕ, ◌<◌, ◌≤◌, ◌+◌, Bool,
 use Rattle.std.specs.Prelude.{◌||◌, Contains, filter_map, option_to_list}
 use Rattle.std.specs.List.{cons_option, flat_map}
 use Rattle.std.proofs.lemmas.List.{append-nil}
-use Rattle.std.proofs.lemmas.List.Elements.{Contains-append_left, Contains-append_right, Contains-append_cases, filter_map-append, flat_map-append}
+use Rattle.std.proofs.lemmas.List.Elements.{Contains-append_left, Contains-append_right, Contains-append_cases, filter_map-append}
+use Rattle.std.proofs.lemmas.Grind.{flat_map-append}
 use Rattle.flashbase.proofs.MemberLemmas.{Contains-here, Contains-none, Contains-cases}
 use Rattle.jnode.specs.declared.node.NodeRef.{NodeRef}
 use Rattle.jnode.specs.declared.node.Seen.{Seen}
@@ -82,7 +83,7 @@ module _ (e : Endian) (size : ℕ) (image : List ℕ) where
               | inl was ↦ has.none t was
               | inr is ↦ elim (Contains-cases s [] t is) [
                 | inl same ↦ subst (λ (u : ℕ × Seen). through_fault e size image u ≡ None) same none
-                | inr no ↦ absurd (Contains-none t no)
+                | inr isnt ↦ absurd (Contains-none t isnt)
               ]
             ];
         among = λ t there.
@@ -114,7 +115,7 @@ module _ (e : Endian) (size : ℕ) (image : List ℕ) where
     pub exact : held ≡ contents_of_tiles e size image done
     pub found : findings e size image ≡ view.findings.items ++ filter_map finding_of left
     pub forbids : is_read_only e size image ≡ (view.read_only || any_forbids (filter_map sighted left))
-    pub open : view.refused ≡ None
+    pub going : view.refused ≡ None
 
   -- the same, and the finding of the next extent
   pub record Found (s : Extent) (left : List Extent) (view : View) (held : List ℕ) : Type 0 where
@@ -124,7 +125,7 @@ module _ (e : Endian) (size : ℕ) (image : List ℕ) where
     pub exact : held ≡ contents_of_tiles e size image done
     pub found : findings e size image ≡ view.findings.items ++ filter_map finding_of left
     pub forbids : is_read_only e size image ≡ (view.read_only || any_forbids (filter_map sighted (s ∷ left)))
-    pub open : view.refused ≡ None
+    pub going : view.refused ≡ None
 
   pub viewing_start : (left : List Extent) (view : View) (held : List ℕ) → left ≡ image_extents e size image → IsViewBegun view → held ≡ [] → Viewing left view held
   viewing_start left view held all begun empty =
@@ -136,7 +137,7 @@ module _ (e : Endian) (size : ℕ) (image : List ℕ) where
         exact = empty;
         found = ap (filter_map finding_of) (sym all) ∙ ap (λ (l : List Finding). l ++ filter_map finding_of left) (sym begun.findings);
         forbids = ap any_forbids seen_are ∙ ap (λ (b : Bool). b || any_forbids (filter_map sighted left)) (sym begun.read_only);
-        open = begun.refused;
+        going = begun.refused;
       }
 
   pub viewing_found : (now left : List Extent) (s : Extent) (old new : View) (held : List ℕ) → Viewing now old held → now ≡ s ∷ left
@@ -152,7 +153,7 @@ module _ (e : Endian) (size : ℕ) (image : List ℕ) where
         ∙ ap (λ (l : List Finding). l ++ filter_map finding_of left) (sym found);
     forbids = v.forbids ∙ ap (λ (l : List Extent). old.read_only || any_forbids (filter_map sighted l)) first
         ∙ ap (λ (b : Bool). b || any_forbids (filter_map sighted (s ∷ left))) (sym forbids);
-    open = refused ∙ v.open;
+    going = refused ∙ v.going;
   }
 
   -- an extent that is no tile
@@ -166,7 +167,7 @@ module _ (e : Endian) (size : ℕ) (image : List ℕ) where
         exact = f.exact;
         found = f.found;
         forbids = f.forbids ∙ ap (λ (l : List (ℕ × Seen)). view.read_only || any_forbids l) same;
-        open = f.open;
+        going = f.going;
       }
 
   next_tile : (s : Extent) (left : List Extent) (tile : ℕ × Seen) → sighted s ≡ Some tile → filter_map sighted (s ∷ left) ≡ tile ∷ filter_map sighted left
@@ -181,8 +182,8 @@ module _ (e : Endian) (size : ℕ) (image : List ℕ) where
   -- a tile that is added
   pub viewing_next : (s : Extent) (left : List Extent) (tile : ℕ × Seen) (old new : View) (before after : List ℕ) → Found s left old before → sighted s ≡ Some tile
       → TakesTile e size image tile old new before after → new.refused ≡ None → Viewing left new after
-  viewing_next s left tile old new before after f some takes open =
-      let adds : AddsTile e size image tile old new before after = takes.takes.0 open in
+  viewing_next s left tile old new before after f some takes going =
+      let adds : AddsTile e size image tile old new before after = takes.takes.0 going in
       let next = next_tile s left tile some in
       record {
         done = f.done ++ tile ∷ [];
@@ -193,22 +194,22 @@ module _ (e : Endian) (size : ℕ) (image : List ℕ) where
         forbids = f.forbids ∙ ap (λ (l : List (ℕ × Seen)). old.read_only || any_forbids l) next
             ∙ or_again old.read_only (forbids_writing tile.1) (any_forbids (filter_map sighted left))
             ∙ ap (λ (b : Bool). b || any_forbids (filter_map sighted left)) (sym adds.read_only);
-        open = open;
+        going = going;
       }
 
   -- ---- a tile that refuses the image
 
   by_itself : (done : List (ℕ × Seen)) (tile : ℕ × Seen) (why : ViewFault) → HasTileFault (through_fault e size image tile) why → (why ≡ fault.OutOfMemory → ⊥)
       → IsRefusedBy e size image done tile why
-  by_itself done tile (fault.Incompatible addr nodetype) has no = has
-  by_itself done tile (fault.Compressed addr compr) has no = has
-  by_itself done tile (fault.Data addr) has no = has
-  by_itself done tile (fault.TooLong addr) has no = inl has
-  by_itself done tile (fault.Clash addr) has no = has
-  by_itself done tile fault.BlockSize has no = has
-  by_itself done tile fault.TooLarge has no = has
-  by_itself done tile fault.RootKind has no = has
-  by_itself done tile fault.OutOfMemory has no = absurd (no refl)
+  by_itself done tile (fault.Incompatible addr nodetype) has isnt = has
+  by_itself done tile (fault.Compressed addr compr) has isnt = has
+  by_itself done tile (fault.Data addr) has isnt = has
+  by_itself done tile (fault.TooLong addr) has isnt = inl has
+  by_itself done tile (fault.Clash addr) has isnt = absurd has
+  by_itself done tile fault.BlockSize has isnt = has
+  by_itself done tile fault.TooLarge has isnt = has
+  by_itself done tile fault.RootKind has isnt = has
+  by_itself done tile fault.OutOfMemory has isnt = absurd (isnt refl)
 
   refuses : (done : List (ℕ × Seen)) (tile : ℕ × Seen) (old new : View) (before after : List ℕ) (why : ViewFault) → before ≡ contents_of_tiles e size image done
       → RefusesTile e size image tile old new before after why → IsRefusedBy e size image done tile why
@@ -219,8 +220,10 @@ module _ (e : Endian) (size : ℕ) (image : List ℕ) where
             subst (IsRefusedBy e size image done tile) (sym passes.0)
             (inr (
               refl,
-              passes.1,
-              subst (λ (l : List ℕ). greatest_contents < length l) (ap (λ (l : List ℕ). l ++ tile_content e size image tile) exact ∙ sym (content_more done tile)) passes.2,
+              (
+                passes.1,
+                subst (λ (l : List ℕ). greatest_contents < length l) (ap (λ (l : List ℕ). l ++ tile_content e size image tile) exact ∙ sym (content_more done tile)) passes.2,
+              ),
             ))
       ]
 
@@ -259,7 +262,7 @@ module _ (e : Endian) (size : ℕ) (image : List ℕ) where
         rest = [];
         all = v.split ∙ ap (λ (l : List Extent). v.done ++ filter_map sighted l) empty;
         has = v.has;
-        ends = subst (EndsView e size image v.done [] view) (sym v.open) (
+        ends = subst (EndsView e size image v.done [] view) (sym v.going) (
           refl,
           sym (v.found ∙ ap (λ (l : List Extent). view.findings.items ++ filter_map finding_of l) empty ∙ append-nil view.findings.items),
           sym (v.forbids ∙ ap (λ (l : List Extent). view.read_only || any_forbids (filter_map sighted l)) empty ∙ or_false view.read_only),

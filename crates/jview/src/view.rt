@@ -47,10 +47,10 @@ impl<'a> View<'a> {
         ensures read_only { self.new.read_only ≡ self.old.read_only }
         ensures refused { self.new.refused ≡ self.old.refused }
     {
-        match extent.finding() {
-            Some(finding) => self.findings.push(finding),
-            None => Ok(()),
+        if let Some(finding) = extent.finding() {
+            self.findings.push(finding)?;
         }
+        Ok(())
     }
 
     /// Adds a tile that nothing refuses.
@@ -63,14 +63,12 @@ impl<'a> View<'a> {
         ensures refused { self.new.refused ≡ self.old.refused }
     {
         match seen {
-            Seen::Entry(entry) => self.tiles.push((addr, Seen::Entry(entry))),
-            Seen::Inode(inode) => self.tiles.push((addr, Seen::Inode(inode))),
-            Seen::Compressed { compr } => self.tiles.push((addr, Seen::Compressed { compr })),
-            Seen::ReadOnly { .. } => {
-                self.read_only = true;
-                Ok(())
-            }
-            _ => Ok(()),
+            Seen::Entry(entry) => self.tiles.push((addr, Seen::Entry(entry)))?,
+            Seen::Inode(inode) => self.tiles.push((addr, Seen::Inode(inode)))?,
+            Seen::Compressed { compr } => self.tiles.push((addr, Seen::Compressed { compr }))?,
+            Seen::ReadOnly { .. } => self.read_only = true,
+            _ => {}
         }
+        Ok(())
     }
 }

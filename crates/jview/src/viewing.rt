@@ -68,7 +68,7 @@ fn take_tile<'a, E: Order>(
 ) -> Result<(), AllocError>
     requires readable { IsTrue (is_block_size geometry.block) }
     requires sighted { Contains (sightings E.order geometry.block image.now) tile }
-    requires open { view.refused ≡ None }
+    requires going { view.old.refused ≡ None }
     ensures { OnOk result (TakesTile E.order geometry.block image.now tile.entry view.old view.new
         contents.old.items contents.new.items) }
 {

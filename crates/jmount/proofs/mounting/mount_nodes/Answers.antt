@@ -12,7 +12,7 @@ returns-in_err-names c =
 
 pub into_objects-requires : goal.into_objects-requires
 into_objects-requires c =
-    record { ends = collected_ends c.in_ok-names.field-0.names c.in_ok-names.field-0.inodes c.args.nodes.items c.requires.mountable c.in_ok-names.ensures.ok; }
+    record { ends = collected_ends c.in_ok-names.field-0.names c.in_ok-names.field-0.inodes c.args.nodes.items c.requires.mountable c.in_ok-names.ensures.ok }
 
 pub keep_directories-requires-clause-parents : goal.keep_directories-requires-clause-parents
 keep_directories-requires-clause-parents c =

@@ -26,7 +26,9 @@ pub mount_nodes-requires : goal.mount_nodes-requires
 mount_nodes-requires c =
     let (e, size, scan) = c.requires.scanned in
     let none : first_refused e size c.args.image.now ≡ None = sym scan.refused ∙ c.in_default.is in
-    subst AreMountable (sym (scan.nodes ∙ nodes_are_all e size c.args.image.now none)) (nodes_mountable e size c.args.image.now scan.scannable)
+    record {
+      mountable = subst AreMountable (sym (scan.nodes ∙ nodes_are_all e size c.args.image.now none)) (nodes_mountable e size c.args.image.now scan.scannable);
+    }
 
 pub returns : goal.returns
 returns c = λ e size scan.
