@@ -24,7 +24,8 @@ HEAD = re.compile(
 FUNCTION = re.compile(r"^ *pub fn (\w+)(?:<.*?>)?\((.*?)\)(?: ->|\n| \{|$)", re.M | re.S)
 
 # How many there are in a crate at most, of what is to have none.
-LIMITS = {}
+# jmount: a line of specs/MountsNodes.antt, to be broken when that crate changes next.
+LIMITS = {"jmount": {"columns": 1}}
 
 
 def text_of(path):

@@ -211,9 +211,9 @@ module _ (e : Endian) (size : ℕ) (image : List ℕ) where
   by_itself done tile fault.RootKind has isnt = has
   by_itself done tile fault.OutOfMemory has isnt = absurd (isnt refl)
 
-  refuses : (done : List (ℕ × Seen)) (tile : ℕ × Seen) (old new : View) (before after : List ℕ) (why : ViewFault) → before ≡ contents_of_tiles e size image done
-      → RefusesTile e size image tile old new before after why → IsRefusedBy e size image done tile why
-  refuses done tile old new before after why exact r =
+  refuses : (done : List (ℕ × Seen)) (tile : ℕ × Seen) (before after : List ℕ) (why : ViewFault) → before ≡ contents_of_tiles e size image done
+      → RefusesTile e size image tile before after why → IsRefusedBy e size image done tile why
+  refuses done tile before after why exact r =
       elim r.why_is [
         | inl itself ↦ by_itself done tile why itself.0 itself.1
         | inr passes ↦
@@ -233,7 +233,9 @@ module _ (e : Endian) (size : ℕ) (image : List ℕ) where
   pub viewing_refused : (s : Extent) (left : List Extent) (tile : ℕ × Seen) (old new : View) (before after : List ℕ) (why : ViewFault) → IsScannable size image
       → Found s left old before → sighted s ≡ Some tile → TakesTile e size image tile old new before after → new.refused ≡ Some why → IsViewOf e size image after new
   viewing_refused s left tile old new before after why scannable f some takes is =
-      let r : RefusesTile e size image tile old new before after why = takes.takes.1 why is in
+      let both = takes.takes.1 why is in
+      let r : RefusesTile e size image tile before after why = both.0 in
+      let tiles_are : new.tiles.items ≡ old.tiles.items = both.1 in
       let next = next_tile s left tile some in
       record {
         scannable = scannable;
@@ -242,14 +244,14 @@ module _ (e : Endian) (size : ℕ) (image : List ℕ) where
         all = f.split ∙ ap (λ (l : List (ℕ × Seen)). f.done ++ l) next;
         has = record {
           none = f.has.none;
-          among = λ t there. f.has.among t (subst (λ (l : List (ℕ × Seen)). Contains l t) r.tiles there);
-          nodes = ap (placed_nodes e size image) r.tiles ∙ f.has.nodes;
-          tiles = ap (contents_of_tiles e size image) r.tiles ∙ f.has.tiles;
+          among = λ t there. f.has.among t (subst (λ (l : List (ℕ × Seen)). Contains l t) tiles_are there);
+          nodes = ap (placed_nodes e size image) tiles_are ∙ f.has.nodes;
+          tiles = ap (contents_of_tiles e size image) tiles_are ∙ f.has.tiles;
           contents = begin_more (contents_of_tiles e size image f.done) before after f.exact r.contents;
           few = f.has.few;
         };
         ends = subst (EndsView e size image f.done (tile ∷ filter_map sighted left) new) (sym is)
-            (tile, filter_map sighted left, refl, refuses f.done tile old new before after why f.exact r);
+            (tile, filter_map sighted left, refl, refuses f.done tile before after why f.exact r);
       }
 
   -- ---- the end

@@ -94,19 +94,18 @@ pub record AddsTile (e : Endian) (size : ℕ) (image : List ℕ) (s : ℕ × See
   pub few : length after ≤ greatest_contents
 
 -- One tile more, which refuses the image by itself or by its content.
-pub record RefusesTile (e : Endian) (size : ℕ) (image : List ℕ) (s : ℕ × Seen) (old new : View)
+pub record RefusesTile (e : Endian) (size : ℕ) (image : List ℕ) (s : ℕ × Seen)
     (before after : List ℕ) (why : ViewFault) : Type 0 where
   pub why_is : (HasTileFault (through_fault e size image s) why × (why ≡ fault.OutOfMemory → ⊥))
       ⊎ ((why ≡ fault.TooLong s.0) × (through_fault e size image s ≡ None)
       × (greatest_contents < length (before ++ tile_content e size image s)))
-  pub tiles : new.tiles.items ≡ old.tiles.items
   pub contents : BeginWith before after
 
 abbrev pub TakesTileBy : Endian → ℕ → List ℕ → ℕ × Seen → View → View → List ℕ → List ℕ → Type 0
 TakesTileBy e size image s old new before after =
     (new.refused ≡ None → AddsTile e size image s old new before after)
     × ((why : ViewFault) → new.refused ≡ Some why
-    → RefusesTile e size image s old new before after why)
+    → RefusesTile e size image s before after why × (new.tiles.items ≡ old.tiles.items))
 
 pub record TakesTile (e : Endian) (size : ℕ) (image : List ℕ) (s : ℕ × Seen) (old new : View)
     (before after : List ℕ) : Type 0 where
