@@ -1,3 +1,1 @@
-pub mod MountsThrough
 pub mod Through
-pub mod View

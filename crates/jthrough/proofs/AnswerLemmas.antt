@@ -33,12 +33,12 @@ use Rattle.jmount.specs.declared.fault.MountFault.{MountFault}
 use Rattle.jmount.specs.declared.fault.MountFault.TheVariants as mount
 use Rattle.jmount.proofs.MountLemmas.{nodes_mountable}
 use Rattle.jview.specs.Through.{greatest_contents, first_fault, through_fault, through_fault_among, IsSoundThrough, IsMountThroughOf}
-use Rattle.jview.specs.MountsThrough.{AnswersThrough, AreSoundThrough, IsFirstRefused, IsRefusedBy, nodes_of_tiles}
-use Rattle.jview.specs.View.{AreSeen, EndsView, IsViewOf, mount_fault_viewed, placed_node, placed_nodes}
-use Rattle.jview.specs.declared.fault.ViewFault.{ViewFault}
-use Rattle.jview.specs.declared.fault.ViewFault.TheVariants as fault
-use Rattle.jview.specs.declared.view.View.{View}
-use Rattle.jview.proofs.SplitLemmas.{SplitsAt, splits_at}
+use Rattle.jthrough.specs.MountsThrough.{AnswersThrough, AreSoundThrough, IsFirstRefused, IsRefusedBy, nodes_of_tiles}
+use Rattle.jthrough.specs.View.{AreSeen, EndsView, IsViewOf, mount_fault_viewed, placed_node, placed_nodes}
+use Rattle.jthrough.specs.declared.fault.ViewFault.{ViewFault}
+use Rattle.jthrough.specs.declared.fault.ViewFault.TheVariants as fault
+use Rattle.jthrough.specs.declared.view.View.{View}
+use Rattle.jthrough.proofs.SplitLemmas.{SplitsAt, splits_at}
 
 mapped_some : {A B : Type 0} (f : A → B) (o : Option A) (y : B) → option_map f o ≡ Some y → (x : A) × (o ≡ Some x) × (f x ≡ y)
 mapped_some f None y h = absurd (cc)

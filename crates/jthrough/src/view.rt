@@ -24,7 +24,7 @@ impl<'a> View<'a> {
     ghost use Rattle.std.specs.Prelude.{◌≡◌, ◌++◌, ◌||◌, [], None, false, OnOk, option_to_list};
     ghost use Rattle.jscan.specs.Findings.{finding_of};
     ghost use Rattle.jscan.specs.Scans.{forbids_writing};
-    ghost use Rattle.jview.specs.View.{IsViewBegun, kept_tile};
+    ghost use Rattle.jthrough.specs.View.{IsViewBegun, kept_tile};
 
     /// What an image shows in front of its first extent.
     pub(crate) fn new(alloc: Global) -> Self

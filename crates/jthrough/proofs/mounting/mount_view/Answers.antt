@@ -2,11 +2,11 @@ use Rattle.std.proofs.Common.{rules, ◌≡◌, ℕ, List, Err, Ok, Result, sym,
 use Rattle.std.specs.Prelude.{IfErr, OnOk}
 use Rattle.jmount.specs.Clash.{NoneClash}
 use Rattle.jmount.specs.Collected.{StopsCollecting, without_addresses}
-use Rattle.jview.specs.MountsThrough.{AnswersThrough}
-use Rattle.jview.specs.declared.fault.ViewFault.{ViewFault}
-use Rattle.jview.proofs.AnswerLemmas.{tiles_seen, nodes_mount, stops, refused_answers, mount_answers, fault_answers}
-use Rattle.jview.proofs.mounting.mount_view.Goals.{in-Ok, in-Err}
-use Rattle.jview.proofs.mounting.mount_view.Goals as goal
+use Rattle.jthrough.specs.MountsThrough.{AnswersThrough}
+use Rattle.jthrough.specs.declared.fault.ViewFault.{ViewFault}
+use Rattle.jthrough.proofs.AnswerLemmas.{tiles_seen, nodes_mount, stops, refused_answers, mount_answers, fault_answers}
+use Rattle.jthrough.proofs.mounting.mount_view.Goals.{in-Ok, in-Err}
+use Rattle.jthrough.proofs.mounting.mount_view.Goals as goal
 
 pub located_nodes-requires-clause-seen : goal.located_nodes-requires-clause-seen
 located_nodes-requires-clause-seen g c =

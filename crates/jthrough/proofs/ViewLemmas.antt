@@ -20,11 +20,11 @@ use Rattle.jscan.proofs.ImageLemmas.{image_sighted}
 use Rattle.jscan.proofs.PartialScanLemmas.{any_forbids, cons_append, or_again, or_false}
 use Rattle.jexpand.specs.Expanded.{expanded_node, tile_content, contents_of_tiles}
 use Rattle.jview.specs.Through.{greatest_contents, through_fault}
-use Rattle.jview.specs.MountsThrough.{HasTileFault, IsRefusedBy}
-use Rattle.jview.specs.View.{IsViewBegun, BeginWith, AddsTile, RefusesTile, TakesTile, HasTiles, EndsView, IsViewOf, kept_tile, placed_node, placed_nodes}
-use Rattle.jview.specs.declared.fault.ViewFault.{ViewFault}
-use Rattle.jview.specs.declared.fault.ViewFault.TheVariants as fault
-use Rattle.jview.specs.declared.view.View.{View}
+use Rattle.jthrough.specs.MountsThrough.{HasTileFault, IsRefusedBy}
+use Rattle.jthrough.specs.View.{IsViewBegun, BeginWith, AddsTile, RefusesTile, TakesTile, HasTiles, EndsView, IsViewOf, kept_tile, placed_node, placed_nodes}
+use Rattle.jthrough.specs.declared.fault.ViewFault.{ViewFault}
+use Rattle.jthrough.specs.declared.fault.ViewFault.TheVariants as fault
+use Rattle.jthrough.specs.declared.view.View.{View}
 
 -- ---- a tile that is kept, or not
 

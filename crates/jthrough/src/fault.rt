@@ -1,8 +1,8 @@
 //! Why an image does not mount through its compression.
 
 ghost use Rattle.std.specs.Prelude.{◌≡◌};
-ghost use Rattle.jview.specs.declared.fault.ViewFault.TheVariants.{OutOfMemory};
-ghost use Rattle.jview.specs.View.{mount_fault_viewed, scan_fault_viewed};
+ghost use Rattle.jthrough.specs.declared.fault.ViewFault.TheVariants.{OutOfMemory};
+ghost use Rattle.jthrough.specs.View.{mount_fault_viewed, scan_fault_viewed};
 
 use jmount::MountFault;
 use jscan::ScanFault;

@@ -4,7 +4,7 @@ ghost use Rattle.std.specs.Prelude.{◌≡◌, ◌++◌, None, IfOk, IsTrue, Con
 ghost use Rattle.jscan.specs.Image.{is_block_size, sightings};
 ghost use Rattle.jexpand.specs.Expanded.{expanded_node, tile_content};
 ghost use Rattle.jview.specs.Through.{through_fault};
-ghost use Rattle.jview.specs.View.{AreSeen, BeginWith, placed_nodes};
+ghost use Rattle.jthrough.specs.View.{AreSeen, BeginWith, placed_nodes};
 
 use jexpand::{content_len, node_with_content};
 use jnode::{NodeRef, Order, Seen};

@@ -13,8 +13,8 @@ use Rattle.jmount.specs.Mount.{Mount}
 use Rattle.jmount.specs.StateOf.{state_of}
 use Rattle.jmount.specs.Tree.{is_directory}
 use Rattle.jview.specs.Through.{greatest_contents, through_fault, IsSoundThrough, IsMountThroughOf}
-use Rattle.jview.specs.declared.fault.ViewFault.{ViewFault}
-use Rattle.jview.specs.declared.fault.ViewFault.TheVariants as fault
+use Rattle.jthrough.specs.declared.fault.ViewFault.{ViewFault}
+use Rattle.jthrough.specs.declared.fault.ViewFault.TheVariants as fault
 
 -- the fault that a tile has by itself, or memory ran out
 abbrev pub HasTileFault : Option ConvertFault → ViewFault → Type 0

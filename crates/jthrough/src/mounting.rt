@@ -1,8 +1,8 @@
 //! Mounting what an image shows.
 
 ghost use Rattle.std.specs.Prelude.{IsTrue};
-ghost use Rattle.jview.specs.MountsThrough.{AnswersThrough};
-ghost use Rattle.jview.specs.View.{IsViewOf};
+ghost use Rattle.jthrough.specs.MountsThrough.{AnswersThrough};
+ghost use Rattle.jthrough.specs.View.{IsViewOf};
 
 use crate::fault::ViewFault;
 use crate::locating::located_nodes;

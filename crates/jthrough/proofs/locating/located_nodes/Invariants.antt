@@ -1,8 +1,8 @@
 use Rattle.std.proofs.Common.{◌≡◌, ◌++◌}
 use Rattle.std.specs.Vec.Iter.{into_iter_items}
 use Rattle.jexpand.specs.Expanded.{contents_of_tiles}
-use Rattle.jview.specs.View.{BeginWith, placed_nodes}
-use Rattle.jview.proofs.locating.located_nodes.Given as goal
+use Rattle.jthrough.specs.View.{BeginWith, placed_nodes}
+use Rattle.jthrough.proofs.locating.located_nodes.Given as goal
 
 abbrev pub invariant-loop-addr : goal.invariant-loop-addr
 invariant-loop-addr g l = record {

@@ -1,0 +1,2 @@
+pub mod MountsThrough
+pub mod View
