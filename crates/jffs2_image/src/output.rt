@@ -11,7 +11,6 @@ use crate::refusing::Refusing;
 use flashbase::{DeviceFault, Sink};
 use jreport::{ProgramFault, Reason};
 use std::alloc::Global;
-use std::fs::OpenFile;
 use std::io;
 use std::io::{BufWriter, ErrorKind, Write};
 
@@ -127,16 +126,13 @@ impl<W: Write + Drop> BufferedOutput<W> {
         self.failures
     }
 
+    pub(crate) fn file(&self) -> &W {
+        self.writer.get_ref()
+    }
+
     /// How many bytes it took, up to the greatest u64.
     pub(crate) fn length(&self) -> u64 {
         self.length
-    }
-}
-
-impl<W: Write + OpenFile + Drop> BufferedOutput<W> {
-    /// Waits until what was given on is on the disk.
-    pub(crate) fn sync(&self) -> io::Result<()> {
-        self.writer.get_ref().sync_all()
     }
 }
 
