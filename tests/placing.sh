@@ -97,7 +97,7 @@ run build "${flash[@]}" --blocks 16 --pad create /dev/null; want 0 "accepted 1 n
 line="build --pad to a limit"
 ( trap '' XFSZ; ulimit -f 32; "$program" build "${flash[@]}" --blocks 16 --pad create limited.img > out 2> err )
 got=$?
-want 1 "accepted 1 nodes 2 *" "$(unopened limited.img 'the file grows too large')"
+want 1 "" $'jffs2_image: S4 Sink\njffs2_image: note: the file grows too large'
 for command in "decompress plain x.img" "compress plain x.img" "ls plain" "check plain" "info plain" \
     "cuts --blocks 16 create"; do
     run $command --pad; want 2 "" "error: unexpected argument '--pad' found*"
@@ -160,20 +160,25 @@ run append "${flash[@]}" --blocks 48 --atomic none text out.img; holds 1 "" "$(u
 run decompress "${flash[@]}" --atomic none out.img; holds 1 "" "$(unopened none)"
 run compress "${flash[@]}" --atomic none out.img; holds 1 "" "$(unopened none)"
 run build --block 5 --blocks 16 --atomic create out.img; holds 1 "" "jffs2_image: *"
-# Standard output fails after all was written.
-for command in "${commands[@]}"; do
-    line="$command --atomic to a full output"
-    "$program" $command "${flash[@]}" --atomic out.img > /dev/full 2> err
-    got=$?
-    : > out
-    holds 1 "" "*jffs2_image: P5 Output*"
+# Standard output fails when OUT is there.
+for options in --atomic --pad "--atomic --pad"; do
+    for command in "${commands[@]}"; do
+        [[ $options == *pad* && $command == *compress* ]] && continue
+        run $command "${flash[@]}" $options direct.img
+        cp old out.img
+        line="$command $options to a full output"
+        "$program" $command "${flash[@]}" $options out.img > /dev/full 2> err
+        got=$?
+        : > out
+        want 1 "" "*jffs2_image: P5 Output*"; same out.img direct.img; alone
+    done
 done
+cp old out.img
 # The file fails: by a limit, and on a full disk.
 for options in "--atomic" "--atomic --pad"; do
     line="build $options to a limit"
     ( trap '' XFSZ; ulimit -f 32; "$program" build "${flash[@]}" --blocks 128 $options large out.img > out 2> err )
     got=$?
-cp old out.img
     holds 1 "" $'jffs2_image: S4 Sink*\njffs2_image: note: the file grows too large'
     line="build $options create to a limit"
     ( trap '' XFSZ; ulimit -f 32; "$program" build "${flash[@]}" --blocks 128 $options create out.img > out 2> err )
@@ -181,7 +186,7 @@ cp old out.img
     if [[ $options == --atomic ]]; then
         want 0 "accepted *" ""; cp old out.img; alone
     else
-        holds 1 "accepted *" "$(unopened out.img 'the file grows too large')"
+        holds 1 "" $'jffs2_image: S4 Sink\njffs2_image: note: the file grows too large'
     fi
 done
 if [[ $(id -u) == 0 ]] && mkdir disk && mount -t tmpfs -o size=256k tmpfs disk 2> err; then
@@ -191,7 +196,9 @@ if [[ $(id -u) == 0 ]] && mkdir disk && mount -t tmpfs -o size=256k tmpfs disk 2
     want 1 "" "jffs2_image: S4 Sink*$no_space"
     same disk/out.img old; alone
     run build "${flash[@]}" --blocks 64 --atomic --pad create disk/out.img
-    want 1 "accepted *" "$(unopened disk/out.img 'no space')"; same disk/out.img old; alone
+    want 1 "" "jffs2_image: S4 Sink$no_space"; same disk/out.img old; alone
+    run build "${flash[@]}" --blocks 64 --pad create disk/out.img
+    want 1 "" "jffs2_image: S4 Sink$no_space"; cp old disk/out.img
     run build "${flash[@]}" --blocks 16 --atomic --pad create disk/out.img; want 0 "accepted *" ""
     length disk/out.img 131072; alone
 fi
@@ -237,13 +244,6 @@ elif command -v setpriv > /dev/null; then
 fi
 chmod 755 closed
 
-# ---- a kill at ten places
-
-run build "${flash[@]}" --blocks 128 large whole.img; want 0 "accepted *" ""
-for n in 1 2 3 4 5 6 7 8 9 15; do
-    cp old out.img
-    line="a kill after 0.00$n s"
-    { timeout -s KILL "0.00$n" "$program" build "${flash[@]}" --blocks 128 --atomic large out.img \
 # ---- what the host is asked for, and when
 
 # A file of another user stays his; if it cannot, nobody gets more than it granted.
@@ -326,6 +326,13 @@ if command -v strace > /dev/null && strace -o /dev/null true 2> err; then
     done
 fi
 
+# ---- a kill at ten places
+
+run build "${flash[@]}" --blocks 128 large whole.img; want 0 "accepted *" ""
+for n in 1 2 3 4 5 6 7 8 9 15; do
+    cp old out.img
+    line="a kill after 0.00$n s"
+    { timeout -s KILL "0.00$n" "$program" build "${flash[@]}" --blocks 128 --atomic large out.img \
         > out 2> err; } 2> killed
     cmp -s out.img old || cmp -s out.img whole.img
     differs=$?

@@ -1,5 +1,5 @@
 //! Standard output, through a buffer that is emptied before a run ends.
-ghost use Rattle.std.specs.Prelude.{◌≡◌, ℕ, Bool, List, Option, IfOk, IfErr, OnOk};
+ghost use Rattle.std.specs.Prelude.{◌≡◌, ℕ, Bool, List, [], Option, Some, IfOk, IfErr, OnOk};
 ghost use Rattle.std.specs.Io.KnownBytes.{Keeps};
 ghost use Rattle.std.specs.IoError.{error_kind};
 ghost use Rattle.std.specs.Io.Buffered.{writer_contents, writer_inner};
@@ -9,6 +9,7 @@ ghost use Rattle.jffs2_image.specs.Writes.{IsBehind};
 
 use crate::refusing::Refusing;
 use flashbase::{DeviceFault, Sink};
+use jline::{LineBuffer, MAX_LINE};
 use jreport::{ProgramFault, Reason};
 use std::alloc::Global;
 use std::io;
@@ -47,6 +48,54 @@ pub(crate) fn finished<'a, A: Drop, T: Output>(
             Err(_) => Err(ProgramFault::Output),
         },
         Err(fault) => Err(fault),
+    }
+}
+
+/// A line that is held until it may go out, in a buffer that takes no memory. What it has no room
+/// for is a failure.
+#[derive(Drop)]
+pub struct HeldLine {
+    line: LineBuffer,
+    failures: u64,
+}
+
+impl HeldLine {
+    pub(crate) fn new() -> Self
+        ensures { ⟦<HeldLine as Sink>⟧.taken result ≡ Some [] }
+    {
+        HeldLine {
+            line: LineBuffer::new(),
+            failures: 0,
+        }
+    }
+
+    pub(crate) fn as_slice(&self) -> &[u8]
+        ensures { ⟦<HeldLine as Output>⟧.given self.now ≡ Some result.now }
+    {
+        self.line.as_slice()
+    }
+}
+
+impl Sink for HeldLine {
+    ghost taken = { λ s. Some s.line };
+
+    ghost failures = { λ s. s.failures };
+
+    fn put(&mut self, bytes: &[u8]) -> Result<usize, DeviceFault> {
+        if self.line.as_slice().len() + bytes.len() > MAX_LINE {
+            self.failures = self.failures.wrapping_add(1);
+            return Err(DeviceFault);
+        }
+        self.line.push_text(bytes);
+        Ok(bytes.len())
+    }
+}
+
+impl Output for HeldLine {
+    ghost given = { λ s. Some s.line };
+
+    fn finish(&mut self) -> Result<(), DeviceFault> {
+        Ok(())
     }
 }
 
