@@ -1,9 +1,11 @@
 //! Files of the host: those that are read, and the one that is made.
-ghost use Rattle.std.specs.Prelude.{◌≡◌, ◌++◌, ℕ, List, [], ◌∷◌, Option, IfOk, IfErr, IfSome, OnOk, None, Some};
+ghost use Rattle.std.specs.Prelude.{◌≡◌, ◌++◌, ℕ, List, [], ◌∷◌, Option, IfOk, IfErr, IfSome, IsOk, IsSome, OnOk, None, Some};
+ghost use Rattle.std.specs.Io.KnownBytes.{Appends};
 ghost use Rattle.jreport.specs.declared.reason.Reason.{Reason};
+ghost use Rattle.flashbase.specs.Bytes.{erased};
 ghost use Rattle.flashbase.specs.Device.{CountsErr};
-ghost use Rattle.jffs2_image.specs.Filling.{HoldsFilled, HoldsFilledInPart};
-ghost use Rattle.jffs2_image.specs.Reasons.{reason_of_last};
+ghost use Rattle.jffs2_image.specs.Filling.{HoldsFilled, HoldsFilledInPart, fill_of};
+ghost use Rattle.jffs2_image.specs.Reasons.{output_length, reason_of_last};
 ghost use Rattle.jffs2_image.specs.Host.{AreAllLoaded, CountsNotMade, GivesFile, HoldsBy, MakesBy};
 
 use crate::filling::{Filling, fill_output};
@@ -11,7 +13,7 @@ use crate::kept::KeptFiles;
 use crate::output::{BufferedOutput, Output};
 use crate::refusing::Refusing;
 use crate::source::FileSource;
-use flashbase::{DeviceFault, Source};
+use flashbase::{DeviceFault, Sink, Source};
 use jbuild::HostFiles;
 use jreport::Reason;
 use std::cell::Cell;
@@ -172,12 +174,16 @@ impl<'r, R: Files + AllocGlobal> Loader for FileLoader<'r, R> {
     }
 }
 
-/// Fills up a file that is there.
+/// Fills up a file that is there, from the bytes on that it took.
 pub(crate) fn fill_last<W: Write + Drop>(
     last: &mut Option<BufferedOutput<W>>,
     filling: Filling,
 ) -> Result<(), Reason>
-    ensures { IfErr result (λ reason. reason ≡ reason_of_last last.new) }
+    ensures there { IsOk result → IsSome last.old }
+    ensures filled { OnOk result (IfSome last.old (λ old. IfSome last.new (λ new. Appends
+        (⟦<BufferedOutput<W> as Sink>⟧.taken old) (⟦<BufferedOutput<W> as Output>⟧.given new)
+        (erased (fill_of filling (output_length old)))))) }
+    ensures reason { IfErr result (λ reason. reason ≡ reason_of_last last.new) }
 {
     match last {
         Some(output) => {

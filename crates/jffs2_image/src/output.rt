@@ -1,9 +1,10 @@
 //! Standard output, through a buffer that is emptied before a run ends.
-ghost use Rattle.std.specs.Prelude.{◌≡◌, ℕ, Bool, List, [], Option, Some, IfOk, IfErr, OnOk};
+ghost use Rattle.std.specs.Prelude.{◌≡◌, ◌+◌, ◌-◌, ◌^◌, ℕ, Bool, List, [], Option, Some, IfOk, IfErr, OnOk, min};
 ghost use Rattle.std.specs.Io.KnownBytes.{Keeps};
 ghost use Rattle.std.specs.IoError.{error_kind};
 ghost use Rattle.std.specs.Io.Buffered.{writer_contents, writer_inner};
 ghost use Rattle.flashbase.specs.Device.{CountsErr, PutsOnce};
+ghost use Rattle.jffs2_image.specs.Reasons.{output_length};
 ghost use Rattle.jffs2_image.specs.Runs.{Finishes, answer_finished};
 ghost use Rattle.jffs2_image.specs.Writes.{IsBehind};
 
@@ -151,6 +152,7 @@ impl<W: Write + Drop> BufferedOutput<W> {
 
     /// The same, which goes on with a count of failures.
     pub(crate) fn counting_from(alloc: Global, writer: W, failures: u64) -> io::Result<Self>
+        ensures none { IfOk result (λ output. output_length output ≡ 0) }
         ensures given { IfOk result
             (λ output. ⟦<BufferedOutput<W> as Output>⟧.given output ≡ W.contents writer) }
         ensures taken { IfOk result
@@ -180,7 +182,9 @@ impl<W: Write + Drop> BufferedOutput<W> {
     }
 
     /// How many bytes it took, up to the greatest u64.
-    pub(crate) fn length(&self) -> u64 {
+    pub(crate) fn length(&self) -> u64
+        ensures { result ≡ output_length self.now }
+    {
         self.length
     }
 }
@@ -198,7 +202,15 @@ impl<W: Write + Drop> Sink for BufferedOutput<W> {
 
     ghost failures = { λ s. s.failures };
 
-    fn put(&mut self, bytes: &[u8]) -> Result<usize, DeviceFault> {
+    fn put(&mut self, bytes: &[u8]) -> Result<usize, DeviceFault>
+        ensures puts { PutsOnce (⟦<BufferedOutput<W> as Sink>⟧.taken self.old)
+            (⟦<BufferedOutput<W> as Sink>⟧.taken self.new)
+            (⟦<BufferedOutput<W> as Sink>⟧.failures self.old)
+            (⟦<BufferedOutput<W> as Sink>⟧.failures self.new) bytes.now result }
+        ensures counted { IfOk result
+            (λ n. output_length self.new ≡ min (output_length self.old + n) (2 ^ 64 - 1)) }
+        ensures uncounted { IfErr result (λ _. output_length self.new ≡ output_length self.old) }
+    {
         let put = write_noting(
             &mut self.writer,
             &mut self.failures,
