@@ -1,5 +1,6 @@
 //! Files of the host: those that are read, and the one that is made.
-ghost use Rattle.std.specs.Prelude.{◌≡◌, ◌++◌, ℕ, List, [], ◌∷◌, Option, IfOk, IfErr, IfSome, IsOk, IsSome, OnOk, None, Some};
+ghost use Rattle.std.specs.Prelude.{◌≡◌, ◌++◌, ℕ, List, [], ◌∷◌, Option, IfOk, IfErr, IfSome, IsOk, IsSome, OnOk, None, Some, true};
+ghost use Rattle.std.specs.Fs.{new_options, with_create, with_truncate, with_write};
 ghost use Rattle.std.specs.Io.KnownBytes.{Appends};
 ghost use Rattle.jreport.specs.declared.reason.Reason.{Reason};
 ghost use Rattle.flashbase.specs.Bytes.{erased};
@@ -18,6 +19,7 @@ use jbuild::HostFiles;
 use jreport::Reason;
 use std::cell::Cell;
 use std::fs;
+use std::fs::OpenOptions;
 use std::io::Write;
 use std::rt::Files;
 
@@ -197,6 +199,15 @@ pub(crate) fn fill_last<W: Write + Drop>(
     }
 }
 
+/// How the file of a name is opened that is written in its place: it is made, or cut off.
+fn written_over() -> OpenOptions
+    ensures { result ≡ with_truncate (with_create (with_write new_options true) true) true }
+{
+    let mut how = OpenOptions::new();
+    how.write(true).create(true).truncate(true);
+    how
+}
+
 /// Makes files of the system, each behind a buffer. The last one stays open, to be filled up.
 #[derive(Drop)]
 pub struct FileMaker<'r, R: Files + AllocGlobal> {
@@ -232,7 +243,7 @@ impl<'r, R: Files + AllocGlobal> Maker for FileMaker<'r, R> {
     ghost last_reason = { λ s. s.reason };
 
     fn make(&mut self, name: &str) -> Result<BufferedOutput<R::File>, MakeFault> {
-        let file = match fs::create(self.rt, name) {
+        let file = match written_over().open(self.rt, name) {
             Ok(file) => file,
             Err(error) => {
                 self.failures = self.failures.wrapping_add(1);
