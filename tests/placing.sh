@@ -31,6 +31,14 @@ alone() {
     find . -name '*.tmp*' -delete
 }
 
+# modes FILE MODE: it has these permissions
+modes() {
+    [[ $(stat -c %a "$1") == "$2" ]]
+    local differs=$?
+    count $differs
+    [[ $differs == 0 ]] || echo "FAILED: $1 has the mode $(stat -c %a "$1"), wanted $2, after $line"
+}
+
 # holds STATUS OUTPUT ERRORS: the last run ended so, OUT is as it was, and nothing is beside it
 holds() {
     want "$1" "$2" "$3"
@@ -89,7 +97,7 @@ run build "${flash[@]}" --blocks 16 --pad create /dev/null; want 0 "accepted 1 n
 line="build --pad to a limit"
 ( trap '' XFSZ; ulimit -f 32; "$program" build "${flash[@]}" --blocks 16 --pad create limited.img > out 2> err )
 got=$?
-want 1 "accepted 1 nodes 2 *" "$(unopened limited.img 'the file grows too large')"
+want 1 "" $'jffs2_image: S4 Sink\njffs2_image: note: the file grows too large'
 for command in "decompress plain x.img" "compress plain x.img" "ls plain" "check plain" "info plain" \
     "cuts --blocks 16 create"; do
     run $command --pad; want 2 "" "error: unexpected argument '--pad' found*"
@@ -112,10 +120,23 @@ done
 # OUT may be the image that is read.
 cp plain itself
 run append "${flash[@]}" --blocks 48 --atomic itself text itself; want 0 "accepted *" ""; same itself appended
+# A new file is as one that is written without --atomic.
+rm -f new.img direct.img
+( umask 027; "$program" build "${flash[@]}" --blocks 16 create direct.img > out 2> err )
+( umask 027; "$program" build "${flash[@]}" --blocks 16 --atomic create new.img > out 2> err )
+modes direct.img 640; modes new.img 640
 # The permissions of what was there are kept.
-cp old out.img; chmod 640 out.img
-run build "${flash[@]}" --blocks 16 --atomic create out.img; want 0 "accepted *" ""
-[[ $(stat -c %a out.img) == 640 ]]; count $?
+for mode in 640 400 666 4755 2711; do
+    cp old out.img; chmod $mode out.img
+    run build "${flash[@]}" --blocks 16 --atomic create out.img; want 0 "accepted *" ""; modes out.img $mode
+    rm -f out.img
+done
+# The longest names
+for name in "$(printf 'n%.0s' {1..255})" "$(printf 'n%.0s' {1..250})" "n$(printf 'ä%.0s' {1..127})"; do
+    run build "${flash[@]}" --blocks 16 --atomic create "$name"; want 0 "accepted *" ""; same "$name" plain; alone
+    run build "${flash[@]}" --blocks 16 --atomic create "./$name"; want 0 "accepted *" ""; same "$name" plain; alone
+    rm -f "$name"
+done
 # Names beside OUT that are taken stay as they are.
 for n in "" 1 2; do cp old "out.img.tmp$n"; done
 run build "${flash[@]}" --blocks 16 --atomic create out.img; want 0 "accepted *" ""; same out.img plain
@@ -139,14 +160,20 @@ run append "${flash[@]}" --blocks 48 --atomic none text out.img; holds 1 "" "$(u
 run decompress "${flash[@]}" --atomic none out.img; holds 1 "" "$(unopened none)"
 run compress "${flash[@]}" --atomic none out.img; holds 1 "" "$(unopened none)"
 run build --block 5 --blocks 16 --atomic create out.img; holds 1 "" "jffs2_image: *"
-# Standard output fails after all was written.
-for command in "${commands[@]}"; do
-    line="$command --atomic to a full output"
-    "$program" $command "${flash[@]}" --atomic out.img > /dev/full 2> err
-    got=$?
-    : > out
-    holds 1 "" "*jffs2_image: P5 Output*"
+# Standard output fails when OUT is there.
+for options in --atomic --pad "--atomic --pad"; do
+    for command in "${commands[@]}"; do
+        [[ $options == *pad* && $command == *compress* ]] && continue
+        run $command "${flash[@]}" $options direct.img
+        cp old out.img
+        line="$command $options to a full output"
+        "$program" $command "${flash[@]}" $options out.img > /dev/full 2> err
+        got=$?
+        : > out
+        want 1 "" "*jffs2_image: P5 Output*"; same out.img direct.img; alone
+    done
 done
+cp old out.img
 # The file fails: by a limit, and on a full disk.
 for options in "--atomic" "--atomic --pad"; do
     line="build $options to a limit"
@@ -159,7 +186,7 @@ for options in "--atomic" "--atomic --pad"; do
     if [[ $options == --atomic ]]; then
         want 0 "accepted *" ""; cp old out.img; alone
     else
-        holds 1 "accepted *" "$(unopened out.img 'the file grows too large')"
+        holds 1 "" $'jffs2_image: S4 Sink\njffs2_image: note: the file grows too large'
     fi
 done
 if [[ $(id -u) == 0 ]] && mkdir disk && mount -t tmpfs -o size=256k tmpfs disk 2> err; then
@@ -169,7 +196,9 @@ if [[ $(id -u) == 0 ]] && mkdir disk && mount -t tmpfs -o size=256k tmpfs disk 2
     want 1 "" "jffs2_image: S4 Sink*$no_space"
     same disk/out.img old; alone
     run build "${flash[@]}" --blocks 64 --atomic --pad create disk/out.img
-    want 1 "accepted *" "$(unopened disk/out.img 'no space')"; same disk/out.img old; alone
+    want 1 "" "jffs2_image: S4 Sink$no_space"; same disk/out.img old; alone
+    run build "${flash[@]}" --blocks 64 --pad create disk/out.img
+    want 1 "" "jffs2_image: S4 Sink$no_space"; cp old disk/out.img
     run build "${flash[@]}" --blocks 16 --atomic --pad create disk/out.img; want 0 "accepted *" ""
     length disk/out.img 131072; alone
 fi
@@ -214,6 +243,88 @@ elif command -v setpriv > /dev/null; then
     fi
 fi
 chmod 755 closed
+
+# ---- what the host is asked for, and when
+
+# A file of another user stays his; if it cannot, nobody gets more than it granted.
+if [[ $(id -u) == 0 ]] && command -v setpriv > /dev/null; then
+    cp old out.img; chown 1000:1001 out.img; chmod 6755 out.img
+    run build "${flash[@]}" --blocks 16 --atomic create out.img; want 0 "accepted *" ""; modes out.img 6755
+    [[ $(stat -c %u:%g out.img) == 1000:1001 ]]; count $?
+    rm out.img
+    cp "$program" program; chmod 755 program "$folder"
+    # the old mode and group, the groups of who writes, and the new mode and group
+    while read -r mode group groups new owned; do
+        rm -rf shared; mkdir shared; chmod 777 shared
+        cp old shared/out.img; chown 1000:"$group" shared/out.img; chmod "$mode" shared/out.img
+        line="build --atomic of the mode $mode, by another user of the groups $groups"
+        setpriv --reuid 1002 --regid 1002 --groups "$groups" ./program build "${flash[@]}" --blocks 16 \
+            --atomic create shared/out.img > out 2> err
+        got=$?
+        want 0 "accepted *" ""; modes shared/out.img "$new"
+        [[ $(stat -c %u:%g shared/out.img) == "1002:$owned" ]]; count $?
+    done <<'MODES'
+4755 1001 1002 755 1002
+6775 1001 1002 755 1002
+640 1001 1002 600 1002
+604 1001 1002 600 1002
+664 1001 1001,1002 664 1001
+6775 1001 1001,1002 775 1001
+476 1001 1001,1002 444 1001
+MODES
+fi
+if command -v strace > /dev/null && strace -o /dev/null true 2> err; then
+    # The file is on the disk before it has its name, and that is before the line is printed.
+    for options in --atomic "--atomic --pad"; do
+        cp old out.img
+        line="build $options under strace"
+        strace -o calls -e trace=fsync,rename,write "$program" build "${flash[@]}" --blocks 16 $options create \
+            out.img > out 2> err
+        got=$?
+        want 0 "accepted *" ""
+        [[ $(sed -n 's/^write(1,.*/line/p; s/^\(fsync\|rename\)(.*/\1/p' calls | tr '\n' ' ') == "fsync rename fsync line " ]]
+        differs=$?
+        count $differs
+        [[ $differs == 0 ]] || { echo "FAILED: the calls of $line:"; cat calls; }
+    done
+    # A folder that cannot be synced
+    line="build --atomic in a folder that cannot be synced"
+    strace -o calls -e inject=fsync:error=EINVAL:when=2 "$program" build "${flash[@]}" --blocks 16 --atomic create \
+        out.img > out 2> err
+    got=$?
+    want 0 "accepted *" ""; same out.img plain
+    # OUT does not get its name, or not whole to the disk.
+    for fault in "rename EBUSY in use" "fsync EIO" "rename EXDEV"; do
+        read -r call error note <<< "$fault"
+        cp old out.img
+        line="build --atomic where $call fails"
+        strace -o calls -e inject=$call:error=$error:when=1 "$program" build "${flash[@]}" --blocks 16 --atomic create \
+            out.img > out 2> err
+        got=$?
+        holds 1 "" "$(if [[ $note ]]; then unopened out.img "$note"; else echo "jffs2_image: P1 File out.img"; fi)"
+    done
+    # Until it is whole, it is read by its owner alone; and whatever is put under its name is left as it is.
+    chmod 600 old; cp old victim; chmod 644 old
+    for swap in none "ln -s victim" "ln victim" "cp victim"; do
+        rm -f stolen out.img; cp old out.img; chmod 666 out.img
+        line="build --atomic where the new file is moved away: $swap"
+        strace -o calls -e inject=chmod,fchmod:delay_enter=1500000 "$program" build "${flash[@]}" --blocks 16 \
+            --atomic create out.img > out 2> err &
+        running=$!
+        for _ in $(seq 100); do [[ -e out.img.tmp ]] && break; sleep 0.05; done
+        sleep 0.3
+        modes out.img.tmp 600
+        if [[ $swap == none ]]; then
+            wait $running; got=$?
+            want 0 "accepted *" ""; same out.img plain; modes out.img 666; alone
+        else
+            mv out.img.tmp stolen; $swap out.img.tmp
+            wait $running; got=$?
+            want 1 "" "$(unopened out.img 'in use')"; same out.img old
+            same victim old; modes victim 600; rm -f out.img.tmp*
+        fi
+    done
+fi
 
 # ---- a kill at ten places
 

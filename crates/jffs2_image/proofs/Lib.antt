@@ -19,3 +19,4 @@ pub mod PackLemmas
 mod FirstLemmas
 mod KeepingLemmas
 mod FinishLemmas
+mod ReplacingLemmas

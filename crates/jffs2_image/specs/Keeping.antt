@@ -2,6 +2,7 @@
 use Rattle.std.specs.Prelude.{ℕ, List, Option, option_map, bytes_eq, string_bytes, if◌then◌else◌}
 use Rattle.jbuild.specs.HostFiles.{read_of}
 use Rattle.jhost.specs.ReadFolders.{read_root}
+use Rattle.jhost.specs.Silence.{ReadsInSilence}
 use Rattle.jffs2_image.specs.declared.keeping.Keeper.{Keeper}
 use Rattle.jffs2_image.specs.declared.keeping.KeepingFolder.{KeepingFolder}
 use Rattle.jffs2_image.specs.declared.kept.KeptFiles.{KeptFiles}
@@ -9,6 +10,10 @@ use Rattle.jffs2_image.specs.declared.kept.KeptFiles.{KeptFiles}
 -- the path of the host at which it is
 abbrev pub keeping_root : {R F D : Type 0} → KeepingFolder R F D → List ℕ
 keeping_root folder = read_root folder.folder
+
+-- it tells nothing of how far it is
+abbrev pub KeepsInSilence : {R F D : Type 0} → KeepingFolder R F D → Type 0
+KeepsInSilence folder = ReadsInSilence folder.folder
 
 abbrev pub files_of_keeper : {R F D : Type 0} → Keeper R F D → KeptFiles
 files_of_keeper keeper = keeper.files

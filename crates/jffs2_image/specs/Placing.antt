@@ -1,19 +1,26 @@
 -- What is done about the file that a command wrote, when it has ended: it is filled up, and takes
 -- its name.
-use Rattle.std.specs.Prelude.{◌≡◌, ◌≢◌, ◌⊎◌, ◌*◌, ℕ, Bool, true, false, List, [], Option, Some, None}
+use Rattle.std.specs.Prelude.{◌≡◌, ◌⊎◌, ◌*◌, ℕ, Bool, true, false, List, [], Option, Some, None}
+use Rattle.std.specs.Io.KnownBytes.{Appends}
 use Rattle.flashbase.specs.Device.{next_count}
+use Rattle.flashbase.specs.Sinks.{SinkChange}
+use Rattle.jlog.specs.declared.fault.SessionFault.TheVariants as session
 use Rattle.jreport.specs.Advice.{fault_lines_of}
+use Rattle.jreport.specs.declared.cause.Cause.TheVariants as cause
 use Rattle.jreport.specs.declared.faults.ProgramFault.{ProgramFault}
+use Rattle.jreport.specs.declared.faults.ProgramFault.TheVariants as program
 use Rattle.jcommand.specs.Parsed.{BuildParsed, AppendParsed, DecompressParsed, ImageParsed, WeakParsed, CompressParsed, ApartParsed, PackParsed, Parsed, TaskParsed}
 use Rattle.jcommand.specs.declared.outcome.Outcome.{Outcome}
 use Rattle.jcommand.specs.declared.outcome.Outcome.TheVariants as outcome
 use Rattle.jcommand.specs.declared.parsed.Options.{Options}
 use Rattle.jcommand.specs.declared.parsed.Placing.{Placing}
 use Rattle.jffs2_image.specs.Filling.{HoldsFilled, HoldsFilledInPart}
+use Rattle.jffs2_image.specs.Host.{HasFailed}
 use Rattle.jffs2_image.specs.Runs.{IsSaid, IsUnopened}
 use Rattle.jffs2_image.specs.declared.filling.Filling.{Filling}
+use Rattle.jffs2_image.specs.declared.output.HeldLine.{HeldLine}
 use Rattle.jffs2_image.specs.declared.filling.Filling.TheVariants as filling
-use Rattle.jffs2_image.specs.Writes.{FileWrites}
+use Rattle.jffs2_image.specs.Writes.{FileWrites, GivesText}
 
 -- ---- what is asked for
 
@@ -107,25 +114,31 @@ abbrev pub SaysOn : {E : Type 0} → (E → Option (List ℕ)) → (E → ℕ) �
 SaysOn taken failures before after text =
     IsSaid (taken before) (taken after) (failures before) (failures after) text
 
--- the file of a name is blamed in a fault's lines
-abbrev pub IsBlamed : {E : Type 0} → (E → E → List ℕ → Type 0) → List ℕ → E → E → Outcome → Type 0
-IsBlamed Says name between last result =
-    ((fault : ProgramFault) × IsUnopened name fault × Says between last (fault_lines_of fault))
+-- such a fault is told in its lines
+abbrev pub IsBlamed : {E : Type 0} → (E → E → List ℕ → Type 0) → (ProgramFault → Type 0) → E × E
+    → Outcome → Type 0
+IsBlamed Says IsDue errors result =
+    ((fault : ProgramFault) × IsDue fault × Says errors.0 errors.1 (fault_lines_of fault))
     × (result ≡ outcome.Fault)
+
+-- the host refused to write the file
+abbrev pub IsSinkRefused : ProgramFault → Type 0
+IsSinkRefused (program.Session session.Sink None (cause.Host reason)) = Unit {0}
+IsSinkRefused _ = ⊥
 
 -- nothing else happens
 abbrev pub EndsSo : {E : Type 0} → E → E → Outcome → Outcome → Type 0
 EndsSo between last ended result = (last ≡ between) × (result ≡ ended)
 
--- The last file that was made is filled up; or it is not, to the end, and its name is blamed.
-abbrev pub FillsUp : {E : Type 0} → (E → E → List ℕ → Type 0) → List ℕ × Filling → FileWrites
-    → E × E → Outcome → Outcome → Type 0
-FillsUp Says file files errors ended result =
+-- The last file that was made is filled up; or it is not, to the end, since the host refused it.
+abbrev pub FillsUp : {E : Type 0} → (E → E → List ℕ → Type 0) → Filling → FileWrites → E × E
+    → Outcome → Outcome → Type 0
+FillsUp Says to files errors ended result =
     (files.names_new ≡ files.names_old)
-    × (HoldsFilled files.held file.1 × (files.now ≡ files.before)
+    × (HoldsFilled files.held to × (files.now ≡ files.before)
     × EndsSo errors.0 errors.1 ended result
-    ⊎ HoldsFilledInPart files.held file.1 × (files.now ≡ next_count files.before)
-    × IsBlamed Says file.0 errors.0 errors.1 result)
+    ⊎ HoldsFilledInPart files.held to × (files.now ≡ next_count files.before)
+    × IsBlamed Says IsSinkRefused errors result)
 
 -- The same where it is asked for and the command went well. `same`: nothing is done.
 abbrev pub FillsIf : {E : Type 0} → (E → E → List ℕ → Type 0) → Intent → Type 0 → FileWrites → E × E
@@ -134,7 +147,7 @@ FillsIf Says intent same files errors ended result =
     ((is_well ended ≡ false) ⊎ (intent.filling ≡ None)) × same
     × EndsSo errors.0 errors.1 ended result
     ⊎ (is_well ended ≡ true) × ((to : Filling) × (intent.filling ≡ Some to)
-    × FillsUp Says (intent.name, to) files errors ended result)
+    × FillsUp Says to files errors ended result)
 
 -- A command ran, and the file that it made is filled up then. `Runs` says what the command does: to
 -- the files that it makes, whether that is nothing, to standard error, and how it ends.
@@ -158,7 +171,7 @@ TakesName Says name beside files errors ended result =
     × EndsSo errors.0 errors.1 ended result
     ⊎ (is_well ended ≡ true) × (files.names_new ≡ files.names_old)
     × (files.held.1 ≡ files.held.0) × (files.now ≡ next_count beside.now)
-    × IsBlamed Says name errors.0 errors.1 result
+    × IsBlamed Says (IsUnopened name) errors result
     ⊎ (is_well ended ≡ false) × (files.names_new ≡ files.names_old)
     × (files.held.1 ≡ files.held.0) × (files.now ≡ beside.now)
     × EndsSo errors.0 errors.1 ended result
@@ -179,15 +192,74 @@ pub record RunsBeside {M B E : Type 0} (tells : Tellings M B) (Says : E → E �
   pub takes : TakesName Says intent.name (writes tells.beside first made)
       (writes tells.real old new) (between, last) ended result
 
+-- A command ran, and what it made is filled up or placed, as is intended.
+abbrev pub RunsIntended : {M B E : Type 0} → Tellings M B → (E → E → List ℕ → Type 0) → Intent
+    → (FileWrites → Type 0 → E → Outcome → Type 0) → M × M → E → Outcome → Type 0
+RunsIntended tells Says intent Runs maker last result =
+    (intent.atomic ≡ false) × RunsFilled tells.real Says intent Runs maker.0 maker.1 last result
+    ⊎ (intent.atomic ≡ true) × RunsBeside tells Says intent Runs maker.0 maker.1 last result
+
+-- ---- what is put
+
+-- What a command puts, which it was not to put before its file is there: all of it, to the last
+-- byte, where that is so; or a beginning, where the output fails. Else nothing.
+-- `untouched`: the output is as it was.
+abbrev pub PutsHeld : {E : Type 0} → (E → E → List ℕ → Type 0) → Type 0 → List ℕ → SinkChange
+    → E × E → Outcome → Outcome → Type 0
+PutsHeld Says untouched text output errors ended result =
+    (is_well ended ≡ false) × untouched × EndsSo errors.0 errors.1 ended result
+    ⊎ (is_well ended ≡ true) × Appends output.old output.new text × (output.now ≡ output.before)
+    × EndsSo errors.0 errors.1 ended result
+    ⊎ (is_well ended ≡ true) × GivesText output.old output.new text
+    × HasFailed output.before output.now
+    × IsBlamed Says (λ fault. fault ≡ program.Output) errors result
+
+-- what is put into an output, and that it is as it was
+pub record Putting : Type 1 where
+  pub change : SinkChange
+  pub untouched : Type 0
+
+abbrev pub putting : SinkChange → Type 0 → Putting
+putting change untouched = record { change = change; untouched = untouched }
+
+-- what a command does, by what it puts, the files that it makes, whether these are none, standard
+-- error, and how it ends
+abbrev pub Running : Type 0 → Type 1
+Running E = Putting → FileWrites → Type 0 → E → Outcome → Type 0
+
+-- what is put into a line that is held
+abbrev pub held_putting : HeldLine → HeldLine → Putting
+held_putting old new = putting (record {
+  old = Some old.line;
+  new = Some new.line;
+  before = old.failures;
+  now = new.failures;
+}) (new ≡ old)
+
+-- A command ran over a line that is held, its file was filled up or placed, and what is held went
+-- out.
+pub record RunsHeld {M B E : Type 0} (tells : Tellings M B) (Says : E → E → List ℕ → Type 0)
+    (intent : Intent) (Runs : Running E) (output : Putting) (maker : M × M) (last : E)
+    (result : Outcome) : Type 0 where
+  pub first : HeldLine
+  pub held : HeldLine
+  pub text : List ℕ
+  pub between : E
+  pub ended : Outcome
+  pub none : (held_putting first held).change.old ≡ Some []
+  pub all : (held_putting first held).change.new ≡ Some text
+  pub ran : RunsIntended tells Says intent (Runs (held_putting first held)) maker between ended
+  pub puts : PutsHeld Says output.untouched text output.change (between, last) ended result
+
 -- nothing is intended
 abbrev pub IsUnplaced : Intent → Type 0
 IsUnplaced intent = (intent.atomic ≡ false) × (intent.filling ≡ None)
 
 -- A command ran, and what it made is as it is, or is filled up or placed, as is intended.
 pub record RunsPlaced {M B E : Type 0} (tells : Tellings M B) (Says : E → E → List ℕ → Type 0)
-    (intent : Intent) (Runs : FileWrites → Type 0 → E → Outcome → Type 0) (old new : M) (last : E)
+    (intent : Intent) (Runs : Running E) (output : Putting) (maker : M × M) (last : E)
     (result : Outcome) : Type 0 where
-  pub ran : IsUnplaced intent × Runs (writes tells.real old new) (new ≡ old) last result
-      ⊎ (intent.atomic ≡ false) × (intent.filling ≢ None)
-      × RunsFilled tells.real Says intent Runs old new last result
-      ⊎ (intent.atomic ≡ true) × RunsBeside tells Says intent Runs old new last result
+  pub ran : IsUnplaced intent
+      × Runs output (writes tells.real maker.0 maker.1) (maker.1 ≡ maker.0) last result
+      ⊎ (IsUnplaced intent → ⊥)
+      × RunsHeld tells Says intent Runs output maker last result

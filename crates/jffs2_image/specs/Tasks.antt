@@ -20,7 +20,7 @@ use Rattle.jffs2_image.specs.FolderRuns.{RunsExtract, RunsListing}
 use Rattle.jffs2_image.specs.Host.{BlamesCommand}
 use Rattle.jffs2_image.specs.InfoRuns.{RunsInfo}
 use Rattle.jffs2_image.specs.PackRuns.{PackAround, RunsPack}
-use Rattle.jffs2_image.specs.Placing.{RunsPlaced, Tellings, intent_of, writes}
+use Rattle.jffs2_image.specs.Placing.{Putting, Running, RunsPlaced, Tellings, intent_of, writes}
 use Rattle.jffs2_image.specs.Runs.{IsCommand, RunsCommand, Says}
 use Rattle.jffs2_image.specs.WeakRuns.{RunsWeak}
 use Rattle.jffs2_image.specs.Writes.{FileReads, FileWrites}
@@ -137,11 +137,11 @@ abbrev pub Asks : List (List ℕ) → TaskParsed → Type 0
 Asks words task = (parsed_from words ≡ Some task) × IsFaultless words
 
 -- The words ask for a task, which ran as they intend; or for none, and no file is made.
--- `maker` has the maker of files, before and after.
+-- `maker` has the maker of files, before and after; `end` standard error, and how it ends.
 abbrev pub RunsAsked : {M B E : Type 0} → Tellings M B → (E → E → List ℕ → Type 0) → List (List ℕ)
-    → (FileWrites → Type 0 → E → Outcome → Type 0) → M × M → E → Outcome → Type 0
-RunsAsked tells Says words Runs maker last result =
+    → Running E → Putting → M × M → E × Outcome → Type 0
+RunsAsked tells Says words Runs output maker end =
     ((task : TaskParsed) × Asks words task
-    × RunsPlaced tells Says (intent_of (placing_from words) task) Runs maker.0 maker.1 last result)
+    × RunsPlaced tells Says (intent_of (placing_from words) task) Runs output maker end.0 end.1)
     ⊎ (maker.1 ≡ maker.0)
-    × Runs (writes tells.real maker.0 maker.1) (maker.1 ≡ maker.0) last result
+    × Runs output (writes tells.real maker.0 maker.1) (maker.1 ≡ maker.0) end.0 end.1

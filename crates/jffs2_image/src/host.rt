@@ -1,9 +1,12 @@
 //! Files of the host: those that are read, and the one that is made.
-ghost use Rattle.std.specs.Prelude.{◌≡◌, ◌++◌, ℕ, List, [], ◌∷◌, Option, IfOk, IfErr, IfSome, OnOk, None, Some};
+ghost use Rattle.std.specs.Prelude.{◌≡◌, ◌++◌, ℕ, List, [], ◌∷◌, Option, IfOk, IfErr, IfSome, IsOk, IsSome, OnOk, None, Some, true};
+ghost use Rattle.std.specs.Fs.{new_options, with_create, with_truncate, with_write};
+ghost use Rattle.std.specs.Io.KnownBytes.{Appends};
 ghost use Rattle.jreport.specs.declared.reason.Reason.{Reason};
+ghost use Rattle.flashbase.specs.Bytes.{erased};
 ghost use Rattle.flashbase.specs.Device.{CountsErr};
-ghost use Rattle.jffs2_image.specs.Filling.{HoldsFilled, HoldsFilledInPart};
-ghost use Rattle.jffs2_image.specs.Reasons.{reason_of_last};
+ghost use Rattle.jffs2_image.specs.Filling.{HoldsFilled, HoldsFilledInPart, fill_of};
+ghost use Rattle.jffs2_image.specs.Reasons.{output_length, reason_of_last};
 ghost use Rattle.jffs2_image.specs.Host.{AreAllLoaded, CountsNotMade, GivesFile, HoldsBy, MakesBy};
 
 use crate::filling::{Filling, fill_output};
@@ -11,11 +14,12 @@ use crate::kept::KeptFiles;
 use crate::output::{BufferedOutput, Output};
 use crate::refusing::Refusing;
 use crate::source::FileSource;
-use flashbase::{DeviceFault, Source};
+use flashbase::{DeviceFault, Sink, Source};
 use jbuild::HostFiles;
 use jreport::Reason;
 use std::cell::Cell;
 use std::fs;
+use std::fs::OpenOptions;
 use std::io::Write;
 use std::rt::Files;
 
@@ -172,12 +176,16 @@ impl<'r, R: Files + AllocGlobal> Loader for FileLoader<'r, R> {
     }
 }
 
-/// Fills up a file that is there.
+/// Fills up a file that is there, from the bytes on that it took.
 pub(crate) fn fill_last<W: Write + Drop>(
     last: &mut Option<BufferedOutput<W>>,
     filling: Filling,
 ) -> Result<(), Reason>
-    ensures { IfErr result (λ reason. reason ≡ reason_of_last last.new) }
+    ensures there { IsOk result → IsSome last.old }
+    ensures filled { OnOk result (IfSome last.old (λ old. IfSome last.new (λ new. Appends
+        (⟦<BufferedOutput<W> as Sink>⟧.taken old) (⟦<BufferedOutput<W> as Output>⟧.given new)
+        (erased (fill_of filling (output_length old)))))) }
+    ensures reason { IfErr result (λ reason. reason ≡ reason_of_last last.new) }
 {
     match last {
         Some(output) => {
@@ -189,6 +197,15 @@ pub(crate) fn fill_last<W: Write + Drop>(
         }
         None => Err(Reason::Other),
     }
+}
+
+/// How the file of a name is opened that is written in its place: it is made, or cut off.
+fn written_over() -> OpenOptions
+    ensures { result ≡ with_truncate (with_create (with_write new_options true) true) true }
+{
+    let mut how = OpenOptions::new();
+    how.write(true).create(true).truncate(true);
+    how
 }
 
 /// Makes files of the system, each behind a buffer. The last one stays open, to be filled up.
@@ -226,7 +243,7 @@ impl<'r, R: Files + AllocGlobal> Maker for FileMaker<'r, R> {
     ghost last_reason = { λ s. s.reason };
 
     fn make(&mut self, name: &str) -> Result<BufferedOutput<R::File>, MakeFault> {
-        let file = match fs::create(self.rt, name) {
+        let file = match written_over().open(self.rt, name) {
             Ok(file) => file,
             Err(error) => {
                 self.failures = self.failures.wrapping_add(1);

@@ -1,6 +1,6 @@
 //! A folder of the system whose regular files are read when they are found.
 
-ghost use Rattle.std.specs.Prelude.{◌≡◌, ℕ, List, false, option_map, string_bytes, IfOk, IsFalse, IsSome, IsTrue, None, bytes_eq};
+ghost use Rattle.std.specs.Prelude.{◌≡◌, ℕ, List, false, option_map, string_bytes, IfOk, IsFalse, IsSome, IsTrue, None, OnOk, bytes_eq};
 ghost use Rattle.jffs2_image.specs.Keeping.{files_of_keeper, kept_files, kept_of, looked_size};
 ghost use Rattle.jfolder.specs.Known.{nothing};
 ghost use Rattle.jhost.specs.ReadFolders.{last_kind};
@@ -13,7 +13,7 @@ use crate::refusing::Refusing;
 use jfolder::{FolderFault, HostFolder, Looked, Names};
 use jhost::ReadFolder;
 use jreport::Reason;
-use std::alloc::Global;
+use std::alloc::{AllocError, Global};
 use std::io::Eprint;
 use std::rt::{Clock, Files};
 
@@ -94,6 +94,16 @@ impl<'r, R: Files + AllocGlobal + Clock + Eprint> KeepingFolder<'r, R> {
         }
     }
 
+    /// Remembers the size of the object of a path that was looked at.
+    fn remember(&mut self, path: &str, size: u64) -> Result<(), AllocError>
+        ensures { OnOk result (looked_size self.new path.now ≡ size) }
+    {
+        self.looked.clear();
+        self.looked.push_str(path)?;
+        self.size = size;
+        Ok(())
+    }
+
     /// Whether the file of a path was read and is kept. One that fails may do so again when it is
     /// opened for its bytes, and is told then.
     fn keep(&mut self, path: &str) -> Result<bool, FolderFault>
@@ -137,9 +147,7 @@ impl<'r, R: Files + AllocGlobal + Clock + Eprint> HostFolder for KeepingFolder<'
 
     fn look(&mut self, path: &str) -> Result<Looked, FolderFault> {
         let looked = self.folder.look(path)?;
-        self.looked.clear();
-        self.looked.push_str(path)?;
-        self.size = looked.size;
+        self.remember(path, looked.size)?;
         Ok(looked)
     }
 

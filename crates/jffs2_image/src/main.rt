@@ -29,6 +29,7 @@ mod packing;
 pub mod placing;
 pub mod program;
 mod refusing;
+mod replacing;
 pub mod source;
 pub mod system;
 pub mod tasks;

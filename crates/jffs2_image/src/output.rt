@@ -1,17 +1,18 @@
 //! Standard output, through a buffer that is emptied before a run ends.
-ghost use Rattle.std.specs.Prelude.{◌≡◌, ℕ, Bool, List, Option, IfOk, IfErr, OnOk};
+ghost use Rattle.std.specs.Prelude.{◌≡◌, ◌+◌, ◌-◌, ◌^◌, ℕ, Bool, List, [], Option, Some, IfOk, IfErr, OnOk, min};
 ghost use Rattle.std.specs.Io.KnownBytes.{Keeps};
 ghost use Rattle.std.specs.IoError.{error_kind};
 ghost use Rattle.std.specs.Io.Buffered.{writer_contents, writer_inner};
 ghost use Rattle.flashbase.specs.Device.{CountsErr, PutsOnce};
+ghost use Rattle.jffs2_image.specs.Reasons.{output_length};
 ghost use Rattle.jffs2_image.specs.Runs.{Finishes, answer_finished};
 ghost use Rattle.jffs2_image.specs.Writes.{IsBehind};
 
 use crate::refusing::Refusing;
 use flashbase::{DeviceFault, Sink};
+use jline::{LineBuffer, MAX_LINE};
 use jreport::{ProgramFault, Reason};
 use std::alloc::Global;
-use std::fs::OpenFile;
 use std::io;
 use std::io::{BufWriter, ErrorKind, Write};
 
@@ -48,6 +49,54 @@ pub(crate) fn finished<'a, A: Drop, T: Output>(
             Err(_) => Err(ProgramFault::Output),
         },
         Err(fault) => Err(fault),
+    }
+}
+
+/// A line that is held until it may go out, in a buffer that takes no memory. What it has no room
+/// for is a failure.
+#[derive(Drop)]
+pub struct HeldLine {
+    line: LineBuffer,
+    failures: u64,
+}
+
+impl HeldLine {
+    pub(crate) fn new() -> Self
+        ensures { ⟦<HeldLine as Sink>⟧.taken result ≡ Some [] }
+    {
+        HeldLine {
+            line: LineBuffer::new(),
+            failures: 0,
+        }
+    }
+
+    pub(crate) fn as_slice(&self) -> &[u8]
+        ensures { ⟦<HeldLine as Output>⟧.given self.now ≡ Some result.now }
+    {
+        self.line.as_slice()
+    }
+}
+
+impl Sink for HeldLine {
+    ghost taken = { λ s. Some s.line };
+
+    ghost failures = { λ s. s.failures };
+
+    fn put(&mut self, bytes: &[u8]) -> Result<usize, DeviceFault> {
+        if self.line.as_slice().len() + bytes.len() > MAX_LINE {
+            self.failures = self.failures.wrapping_add(1);
+            return Err(DeviceFault);
+        }
+        self.line.push_text(bytes);
+        Ok(bytes.len())
+    }
+}
+
+impl Output for HeldLine {
+    ghost given = { λ s. Some s.line };
+
+    fn finish(&mut self) -> Result<(), DeviceFault> {
+        Ok(())
     }
 }
 
@@ -103,6 +152,7 @@ impl<W: Write + Drop> BufferedOutput<W> {
 
     /// The same, which goes on with a count of failures.
     pub(crate) fn counting_from(alloc: Global, writer: W, failures: u64) -> io::Result<Self>
+        ensures none { IfOk result (λ output. output_length output ≡ 0) }
         ensures given { IfOk result
             (λ output. ⟦<BufferedOutput<W> as Output>⟧.given output ≡ W.contents writer) }
         ensures taken { IfOk result
@@ -127,16 +177,15 @@ impl<W: Write + Drop> BufferedOutput<W> {
         self.failures
     }
 
-    /// How many bytes it took, up to the greatest u64.
-    pub(crate) fn length(&self) -> u64 {
-        self.length
+    pub(crate) fn file(&self) -> &W {
+        self.writer.get_ref()
     }
-}
 
-impl<W: Write + OpenFile + Drop> BufferedOutput<W> {
-    /// Waits until what was given on is on the disk.
-    pub(crate) fn sync(&self) -> io::Result<()> {
-        self.writer.get_ref().sync_all()
+    /// How many bytes it took, up to the greatest u64.
+    pub(crate) fn length(&self) -> u64
+        ensures { result ≡ output_length self.now }
+    {
+        self.length
     }
 }
 
@@ -153,7 +202,15 @@ impl<W: Write + Drop> Sink for BufferedOutput<W> {
 
     ghost failures = { λ s. s.failures };
 
-    fn put(&mut self, bytes: &[u8]) -> Result<usize, DeviceFault> {
+    fn put(&mut self, bytes: &[u8]) -> Result<usize, DeviceFault>
+        ensures puts { PutsOnce (⟦<BufferedOutput<W> as Sink>⟧.taken self.old)
+            (⟦<BufferedOutput<W> as Sink>⟧.taken self.new)
+            (⟦<BufferedOutput<W> as Sink>⟧.failures self.old)
+            (⟦<BufferedOutput<W> as Sink>⟧.failures self.new) bytes.now result }
+        ensures counted { IfOk result
+            (λ n. output_length self.new ≡ min (output_length self.old + n) (2 ^ 64 - 1)) }
+        ensures uncounted { IfErr result (λ _. output_length self.new ≡ output_length self.old) }
+    {
         let put = write_noting(
             &mut self.writer,
             &mut self.failures,

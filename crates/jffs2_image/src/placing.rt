@@ -6,10 +6,14 @@ use crate::filling::Filling;
 use crate::host::{FileMaker, MakeFault, Maker, fill_last};
 use crate::output::{BufferedOutput, Output};
 use crate::refusing::Refusing;
+use crate::replacing::{
+    create_beside, known_now, open_in_place, rename_open, sync_folder, take_after,
+};
 use jreport::Reason;
-use std::alloc::{AllocError, Global};
-use std::fs::OpenOptions;
+use std::alloc::AllocError;
+use std::fs::Metadata;
 use std::io::{ErrorKind, Write};
+use std::os::fd::AsFd;
 use std::rt::Files;
 use std::{fs, io};
 
@@ -40,14 +44,13 @@ pub trait Placer: Maker {
         ensures count { Self.failures self.new ≡ Self.Beside.failures beside };
 }
 
-/// How many names are tried for a new file.
-const TRIES: u32 = 100;
-
 /// A file that was made for a name.
 #[derive(Drop)]
 struct Aside<F: Write + Drop> {
     /// The file that the name means.
     name: String,
+    /// The regular file that was found under that name.
+    found: Option<Metadata>,
     /// The name that the new file has, if it is one.
     beside: Option<String>,
     /// The new file, when it was taken back.
@@ -79,107 +82,95 @@ fn meant_by<R: Files + AllocGlobal>(rt: &R, name: &str) -> Result<String, AllocE
     name.to_string(rt.alloc())
 }
 
-/// A name beside this one.
-fn name_beside(alloc: Global, name: &str, i: u32) -> Result<String, AllocError> {
-    if i == 0 {
-        format!(in alloc; "{name}.tmp")
-    } else {
-        format!(in alloc; "{name}.tmp{i}")
-    }
-}
-
-/// Makes a file that was not there.
-fn create_new<R: Files + AllocGlobal>(rt: &R, name: &str) -> io::Result<R::File> {
-    OpenOptions::new()
-        .write(true)
-        .create_new(true)
-        .open(rt, name)
-}
-
-/// Makes a new file beside the one of a name.
-fn create_beside<R: Files + AllocGlobal>(
-    rt: &R,
-    name: &str,
-) -> Result<(R::File, String), MakeFault> {
-    for i in 0..TRIES {
-        let Ok(beside) = name_beside(rt.alloc(), name, i) else {
-            return Err(MakeFault::OutOfMemory);
-        };
-        match create_new(rt, beside.as_str()) {
-            Ok(file) => return Ok((file, beside)),
-            Err(error) if error.kind() == ErrorKind::AlreadyExists => {}
-            Err(error) => return Err(MakeFault::NotMade(Reason::of(&error))),
-        }
-    }
-    Err(MakeFault::NotMade(Reason::Exists))
-}
-
-/// Makes the file that is written for a name: a new one, with the permissions of a regular file
-/// that is there, or what is there and is none.
+/// Makes the file that is written for a name: a new one, or what is there and is no regular file.
 fn create_aside<R: Files + AllocGlobal>(
     rt: &R,
     name: String,
-) -> Result<(R::File, Aside<R::File>), MakeFault> {
-    let there = fs::metadata(rt, name.as_str());
-    if let Ok(known) = &there {
+) -> io::Result<(R::File, Aside<R::File>)> {
+    let found = fs::metadata(rt, name.as_str()).ok();
+    if let Some(known) = &found {
         if !known.is_file() {
-            return match fs::create(rt, name.as_str()) {
-                Ok(file) => Ok((file, aside_of(name, None))),
-                Err(error) => Err(MakeFault::NotMade(Reason::of(&error))),
-            };
+            let file = open_in_place(rt, name.as_str())?;
+            return Ok((file, aside_of(name, None, None)));
         }
     }
-    match create_beside(rt, name.as_str()) {
-        Ok((file, beside)) => {
-            if let Ok(known) = there {
-                let _ = fs::set_permissions(rt, beside.as_str(), known.permissions());
-            }
-            Ok((file, aside_of(name, Some(beside))))
-        }
-        Err(fault) => Err(fault),
-    }
+    let (file, beside) = create_beside(rt, name.as_str(), found.is_some())?;
+    Ok((file, aside_of(name, found, Some(beside))))
 }
 
-fn aside_of<F: Write + Drop>(name: String, beside: Option<String>) -> Aside<F> {
+fn aside_of<F: Write + Drop>(
+    name: String,
+    found: Option<Metadata>,
+    beside: Option<String>,
+) -> Aside<F> {
     Aside {
         name,
+        found,
         beside,
         output: None,
     }
 }
 
 /// Removes the new file.
-fn remove<R: Files + AllocGlobal>(rt: &R, aside: Aside<R::File>) {
-    let Aside { beside, .. } = aside;
+fn remove<R: Files + AllocGlobal>(rt: &R, beside: Option<String>) {
     if let Some(beside) = beside {
         let _ = fs::remove_file(rt, beside.as_str());
     }
 }
 
-/// Gives the new file its name, when it is on the disk.
-fn take_name<R: Files + AllocGlobal>(rt: &R, aside: &Aside<R::File>) -> Result<(), Reason> {
-    let Some(output) = &aside.output else {
-        return Err(Reason::Other);
-    };
-    let Some(beside) = &aside.beside else {
-        return Ok(());
-    };
-    if let Err(error) = output.sync() {
-        return Err(Reason::of(&error));
+/// Gives a new file that is complete its name.
+fn take_name<R: Files + AllocGlobal>(
+    rt: &R,
+    file: &R::File,
+    beside: &str,
+    name: &str,
+    found: Option<Metadata>,
+) -> io::Result<()>
+where
+    R::File: AsFd,
+{
+    if let Some(found) = found {
+        take_after(file, &known_now(rt, name, found));
     }
-    match fs::rename(rt, beside.as_str(), aside.name.as_str()) {
-        Ok(()) => Ok(()),
-        Err(error) => Err(Reason::of(&error)),
-    }
+    rename_open(rt, file, beside, name)?;
+    // OUT is there, so this is no fault.
+    let _ = sync_folder(rt, name);
+    Ok(())
 }
 
 /// The same, or it is removed.
-fn place_aside<R: Files + AllocGlobal>(rt: &R, aside: Aside<R::File>) -> Result<(), Reason> {
-    let placed = take_name(rt, &aside);
-    if placed.is_err() {
-        remove(rt, aside);
+fn place_aside<R: Files + AllocGlobal>(rt: &R, aside: Aside<R::File>) -> Result<(), Reason>
+where
+    R::File: AsFd,
+{
+    let Aside {
+        name,
+        found,
+        beside,
+        output,
+    } = aside;
+    let Some(output) = output else {
+        remove(rt, beside);
+        return Err(Reason::Other);
+    };
+    let Some(beside) = beside else {
+        return Ok(());
+    };
+    match take_name(rt, output.file(), beside.as_str(), name.as_str(), found) {
+        Ok(()) => Ok(()),
+        Err(error) => {
+            remove(rt, Some(beside));
+            Err(Reason::of(&error))
+        }
     }
-    placed
+}
+
+/// Why no file was made, by the error of the host.
+fn make_fault(error: &io::Error) -> MakeFault {
+    match error.kind() {
+        ErrorKind::OutOfMemory => MakeFault::OutOfMemory,
+        _ => MakeFault::NotMade(Reason::of(error)),
+    }
 }
 
 impl<'r, R: Files + AllocGlobal> BesideMaker<'r, R> {
@@ -188,9 +179,12 @@ impl<'r, R: Files + AllocGlobal> BesideMaker<'r, R> {
         if self.aside.is_some() {
             return Err(MakeFault::NotMade(Reason::Other));
         }
-        match meant_by(self.rt, name) {
-            Ok(name) => create_aside(self.rt, name),
-            Err(_) => Err(MakeFault::OutOfMemory),
+        let Ok(name) = meant_by(self.rt, name) else {
+            return Err(MakeFault::OutOfMemory);
+        };
+        match create_aside(self.rt, name) {
+            Ok(made) => Ok(made),
+            Err(error) => Err(make_fault(&error)),
         }
     }
 }
@@ -221,7 +215,7 @@ impl<'r, R: Files + AllocGlobal> Maker for BesideMaker<'r, R> {
                 Ok(output)
             }
             Err(_) => {
-                remove(self.rt, aside);
+                remove(self.rt, aside.beside);
                 Err(MakeFault::OutOfMemory)
             }
         }
@@ -251,7 +245,10 @@ impl<'r, R: Files + AllocGlobal> Maker for BesideMaker<'r, R> {
     }
 }
 
-impl<'r, R: Files + AllocGlobal> Placer for FileMaker<'r, R> {
+impl<'r, R: Files + AllocGlobal> Placer for FileMaker<'r, R>
+where
+    R::File: AsFd,
+{
     type Beside = BesideMaker<'r, R>;
 
     fn beside(&self) -> BesideMaker<'r, R> {
@@ -290,7 +287,7 @@ impl<'r, R: Files + AllocGlobal> Placer for FileMaker<'r, R> {
         } = beside;
         self.failures = failures;
         if let Some(aside) = aside {
-            remove(rt, aside);
+            remove(rt, aside.beside);
         }
     }
 }

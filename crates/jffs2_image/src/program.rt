@@ -7,7 +7,7 @@ ghost use Rattle.jreport.specs.Advice.{fault_lines_of};
 ghost use Rattle.jffs2_image.specs.Host.{Blames, BlamesCommand, BlamesDecompress, BlamesFor, HasFailed, MakesFile};
 ghost use Rattle.jffs2_image.specs.WeakRuns.{HasNotes};
 ghost use Rattle.jffs2_image.specs.Tasks.{RunsAsked, RunsTask, fills, passage, reads};
-ghost use Rattle.jffs2_image.specs.Placing.{SaysOn, telling, tellings, writes};
+ghost use Rattle.jffs2_image.specs.Placing.{SaysOn, putting, telling, tellings, writes};
 ghost use Rattle.jffs2_image.specs.Writes.{GivesText, Held};
 ghost use Rattle.jffs2_image.specs.Runs.{IsSaid, Meets, MeetsCommand, MeetsWhole, RunsCommand, Says, note_after, outcome_after, said_after, success_of};
 ghost use Rattle.flashbase.specs.Sinks.{PutsTo, change_of};
@@ -247,18 +247,18 @@ pub(crate) fn run_whole<'a, E: Order, L: Loader, M: Maker, T: Output>(
 }
 
 /// Puts a text that answers the command line.
-fn put_answer<T: Sink>(text: &str, sink: &mut T) -> Result<(), ProgramFault<'static>>
+fn put_answer<T: Sink>(text: &[u8], sink: &mut T) -> Result<(), ProgramFault<'static>>
     ensures puts { PutsTo T.Sink sink.old sink.new text.now result }
     ensures fault { IfErr result (λ fault. fault ≡ ProgramFault.Output) }
 {
-    match put_all(sink, text.as_bytes()) {
+    match put_all(sink, text) {
         Ok(()) => Ok(()),
         Err(_) => Err(ProgramFault::Output),
     }
 }
 
 /// The same to the last byte.
-fn put_help<T: Output>(text: &str, output: &mut T) -> Result<(), ProgramFault<'static>>
+pub(crate) fn put_whole<T: Output>(text: &[u8], output: &mut T) -> Result<(), ProgramFault<'static>>
     ensures ok { OnOk result (Appends (T.taken output.old) (T.given output.new) text.now
         × (T.failures output.new ≡ T.failures output.old)) }
     ensures part { IfErr result
@@ -315,7 +315,7 @@ fn answer_refusal<T: Output>(fault: RequestFault, output: &mut T) -> Result<Succ
         (passage T.taken T.given T.failures output.old output.new) result }
 {
     match fault {
-        RequestFault::Help { text } => match put_help(text.as_str(), output) {
+        RequestFault::Help { text } => match put_whole(text.as_bytes(), output) {
             Ok(()) => Ok(Success::Shown(0)),
             Err(fault) => Err(Stop::Fault(fault)),
         },
@@ -439,23 +439,26 @@ pub fn run<L: Loader, M: Placer, D: Folders, T: Output, E: Sink>(
         RunsAsked (tellings (telling M.names M.held M.failures)
         (telling M.Beside.names M.Beside.held M.Beside.failures))
         (SaysOn E.taken E.failures)
-        words (λ files same last ended. RunsTask words (record {
+        words (λ put files same last ended. RunsTask words (record {
           reading = reads L.told L.failures loader.old loader.new;
           writing = files;
           folders = fills D.made D.reads folders.old folders.new;
-          output = passage T.taken T.given T.failures output.old output.new;
+          output = put.change;
           errors = passage E.taken E.taken E.failures errors.old last;
         }) (record {
           loader = loader.new ≡ loader.old;
           maker = same;
           folders = folders.new ≡ folders.old;
-          output = output.new ≡ output.old;
+          output = put.untouched;
           errors = last ≡ errors.old;
-        }) ended) (maker.old, maker.new) errors.new result }
-    // With `--atomic`, a fault leaves the files of the host as they were.
+        }) ended) (putting (passage T.taken T.given T.failures output.old output.new)
+        (output.new ≡ output.old)) (maker.old, maker.new) (errors.new, result) }
+    // With `--atomic`, a fault leaves the files of the host as they were, unless it is that of
+    // standard output, which comes when they are there.
     ensures atomic { (placing_from (map (λ w. w.now) args.now)).atomic ≡ true
         → result ≡ Outcome.Fault → (M.names maker.new ≡ M.names maker.old)
-        × (M.held maker.new ≡ M.held maker.old) }
+        × (M.held maker.new ≡ M.held maker.old)
+        ⊎ HasFailed (T.failures output.old) (T.failures output.new) }
 {
     match asked(alloc, args) {
         Ok(asked) => run_placed(alloc, loader, maker, folders, asked, output, errors),

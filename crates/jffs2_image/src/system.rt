@@ -1,7 +1,7 @@
 //! Folders of the system, as the commands ask for them.
 ghost use Rattle.std.specs.Prelude.{◌≡◌, ◌↔◌, IfOk, IsTrue, IsFalse, IsSome, None};
 ghost use Rattle.jfolder.specs.Known.{nothing};
-ghost use Rattle.jffs2_image.specs.Keeping.{keeping_root, kept_files};
+ghost use Rattle.jffs2_image.specs.Keeping.{KeepsInSilence, keeping_root, kept_files};
 ghost use Rattle.jhost.specs.FilledFolders.{filled_kind, filled_root};
 ghost use Rattle.jhost.specs.Silence.{FillsInSilence};
 ghost use Rattle.jreport.specs.Reasons.{reason_of_kind};
@@ -89,6 +89,7 @@ impl<'r, R: Files + AllocGlobal + Clock + Eprint> Folders for SystemFolders<'r, 
             ≡ ⟦<SystemFolders<'r, R> as Folders>⟧.made self.old }
         ensures root { IfOk result (λ folder. keeping_root folder ≡ name.now) }
         ensures kept { IfOk result (λ folder. kept_files folder ≡ None) }
+        ensures silent { IsTrue quiet → IfOk result (λ folder. KeepsInSilence folder) }
     {
         let folder = ReadFolder::new(self.rt, name, tells(self.is_terminal, quiet))?;
         Ok(KeepingFolder::new(self.rt.alloc(), folder, None))
@@ -101,6 +102,7 @@ impl<'r, R: Files + AllocGlobal + Clock + Eprint> Folders for SystemFolders<'r, 
             ≡ ⟦<SystemFolders<'r, R> as Folders>⟧.made self.old }
         ensures root { IfOk result (λ folder. keeping_root folder ≡ name.now) }
         ensures kept { IfOk result (λ folder. IsSome (kept_files folder)) }
+        ensures silent { IsTrue quiet → IfOk result (λ folder. KeepsInSilence folder) }
     {
         let folder = ReadFolder::new(self.rt, name, tells(self.is_terminal, quiet))?;
         let loader = FileLoader::new(self.rt, self.kept);

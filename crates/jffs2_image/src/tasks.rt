@@ -1,7 +1,7 @@
 //! A task is run, and the file that it wrote is filled up and takes its name.
-ghost use Rattle.std.specs.Prelude.{◌≡◌, ℕ, List};
+ghost use Rattle.std.specs.Prelude.{◌≡◌, ℕ, List, Some, true};
 ghost use Rattle.jcommand.specs.Parsed.{task_view, view};
-ghost use Rattle.jffs2_image.specs.Placing.{FillsIf, FillsUp, RunsBeside, RunsFilled, RunsPlaced, SaysOn, TakesName, flash_end, flash_end_of, is_well, intent_of, telling, tellings, writes, written_by, written_by_request};
+ghost use Rattle.jffs2_image.specs.Placing.{FillsIf, FillsUp, PutsHeld, RunsBeside, RunsFilled, RunsHeld, RunsIntended, RunsPlaced, SaysOn, TakesName, flash_end, flash_end_of, is_well, intent_of, putting, telling, tellings, writes, written_by, written_by_request};
 ghost use Rattle.jffs2_image.specs.Tasks.{Asks, RunsTask, fills, order_asked, passage, reads};
 
 use crate::clashes::run_apart;
@@ -13,16 +13,17 @@ use crate::filling::Filling;
 use crate::folders::{Folders, run_extract, run_listing};
 use crate::host::{Loader, Maker};
 use crate::info::run_info;
-use crate::output::Output;
+use crate::output::{HeldLine, Output};
 use crate::packing::run_pack;
 use crate::placing::Placer;
-use crate::program::{report_fault, run_image};
+use crate::program::{put_whole, report_fault, run_image};
 use crate::weak::run_weak;
 use byteorder::{BigEndian, LittleEndian};
 use flashbase::Sink;
 use jcommand::{Asked, Options, Outcome, Placing, Request, Task};
+use jlog::SessionFault;
 use jnode::{Endian, Order};
-use jreport::{ProgramFault, Unopened};
+use jreport::{Cause, ProgramFault, Unopened};
 use std::alloc::Global;
 
 /// The end of a flash of so many blocks.
@@ -91,21 +92,27 @@ fn is_well(ended: Outcome) -> bool
     }
 }
 
-/// Fills up the file of a name, which was made last.
+/// Fills up the file that was made last.
 fn fill_up<M: Maker, E: Sink>(
     maker: &mut M,
-    name: &str,
     filling: Filling,
     ended: Outcome,
     errors: &mut E,
 ) -> Outcome
     ensures { FillsUp (SaysOn E.taken E.failures)
-        (name.now, filling) (writes (telling M.names M.held M.failures) maker.old maker.new)
+        filling (writes (telling M.names M.held M.failures) maker.old maker.new)
         (errors.old, errors.new) ended result }
 {
     match maker.fill_up(filling) {
         Ok(()) => ended,
-        Err(reason) => report_fault(&ProgramFault::File(Unopened { name, reason }), errors),
+        Err(reason) => {
+            let fault = ProgramFault::Session {
+                fault: SessionFault::Sink,
+                line: None,
+                cause: Cause::Host(reason),
+            };
+            report_fault(&fault, errors)
+        }
     }
 }
 
@@ -128,8 +135,8 @@ fn fill_if<'a, M: Maker, E: Sink>(
     if !is_well(ended) {
         return ended;
     }
-    let (name, filling) = written_by(task);
-    fill_up(maker, name, filling, ended, errors)
+    let (_, filling) = written_by(task);
+    fill_up(maker, filling, ended, errors)
 }
 
 /// Gives the file that was made beside it the name of one, where the task went well.
@@ -328,8 +335,8 @@ fn run_beside<'a, L: Loader, M: Placer, D: Folders, T: Output, E: Sink>(
     settle(maker, beside, name, ended, errors)
 }
 
-/// Runs a task, and does about the file that it writes what is asked for.
-pub fn run_placed<'a, L: Loader, M: Placer, D: Folders, T: Output, E: Sink>(
+/// Runs a task, and fills up the file that it writes or gives it its name, as is asked for.
+fn run_intended<'a, L: Loader, M: Placer, D: Folders, T: Output, E: Sink>(
     alloc: Global,
     loader: &mut L,
     maker: &mut M,
@@ -339,7 +346,7 @@ pub fn run_placed<'a, L: Loader, M: Placer, D: Folders, T: Output, E: Sink>(
     errors: &mut E,
 ) -> Outcome
     ensures { (words : List (List ℕ)) → Asks words (task_view asked.entry.task)
-        → RunsPlaced (tellings (telling M.names M.held M.failures)
+        → RunsIntended (tellings (telling M.names M.held M.failures)
         (telling M.Beside.names M.Beside.held M.Beside.failures))
         (SaysOn E.taken E.failures)
         (intent_of asked.entry.placing (task_view asked.entry.task))
@@ -355,12 +362,105 @@ pub fn run_placed<'a, L: Loader, M: Placer, D: Folders, T: Output, E: Sink>(
           folders = folders.new ≡ folders.old;
           output = output.new ≡ output.old;
           errors = last ≡ errors.old;
-        }) ended) maker.old maker.new errors.new result }
+        }) ended) (maker.old, maker.new) errors.new result }
 {
     if asked.placing.atomic {
         run_beside(alloc, loader, maker, folders, asked, output, errors)
-    } else if asked.placing.pad {
+    } else {
         run_filled(alloc, loader, maker, folders, asked, output, errors)
+    }
+}
+
+/// Puts what a task put while it was held, if all went well.
+fn put_held<T: Output, E: Sink>(
+    text: &[u8],
+    ended: Outcome,
+    output: &mut T,
+    errors: &mut E,
+) -> Outcome
+    ensures { PutsHeld (SaysOn E.taken E.failures) (output.new ≡ output.old) text.now
+        (passage T.taken T.given T.failures output.old output.new)
+        (errors.old, errors.new) ended result }
+{
+    if !is_well(ended) {
+        return ended;
+    }
+    match put_whole(text, output) {
+        Ok(()) => ended,
+        Err(fault) => report_fault(&fault, errors),
+    }
+}
+
+/// Runs a task, and does about the file that it writes what is asked for. What it puts is held
+/// until that is done.
+fn run_held<'a, L: Loader, M: Placer, D: Folders, T: Output, E: Sink>(
+    alloc: Global,
+    loader: &mut L,
+    maker: &mut M,
+    folders: &mut D,
+    asked: Asked<'a>,
+    output: &mut T,
+    errors: &mut E,
+) -> Outcome
+    ensures { (words : List (List ℕ)) → Asks words (task_view asked.entry.task)
+        → RunsHeld (tellings (telling M.names M.held M.failures)
+        (telling M.Beside.names M.Beside.held M.Beside.failures))
+        (SaysOn E.taken E.failures)
+        (intent_of asked.entry.placing (task_view asked.entry.task))
+        (λ put files same last ended. RunsTask words (record {
+          reading = reads L.told L.failures loader.old loader.new;
+          writing = files;
+          folders = fills D.made D.reads folders.old folders.new;
+          output = put.change;
+          errors = passage E.taken E.taken E.failures errors.old last;
+        }) (record {
+          loader = loader.new ≡ loader.old;
+          maker = same;
+          folders = folders.new ≡ folders.old;
+          output = put.untouched;
+          errors = last ≡ errors.old;
+        }) ended) (putting (passage T.taken T.given T.failures output.old output.new)
+        (output.new ≡ output.old)) (maker.old, maker.new) errors.new result }
+{
+    let mut held = HeldLine::new();
+    let ended = run_intended(alloc, loader, maker, folders, asked, &mut held, errors);
+    put_held(held.as_slice(), ended, output, errors)
+}
+
+/// Runs a task, and does about the file that it writes what is asked for.
+pub fn run_placed<'a, L: Loader, M: Placer, D: Folders, T: Output, E: Sink>(
+    alloc: Global,
+    loader: &mut L,
+    maker: &mut M,
+    folders: &mut D,
+    asked: Asked<'a>,
+    output: &mut T,
+    errors: &mut E,
+) -> Outcome
+    ensures { (words : List (List ℕ)) → Asks words (task_view asked.entry.task)
+        → RunsPlaced (tellings (telling M.names M.held M.failures)
+        (telling M.Beside.names M.Beside.held M.Beside.failures))
+        (SaysOn E.taken E.failures)
+        (intent_of asked.entry.placing (task_view asked.entry.task))
+        (λ put files same last ended. RunsTask words (record {
+          reading = reads L.told L.failures loader.old loader.new;
+          writing = files;
+          folders = fills D.made D.reads folders.old folders.new;
+          output = put.change;
+          errors = passage E.taken E.taken E.failures errors.old last;
+        }) (record {
+          loader = loader.new ≡ loader.old;
+          maker = same;
+          folders = folders.new ≡ folders.old;
+          output = put.untouched;
+          errors = last ≡ errors.old;
+        }) ended) (putting (passage T.taken T.given T.failures output.old output.new)
+        (output.new ≡ output.old)) (maker.old, maker.new) errors.new result }
+{
+    if asked.placing.pad {
+        run_held(alloc, loader, maker, folders, asked, output, errors)
+    } else if asked.placing.atomic {
+        run_held(alloc, loader, maker, folders, asked, output, errors)
     } else {
         run_task(alloc, loader, maker, folders, asked.task, output, errors)
     }

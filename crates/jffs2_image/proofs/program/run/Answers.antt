@@ -55,4 +55,4 @@ returns-in-Err-clause-placed g c = inr (
 )
 
 pub returns-in-Err-clause-atomic : goal.returns-in-Err-clause-atomic
-returns-in-Err-clause-atomic g c = λ yes fault. (refl, refl)
+returns-in-Err-clause-atomic g c = λ yes fault. inl (refl, refl)

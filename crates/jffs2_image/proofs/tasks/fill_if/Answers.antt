@@ -15,4 +15,4 @@ pub returns : goal.returns
 returns g c =
     let to : Filling = c.written_by-filling.result.1 in
     let padded = ap (λ b. if_padded b (written_by (task_view c.args.task)).1) (is_set c.args.placing.pad c.if-not-placing.false) ∙ ap Some (sym c.written_by-filling.ensures.filling) in
-    inr (sym c.is_well.ensures ∙ c.if-not-is_well.false, (to, padded, rw (← c.written_by-filling.ensures.name) c.fill_up.ensures))
+    inr (sym c.is_well.ensures ∙ c.if-not-is_well.false, (to, padded, c.fill_up.ensures))

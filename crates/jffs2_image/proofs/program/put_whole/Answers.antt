@@ -1,5 +1,5 @@
 use Rattle.jffs2_image.proofs.FinishLemmas.{if_failed, text_failed, text_out, text_part}
-use Rattle.jffs2_image.proofs.program.put_help.Goals as goal
+use Rattle.jffs2_image.proofs.program.put_whole.Goals as goal
 
 pub returns-clause-ok : goal.returns-clause-ok
 returns-clause-ok g c = rw c.finished.ensures.2 (text_out _ _ _ _ _ _ _ _ c.put_answer-answer.result c.finished.ensures.0 c.put_answer-answer.ensures.puts c.finished.ensures.1)
