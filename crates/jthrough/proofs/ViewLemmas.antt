@@ -1,7 +1,8 @@
 -- A view of an image, extent by extent.
-use Rattle.std.proofs.Common.{◌≡◌, ℕ, ◌<◌, ◌≤◌, ◌+◌, Bool, List, [], ◌∷◌, ◌++◌, length, None, Some, Option, refl, sym, ap, subst, ◌∙◌, arith, append_assoc, inl, inr, ⊎_elim}
+use Rattle.std.proofs.Common.{◌≡◌, ℕ, ◌<◌, ◌≤◌, ◌+◌, Bool, true, false, List, [], ◌∷◌, ◌++◌, length, None, Some, Option, refl, sym, ap, subst, ◌∙◌, arith, append_assoc, inl, inr, ⊎_elim}
 use Rattle.std.specs.Prelude.{◌||◌, Contains, filter_map, option_to_list}
 use Rattle.std.specs.List.{cons_option, flat_map}
+use Rattle.std.specs.Option.{is_some}
 use Rattle.std.proofs.lemmas.List.{append-nil}
 use Rattle.std.proofs.lemmas.List.Elements.{Contains-append_left, Contains-append_right, Contains-append_cases, filter_map-append}
 use Rattle.std.proofs.lemmas.Grind.{flat_map-append}
@@ -10,21 +11,42 @@ use Rattle.jnode.specs.declared.node.NodeRef.{NodeRef}
 use Rattle.jnode.specs.declared.node.Seen.{Seen}
 use Rattle.jnode.specs.declared.node.Seen.TheVariants as seen
 use Rattle.jnode.specs.declared.order.Endian.{Endian}
-use Rattle.jscan.specs.Extents.{sighted}
+use Rattle.jscan.specs.Extents.{sighted, sighted_by}
 use Rattle.jscan.specs.Findings.{finding_of}
 use Rattle.jscan.specs.Image.{sightings}
 use Rattle.jscan.specs.Scans.{IsScannable, image_extents, findings, forbids_writing, is_read_only}
 use Rattle.jscan.specs.declared.extent.Extent.{Extent}
+use Rattle.jscan.specs.declared.extent.ExtentKind.{ExtentKind}
+use Rattle.jscan.specs.declared.extent.ExtentKind.TheVariants.{Tiled, Erased, OtherOrder, Dirt}
 use Rattle.jscan.specs.declared.finding.Finding.{Finding}
 use Rattle.jscan.proofs.ImageLemmas.{image_sighted}
 use Rattle.jscan.proofs.PartialScanLemmas.{any_forbids, cons_append, or_again, or_false}
 use Rattle.jexpand.specs.Expanded.{expanded_node, tile_content, contents_of_tiles}
 use Rattle.jview.specs.Through.{greatest_contents, through_fault}
-use Rattle.jthrough.specs.MountsThrough.{HasTileFault, IsRefusedBy}
+use Rattle.jthrough.specs.Refusals.{HasTileFault, IsRefusedBy}
 use Rattle.jthrough.specs.View.{IsViewBegun, BeginWith, AddsTile, RefusesTile, TakesTile, HasTiles, EndsView, IsViewOf, kept_tile, placed_node, placed_nodes}
 use Rattle.jthrough.specs.declared.fault.ViewFault.{ViewFault}
 use Rattle.jthrough.specs.declared.fault.ViewFault.TheVariants as fault
 use Rattle.jthrough.specs.declared.view.View.{View}
+
+-- ---- what an extent is, and what refuses
+
+pub sighted_tile : (s : Extent) (what : Seen) → s.kind ≡ Tiled what → sighted s ≡ Some (s.addr, what)
+sighted_tile s what is = ap (sighted_by s.addr) is
+
+pub sighted_none : (addr : ℕ) (kind : ExtentKind) → ((what : Seen) → kind ≡ Tiled what → ⊥) → sighted_by addr kind ≡ None
+sighted_none addr (Tiled what) isnt = absurd (isnt what refl)
+sighted_none addr Erased isnt = refl
+sighted_none addr OtherOrder isnt = refl
+sighted_none addr Dirt isnt = refl
+
+pub refused_some : (o : Option ViewFault) (b : Bool) → b ≡ is_some o → b ≡ true → (why : ViewFault) × (o ≡ Some why)
+refused_some None b is so = let bad : false ≡ true = sym is ∙ so in cc
+refused_some (Some why) b is so = (why, refl)
+
+pub refused_none : (o : Option ViewFault) (b : Bool) → b ≡ is_some o → b ≡ false → o ≡ None
+refused_none None b is so = refl
+refused_none (Some why) b is so = let bad : true ≡ false = sym is ∙ so in cc
 
 -- ---- a tile that is kept, or not
 

@@ -1,2 +1,2 @@
-pub mod MountsThrough
+pub mod Refusals
 pub mod View

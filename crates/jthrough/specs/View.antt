@@ -12,7 +12,7 @@ use Rattle.jexpand.specs.Expanded.{expanded_node, tile_content, contents_of_tile
 use Rattle.jmount.specs.declared.fault.MountFault.{MountFault}
 use Rattle.jmount.specs.declared.fault.MountFault.TheVariants as mount
 use Rattle.jview.specs.Through.{greatest_contents, through_fault}
-use Rattle.jthrough.specs.MountsThrough.{HasTileFault, IsRefusedBy, PassesContents}
+use Rattle.jthrough.specs.Refusals.{HasTileFault, IsRefusedBy, PassesContents}
 use Rattle.jthrough.specs.declared.fault.ViewFault.{ViewFault}
 use Rattle.jthrough.specs.declared.fault.ViewFault.TheVariants as fault
 use Rattle.jthrough.specs.declared.view.View.{View}

@@ -4,7 +4,7 @@ ghost use Rattle.std.specs.Prelude.{◌≡◌, ◌≢◌, None, IfOk, IfErr, OnO
 ghost use Rattle.jscan.specs.Image.{is_block_size, sightings};
 ghost use Rattle.jexpand.specs.Expanded.{tile_content};
 ghost use Rattle.jview.specs.Through.{through_fault};
-ghost use Rattle.jthrough.specs.MountsThrough.{HasTileFault};
+ghost use Rattle.jthrough.specs.Refusals.{HasTileFault};
 ghost use Rattle.jthrough.specs.View.{IsUnviewed, IsViewOf, TakesTile};
 
 use crate::fault::ViewFault;
