@@ -281,7 +281,7 @@ fn methods() -> &'static [(u8, bool)] {
         (5, false),
         (6, true),
         (7, true),
-        (8, false),
+        (8, true),
     ]
 }
 
