@@ -7,7 +7,6 @@ so that other work on the machine meets both. It prints the least processor time
 ratio. The hostile node is 4 KiB of blocks that each have codes of 15 bits of their own. Needs cc, zlib1g-dev and liblzo2-dev. The
 programs are those that `rt run` built here, or in CRATES.
 """
-import glob
 import os
 import random
 import subprocess
@@ -16,7 +15,7 @@ import sys
 HERE = os.path.dirname(os.path.abspath(__file__))
 sys.path.insert(0, os.path.join(HERE, "../tests/peers"))
 import streams  # noqa: E402
-from measuring import taken  # noqa: E402
+from measuring import documents, least_in_turn, machine_code  # noqa: E402
 
 FOLDER = os.path.abspath(sys.argv[1])
 RUNS = int(sys.argv[2]) if len(sys.argv) > 2 else 7
@@ -30,18 +29,6 @@ PACKERS = (
     ("lzo1x_999", "lzo", lambda piece: streams.lzo_packed(piece, "lzo1x_999_compress")),
     ("rtime", "rtime", streams.rtime_packed),
 )
-
-
-def text():
-    """English: the documents."""
-    return b"".join(open(name, "rb").read() for name in sorted(glob.glob(f"{HERE}/../docs/*.md")))
-
-
-def machine_code():
-    """What stands in the middle of a program, which is code."""
-    with open(os.path.realpath("/bin/bash"), "rb") as file:
-        code = file.read()
-    return code[len(code) // 4 :]
 
 
 def pieces_of(content):
@@ -81,22 +68,14 @@ def compare(name, file, count, bytes_in):
     """Runs both on a file, and prints what a stream takes, and the ratio."""
     rounds = max(1, 40_000 // count)
     commands = [[program, file, str(rounds)] for program in (f"{CRATES}/bench_inflate/out/bench_inflate", f"{FOLDER}/inflate")]
-    told, times = set(), ([], [])
-    for _ in range(RUNS):
-        for words, tries in zip(commands, times):
-            tries.append(taken(words, FOLDER)[0])
-            with open(f"{FOLDER}/out", "rb") as out:
-                told.add(out.read())
-    if len(told) != 1:
-        sys.exit(f"{name}: the sums differ: {told}")
-    ours, theirs = (min(tries) / rounds / count * 1e6 for tries in times)
+    ours, theirs = (seconds / rounds / count * 1e6 for seconds in least_in_turn(commands, FOLDER, RUNS))
     print(f"{name:24} {bytes_in:5} bytes  ours {ours:7.2f} us  C {theirs:7.2f} us {ours / theirs:6.2f} times", flush=True)
 
 
 def main():
     os.makedirs(FOLDER, exist_ok=True)
     subprocess.run(["cc", "-O2", "-o", f"{FOLDER}/inflate", f"{HERE}/inflate.c", "-lz", "-llzo2"], check=True)
-    kinds = {"text": text(), "machine code": machine_code(), "random bytes": random.Random(1).randbytes(PIECE * PIECES)}
+    kinds = {"text": documents(), "machine code": machine_code(), "random bytes": random.Random(1).randbytes(PIECE * PIECES)}
     cases = []
     for packer, method, pack in PACKERS:
         for kind, content in kinds.items():

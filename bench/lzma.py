@@ -11,7 +11,7 @@ import os
 import subprocess
 import sys
 
-from measuring import taken
+from measuring import documents, least_in_turn, machine_code
 
 HERE = os.path.dirname(os.path.abspath(__file__))
 FOLDER = os.path.abspath(sys.argv[1])
@@ -29,26 +29,9 @@ def peer():
     return module
 
 
-def contents():
-    documents = sorted(name for name in os.listdir(f"{HERE}/../docs") if name.endswith(".md"))
-    yield "text", b"".join(open(f"{HERE}/../docs/{name}", "rb").read() for name in documents)
-    with open(os.path.realpath("/bin/bash"), "rb") as file:
-        code = file.read()
-    yield "machine code", code[len(code) // 4 :]
-    yield "zeros", bytes(PIECE * PIECES)
-
-
 def compare(name, file, made):
     commands = [[program, file, str(ROUNDS)] for program in (f"{CRATES}/bench_inflate/out/bench_inflate", f"{FOLDER}/lzma")]
-    told, times = set(), ([], [])
-    for _ in range(RUNS):
-        for words, tries in zip(commands, times):
-            tries.append(taken(words, FOLDER)[0])
-            with open(f"{FOLDER}/out", "rb") as out:
-                told.add(out.read())
-    if len(told) != 1:
-        sys.exit(f"{name}: the sums differ: {told}")
-    ours, theirs = (min(tries) / ROUNDS / len(made) * 1e6 for tries in times)
+    ours, theirs = (seconds / ROUNDS / len(made) * 1e6 for seconds in least_in_turn(commands, FOLDER, RUNS))
     packed = sum(map(len, made)) // len(made)
     print(f"{name:14} {packed:5} bytes  ours {ours:7.2f} us  C {theirs:7.2f} us {ours / theirs:6.2f} times", flush=True)
 
@@ -57,7 +40,8 @@ def main():
     pack = peer().by_liblzma
     os.makedirs(FOLDER, exist_ok=True)
     subprocess.run(["cc", "-O2", "-o", f"{FOLDER}/lzma", f"{HERE}/lzma.c", "-llzma"], check=True)
-    for name, content in contents():
+    kinds = {"text": documents(), "machine code": machine_code(), "zeros": bytes(PIECE * PIECES)}
+    for name, content in kinds.items():
         pieces = [content[k * PIECE : (k + 1) * PIECE] for k in range(min(PIECES, len(content) // PIECE))]
         packed = [(piece, pack(piece)) for piece in pieces]
         packed = [(piece, data) for piece, data in packed if data is not None]

@@ -24,6 +24,33 @@ def taken(words, folder):
     return seconds, memory
 
 
+def least_in_turn(commands, folder, runs):
+    """The least seconds of processor time of each command over the runs, in which they go in turn. All have to print the same."""
+    told, times = set(), [[] for _ in commands]
+    for _ in range(runs):
+        for words, tries in zip(commands, times):
+            tries.append(taken(words, folder)[0])
+            with open(f"{folder}/out", "rb") as out:
+                told.add(out.read())
+    if len(told) != 1:
+        sys.exit(f"{commands[0]}: the sums differ: {told}")
+    return [min(tries) for tries in times]
+
+
+def documents():
+    """English: the documents, one after the other."""
+    folder = os.path.join(os.path.dirname(os.path.abspath(__file__)), "../docs")
+    names = sorted(name for name in os.listdir(folder) if name.endswith(".md"))
+    return b"".join(open(os.path.join(folder, name), "rb").read() for name in names)
+
+
+def machine_code():
+    """From a quarter of a program on, where its code is."""
+    with open(os.path.realpath("/bin/bash"), "rb") as file:
+        code = file.read()
+    return code[len(code) // 4 :]
+
+
 def report(tries, first):
     """Prints what each command took: the least time over its runs, as a multiple of that of the first, and the greatest memory."""
     least = min(tries[first])[0]

@@ -4,8 +4,9 @@
 Usage: tests/damage.py [PROGRAM]. Three images, in both orders. Of each byte that is flipped: a node of damaged data hides exactly
 the paths at which `diff` of the two images has a line, or nothing where it has none; a damaged name is told by its fields, as the
 report of the sound image has them; any other damaged node is unknown; what is no part of a node, or was its header, is not told.
-The names without objects are as many as `check` has. Then images with many damaged nodes of few files, and with directories that lie
-in one another: what is told is what a model has that tries each place of each node. The last line is 'N passed, M failed'.
+The names without objects are as many as `check` has. Then images with many damaged nodes of few files, with many names of one, and
+with directories that lie in one another: what is told is what a model has that tries each place of each node. The last line is
+'N passed, M failed'.
 """
 import random
 import re
@@ -97,6 +98,12 @@ def is_right(place, nodes, told, changed):
     return {end.removeprefix("hides ") for end in ends} == changed and len(ends) == len(changed)
 
 
+def noted(errors):
+    """How many findings the note on standard error counts, which is the only line there."""
+    lines = errors.decode().splitlines()
+    return int(lines[0].split()[2]) if len(lines) == 1 else -1 if lines else 0
+
+
 def flips(number, order):
     options = ["--block", "8192", "--endian", order]
     write("listing", LISTINGS[number])
@@ -114,13 +121,15 @@ def flips(number, order):
         dangling = sum(line.startswith("dangling ") for line in report)
         right = is_right(place, nodes, told, changed_paths("sound.img", "flipped.img", options))
         counted = len(missing) == dangling and told[-1:] == [total_of(told)]
-        status = done.returncode == (3 if len(told) > 1 else 0) and not done.stderr
+        found = int(next(line for line in report if line.startswith("total ")).split()[-1])
+        status = done.returncode == (3 if found or len(told) > 1 else 0) and noted(done.stderr) == found
         verdict(f"image {number} {order}, byte {place}: {told}", right and counted and status)
 
 
 def total_of(told):
     damaged = {line[:8] for line in told if not line.startswith(("missing ", "total "))}
-    paths = sum(" hides /" in line for line in told)
+    more = (re.fullmatch(r".* and (\d+) more paths", line) for line in told)
+    paths = sum(" hides /" in line for line in told) + sum(int(found[1]) for found in more if found)
     missing = sum(line.startswith("missing ") for line in told)
     return f"total damaged {len(damaged)} paths {paths} missing {missing}"
 
@@ -196,6 +205,33 @@ def crowded_images():
         crowded(seed, ("little", "big")[seed % 2])
 
 
+def many_names(count, order):
+    """A file of many names, one of which lies in no directory, and another file, with damaged nodes of both."""
+    make = images.Maker("<" if order == "little" else ">")
+    nodes = [make.entry(1, place + 1, 2, b"n%03d" % place) for place in range(count)]
+    nodes += [make.entry(9, 1, 2, b"astray"), make.entry(1, 1000, 3, b"other"), make.inode(2, 1, b"x", 1), make.inode(3, 1, b"x", 1)]
+    front = len(nodes)
+    nodes += [damaged_at(make.inode(ino, 2 + place, b"y", 1)) for place, ino in enumerate((2, 3, 2))]
+    told, places = told_of("names.img", order, nodes)
+    wanted = []
+    for place, ino in enumerate((2, 3, 2)):
+        start = f"{places[front + place]:08x} data-crc ino {ino} version {2 + place} bytes 0 to 1"
+        paths = ["/other"] if ino == 3 else [f"/n{name:03d}" for name in range(count)]
+        wanted += [f"{start} hides {path}" for path in paths[:16]]
+        if len(paths) > 16:
+            wanted.append(f"{start} and {len(paths) - 16} more paths")
+        elif not paths:
+            wanted.append(f"{start} has no path")
+    total = f"total damaged 3 paths {2 * count + 1} missing 0"
+    verdict(f"file of {count} names, {order}: {told}", told == [*wanted, total] and total == total_of(told))
+
+
+def named_images():
+    for count in (0, 1, 15, 16, 17, 18, 200):
+        many_names(count, "little")
+        many_names(count, "big")
+
+
 def rings(length, order):
     """Directories that lie in one another, one outside that lies in them, one that has no name, and a file in each."""
     make = images.Maker("<" if order == "little" else ">")
@@ -221,4 +257,4 @@ def ring_images():
 
 
 if __name__ == "__main__":
-    sys.exit(run_all((little_images, big_image, crowded_images, ring_images)))
+    sys.exit(run_all((little_images, big_image, crowded_images, named_images, ring_images)))

@@ -6,8 +6,17 @@ set -u
 . "$(dirname "$0")/running.sh"
 python3 -B "$top/tests/compressed_images.py" . || exit 1
 data=$top/tests/data
-note="jffs2_image: note: the image is compressed; \
-decompress writes one that is not, and --decompress reads it"
+# method_note METHOD: the note on an image with data of a method that is read
+method_note() {
+    printf 'jffs2_image: note: the image is compressed (%s); decompress writes one that is not, ' "$1"
+    printf 'without damaged nodes; ls, cat, extract and append take --decompress'
+}
+note=$(method_note zlib)
+methods=([2]=rtime [6]=zlib [7]=lzo [8]=lzma)
+# unread_note NUMBER TEXT: the note on data of a method that is not read
+unread_note() {
+    printf '\njffs2_image: note: method %s is %s' "$1" "$2"
+}
 lines create 'create 0644 /new'
 mkdir folder
 
@@ -120,7 +129,7 @@ for order in little big; do
     # In the other order nothing is a node, and a note tells so.
     other=big; [[ $order == little ]] || other=little
     run decompress "${small[@]}" --endian $other packed_$order out.img
-    want 0 "decompressed 0 nodes 0 bytes 0" "$(noted "[1-9]*")"
+    want 3 "decompressed 0 nodes 0 bytes 0" "$(noted "[1-9]*")"
     line="no byte of nodes in the other order"; [[ ! -s out.img ]]; count $?
     run ls --decompress "${small[@]}" --endian $other packed_$order
     want 0 "$root" "$(noted "[1-9]*")"
@@ -210,6 +219,7 @@ while read -r name block order address compr changed bytes; do
     esac
     # Without --decompress it is refused, and a note says what to do.
     fault="jffs2_image: M4 Compressed at $address compr $compr"
+    its_note=$(method_note ${methods[$compr]})
     run check "${flash[@]}" "$image"; want 3 "*findings $changed"$'\n'"mount refused ${fault#* }" ""
     for words in "ls" "cat" "append" "extract"; do
         case $words in
@@ -218,7 +228,7 @@ while read -r name block order address compr changed bytes; do
             append) run append "${flash[@]}" --blocks 16 "$image" create none.img ;;
             extract) run extract "${flash[@]}" "$image" none.img ;;
         esac
-        want 1 "" "$fault"$'\n'"$note"
+        want 1 "" "$fault"$'\n'"$its_note"
     done
     unmade none.img
     # IMAGE and OUT are one file, by one name or by two.
@@ -237,7 +247,7 @@ while read -r name block order address compr changed bytes; do
     run ls --decompress "${flash[@]}" small.img; want 0 "$tree" ""
     cp out.img image; run compress "${flash[@]}" image image
     want 0 "compressed * nodes 29 bytes *" ""; same image small.img
-    run compress "${flash[@]}" "$image" none.img; want 1 "" "$fault"$'\n'"$note"; unmade none.img
+    run compress "${flash[@]}" "$image" none.img; want 1 "" "$fault"$'\n'"$its_note"; unmade none.img
     run compress "${flash[@]}" small.img none.img
     want 1 "" "jffs2_image: M4 Compressed at * compr 6"$'\n'"$note"; unmade none.img
     run compress "${flash[@]}" out.img /dev/full; want 1 "" "jffs2_image: S4 Sink$no_space"
@@ -297,7 +307,7 @@ for value in 0 4095 4097 4194308 4294967295; do
     refused "M1 BlockSize$block_note" --block $value good
 done
 refused "M3 Incompatible at 0000008c type e0f7" later
-refused "M4 Compressed at 0000008c compr 3" wrong_method
+refused "M4 Compressed at 0000008c compr 3$(unread_note 3 'RUBINMIPS, which is not read')" wrong_method
 for name in rtime zlib lzo lzma; do
     refused "Z1 Data at 0000008c" wrong_$name
     run ls wrong_$name; want 1 "" $'jffs2_image: M4 Compressed at 00000038 compr 6\n'"$note"
@@ -317,12 +327,12 @@ run ls later; want 1 "" $'jffs2_image: M4 Compressed at 00000038 compr 6\n'"$not
 run decompress --block 8196 long out.img; want 0 "decompressed 2 nodes 4 bytes 16448" ""
 head -c 8113 /dev/zero > piece
 run cat --block 8196 --decompress long /long; whole piece
-# A method that is not read has no note: --decompress does not help.
+# The note on a method that is not read names it: --decompress does not help.
 tail -c +141 wrong_method > unread
 { marker; cat unread; } > wrong_alone
 for words in "ls wrong_alone" "ls --decompress wrong_alone" "cat wrong_alone /a" \
     "append --blocks 2 wrong_alone create none.img" "decompress wrong_alone none.img"; do
-    run $words; want 1 "" "jffs2_image: M4 Compressed at 0000000c compr 3"
+    run $words; want 1 "" "jffs2_image: M4 Compressed at 0000000c compr 3$(unread_note 3 'RUBINMIPS, which is not read')"
 done
 unmade none.img
 # What does not mount is decompressed all the same.
@@ -346,7 +356,7 @@ run check out.img; want 0 $'*findings 0\nmount ok' ""
 run decompress --clashes higher good out.img; want 0 "decompressed 1 nodes 2 bytes 144" ""
 run decompress good again.img; same out.img again.img
 run decompress --clashes higher damaged out.img
-want 0 "decompressed 1 nodes 2 bytes 144" "$(noted 1)"
+want 3 "decompressed 1 nodes 2 bytes 144" "$(noted 1)"
 run decompress --clashes=lower clash none.img
 want 2 "" "error: invalid value 'lower' for '--clashes <RULE>': wanted higher*--help*"
 run decompress clash none.img --clashes; want 2 "" "error: *--clashes <RULE>*"
@@ -359,8 +369,10 @@ unmade none.img
 run decompress root_file out.img; want 0 "decompressed 2 nodes 3 bytes 232" ""
 run check out.img; want 3 $'*findings 0\nmount refused M6 RootKind' ""
 run ls --decompress root_file; want 1 "" "jffs2_image: M6 RootKind"
-# Of damage there is a note, as without --decompress; the status stays 0, but for `extract`.
-run decompress damaged out.img; want 0 "decompressed 1 nodes 2 bytes 144" "$(noted 1)"
+# Of damage there is a note, as without --decompress. The status is 3 if an image or a folder is made of it, and else
+# stays 0.
+run decompress damaged out.img; want 3 "decompressed 1 nodes 2 bytes 144" "$(noted 1)"
+cp damaged image; run decompress --atomic image image; want 3 "decompressed 1 nodes 2 bytes 144" "$(noted 1)"; same image out.img
 run check out.img; want 0 "*findings 0"$'\nmount ok' ""
 run ls --decompress damaged; want 0 "$root"$'\n- 0644 11 12 18 14 2 /a' "$(noted 1)"
 run cat --decompress damaged /a; want 0 "abcabcabcabcabcabc" "$(noted 1)"
@@ -383,7 +395,9 @@ run compress --help
 want 0 "*Usage: jffs2_image compress *<IMAGE> <OUT>*--block <N>*--endian <ORDER>*Exit status:*" ""
 run compress blank out.img; want 0 "compressed 0 nodes 0 bytes 0" ""; same out.img empty
 run decompress damaged plain.img; head -c 3 /dev/zero | cat plain.img - > dirty.img
-run compress dirty.img out.img; want 0 "compressed 1 nodes 2 bytes *" "$(noted 1)"
+run compress dirty.img out.img; want 3 "compressed 1 nodes 2 bytes *" "$(noted 1)"
+run compress --atomic dirty.img again.img; want 3 "compressed 1 nodes 2 bytes *" "$(noted 1)"; same again.img out.img
+run compress dirty.img /dev/full; want 1 "" "jffs2_image: S4 Sink$no_space"
 # OUT that cannot be made
 run compress plain_little nowhere/out.img; want 1 "" "$(unopened nowhere/out.img)"
 run decompress good nowhere/out.img; want 1 "" "$(unopened nowhere/out.img)"

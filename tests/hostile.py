@@ -26,10 +26,6 @@ NOTE = (
     b"jffs2_image: note: %d %s, see check --scan; "
     b"a wrong --block or --endian shows as findings too, see info\n"
 )
-COMPRESSED = (
-    b"jffs2_image: note: the image is compressed; "
-    b"decompress writes one that is not, and --decompress reads it\n"
-)
 CLASH = (
     "jffs2_image: note: the nodes at {} and {} differ; "
     "decompress --clashes higher keeps that of the highest address\n"
@@ -364,9 +360,11 @@ def read_by(reading, words):
 
 
 def fault(text):
-    """What a fault gives, with the note of every command: M4 has one by the command, which `refusal` adds. M5 names both nodes."""
+    """What a fault gives, with its note: M4 names the method, and M5 both nodes."""
     text, _, lower = text.partition(" with ")
     note = CLASH.format(lower, text[-8:]).encode() if lower else BLOCK if text.startswith(("C1 ", "M1 ")) else b""
+    if text.startswith("M4 "):
+        note = opened.method_note(int(text.split()[-1])).encode()
     return Done(1, b"", f"jffs2_image: {text}\n".encode() + note)
 
 
@@ -576,9 +574,8 @@ def findings_note(count):
 
 
 def refusal(why):
-    """The fault of an image that does not mount: a note tells where its data can be decompressed."""
-    done = fault(why or "")
-    return done._replace(err=done.err + COMPRESSED) if opened.noted(why) else done
+    """The fault of an image that does not mount."""
+    return fault(why or "")
 
 
 def text(lines):
@@ -726,7 +723,7 @@ def on_converted(about, image, size, order):
     if why:
         verdict(f"decompress of {about}", (done, made) == (fault(why), None), done)
     else:
-        wanted = Done(0, text([opened.line_of(result)]), note)
+        wanted = Done(3 if count else 0, text([opened.line_of(result)]), note)
         verdict(f"decompress of {about}", (done, made) == (wanted, result.image), done)
     plain = model.refusal(found)
     done = run(["ls", *words, "any.img"])
@@ -766,7 +763,7 @@ def of_what_lies_deep():
     image, lines = images.deep_damage(400, 400)
     write("deep.img", image)
     done = run(["damage", "deep.img"], 1 << 24)
-    is_right = done == Done(3, b"".join(lines), b"")
+    is_right = done == Done(3, b"".join(lines), findings_note(400))
     verdict("damage of what lies deep in 16 MiB", is_right, done._replace(out=done.out[:200]))
 
 

@@ -341,10 +341,24 @@ run diff one.img two.img
 want 3 $'- d 0755 0 0 0 /d\n+ d 0700 0 0 0 /d\n- - 0644 0 0 0 /d/in\n+ - 0644 0 0 0 /d.x\n\* /f at 2\n- l 0777 0 0 1 /l -> x\n+ l 0777 0 0 2 /l -> yy\n+ d 0755 0 0 0 /z' ""
 run diff --times one.img later.img
 want 3 $'- d 0755 0 0 0 0 /d\n+ d 0755 0 0 0 9 /d\n- - 0644 0 0 0 0 /d/in\n+ - 0644 0 0 0 9 /d/in\n*- l 0777 0 0 1 0 /l -> x\n+ l 0777 0 0 1 9 /l -> x' ""
-# Of an empty flash and a tree each path has a line, and of the other byte order nothing is seen.
+# Of an empty flash and a tree each path has a line.
 run diff empty one.img
 want 3 $'+ d 0755 0 0 0 /d\n+ - 0644 0 0 0 /d/in\n+ - 0600 0 0 3 /f\n+ l 0777 0 0 1 /l -> x' ""
-run diff --endian big one.img two.img; want 0 "" ""
+# Findings are noted with the name of their image, and found: of the other byte order nothing else is seen.
+# named NAME N: the note on N findings of an image
+named() {
+    noted "$2" | sed "s/note: /note: $1: /"
+}
+run diff flipped flipped; want 3 "" "$(named flipped 1)"$'\n'"$(named flipped 1)"
+run diff one.img flipped; want 3 "*- d 0755 0 0 0 /d*" "$(named flipped 1)"
+run diff flipped one.img; want 3 "*+ d 0755 0 0 0 /d*" "$(named flipped 1)"
+cp flipped $'a\nb'; run diff one.img $'a\nb'; want 3 "*" "$(named 'a\\\\x0ab' 1)"
+run damage one.img; want 0 "total damaged 0 paths 0 missing 0" ""
+run damage other; want 3 "total damaged 0 paths 0 missing 0" "$(noted 1)"
+line="diff of images with findings, and standard error closed"
+"$program" diff flipped flipped > out 2>&-; got=$?; : > err; want 3 "" ""
+line="diff of images with findings, and standard output full"
+"$program" diff one.img flipped > /dev/full 2> err; got=$?; : > out; want 1 "" "jffs2_image: P5 Output"
 
 # ---- Building and extending images
 

@@ -258,7 +258,7 @@ def opened(what, words, image):
     line = re.fullmatch(rb"decompressed (\d+) nodes (\d+) bytes (\d+)\n", told)
     print(f"{what}: {told.decode().strip()} {errors}")
     is_noted = all(" note: " in row and "finding" in row for row in errors.splitlines())
-    fine = status == 0 and line and is_noted and int(line[3]) == os.path.getsize(out)
+    fine = status == (3 if errors else 0) and line and is_noted and int(line[3]) == os.path.getsize(out)
     test(f"{what}: decompress", [] if fine else [f"status {status}: {told} {errors}"])
     if what in PACKED and fine:
         with open(image, "rb") as file, open(out, "rb") as made:

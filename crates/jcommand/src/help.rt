@@ -120,7 +120,8 @@ Exit status:
   2  the command line is wrong
   3  check found something, diff a difference, damage a loss, info no node,
      cuts or --weak a weak node, or extract, listing, pack or decompress
-     --clashes left something out
+     --clashes left something out; or an image with findings was extracted,
+     decompressed, compressed, compared or asked for damage
 
 A fault is one line, as 'jffs2_image: M6 RootKind'. Its letter says what gave
 up: C the report, L reading a file, M the mount, Z compressed data, S the
@@ -329,7 +330,7 @@ Exit status:
   0  done
   1  a fault, which standard error names
   2  the command line is wrong
-  3  nodes were left out";
+  3  IMAGE has findings, or nodes were left out";
 
 pub(crate) const COMPRESS_EPILOGUE: &str = "\
 OUT has the nodes of IMAGE in the order of their addresses, from the first block
@@ -356,7 +357,8 @@ Examples:
 Exit status:
   0  done
   1  a fault, which standard error names
-  2  the command line is wrong";
+  2  the command line is wrong
+  3  IMAGE has findings";
 
 pub(crate) const EXTRACT_EPILOGUE: &str = "\
 DIR is made, and in it each directory, regular file and symlink of the image,
@@ -383,7 +385,7 @@ Exit status:
   0  done, and nothing was left out
   1  a fault, which standard error names
   2  the command line is wrong
-  3  something was left out";
+  3  something was left out, or IMAGE has findings";
 
 pub(crate) const LISTING_EPILOGUE: &str = "\
 The listing goes to standard output. 'jffs2_image build' reads it, and
@@ -497,7 +499,7 @@ Exit status:
   0  done, and nothing was printed
   1  a fault, which standard error names
   2  the command line is wrong
-  3  a difference was printed";
+  3  a difference was printed, or an image has findings";
 
 pub(crate) const DAMAGE_EPILOGUE: &str = "\
 The image is mounted, without its damaged nodes. It prints a line for each of
@@ -531,7 +533,7 @@ Exit status:
   0  done, and only the total was printed
   1  a fault, which standard error names
   2  the command line is wrong
-  3  damage was printed";
+  3  damage was printed, or IMAGE has findings";
 
 pub(crate) const PACK_EPILOGUE: &str = "\
 It writes what build makes of the listing of DIR, byte for byte, and writes no

@@ -1,5 +1,5 @@
 -- Writing an image of nodes, one after another.
-use Rattle.std.proofs.Common.{◌≡◌, ℕ, ◌+◌, ◌*◌, ◌<◌, ◌≤◌, drop, slice_index_or, List, [], ◌∷◌, ◌++◌, length, map, take, refl, sym, ap, subst, ◌∙◌, arith, Option, None, Some, Ok, Err, append_assoc, nat_le}
+use Rattle.std.proofs.Common.{◌≡◌, ℕ, ◌+◌, ◌*◌, ◌<◌, ◌≤◌, drop, slice_index_or, List, [], ◌∷◌, ◌++◌, length, map, take, refl, sym, ap, subst, ◌∙◌, arith, Option, None, Some, Ok, Err, append_assoc, nat_le, inl, inr, ◌⊎◌}
 use Rattle.std.specs.Prelude.{Result, IsTrue}
 use Rattle.std.specs.Io.KnownBytes.{Appends}
 use Rattle.std.proofs.KnownBytes.{Appends-nil, Appends-trans}
@@ -11,8 +11,15 @@ use Rattle.flashbase.specs.Bytes.{pad4_of}
 use Rattle.flashbase.specs.Device.{PutsPart, next_count}
 use Rattle.flashbase.proofs.BytesLemmas.{le_pad4}
 use Rattle.flashbase.proofs.DeviceLemmas.{part_before, part_behind}
-use Rattle.jnode.specs.Writing.{canonical}
+use Rattle.jnode.specs.Reading.{entry_len, inode_len}
+use Rattle.jnode.specs.Writing.{canonical, stored_bytes, totlen_most, HasNameLength, IsWritable, IsWritableInode}
+use Rattle.jnode.specs.declared.node.Dirent.{Dirent}
+use Rattle.jnode.specs.declared.node.InodeNode.{InodeNode}
 use Rattle.jnode.specs.declared.node.NodeRef.{NodeRef}
+use Rattle.jnode.specs.declared.node.NodeRef.TheVariants as node
+use Rattle.jnode.specs.declared.writing.WriteFault.{WriteFault}
+use Rattle.jnode.specs.declared.writing.WriteFault.TheVariants as write
+use Rattle.jnode.proofs.WritingLemmas.{length-canonical_entry, length-canonical_inode}
 use Rattle.jnode.specs.declared.order.Endian.{Endian}
 use Rattle.jlog.specs.Places.{place_after, end_after, end_of_all, fit}
 use Rattle.jlog.specs.Output.{output}
@@ -22,6 +29,28 @@ use Rattle.jconvert.specs.Apart.{image_of_nodes, HaveRoom, WritesNodes}
 use Rattle.jconvert.specs.Converting.{greatest_blocks}
 use Rattle.jconvert.specs.Putting.{form_piece, PutsForm}
 use Rattle.jconvert.specs.Tallying.{IsCursor}
+
+-- ---- the written form of a node
+
+pub writable_few : (e : Endian) (node : NodeRef) → IsWritable node → length (canonical e node) ≤ totlen_most
+writable_few e (node.Entry d) w = omega (arith, length-canonical_entry e d, w.name.1)
+writable_few e (node.Inode n) w = omega (arith, length-canonical_inode e n, w.long)
+
+-- why an entry is not written
+pub entry_unwritten : (e : Endian) (d : Dirent) (f : WriteFault) (capacity : ℕ) → (f ≡ write.Name → ¬ HasNameLength d) → (f ≡ write.Data → d.pino ≡ 0)
+    → (f ≡ write.OutOfMemory → capacity < entry_len + length d.name) → ¬ IsWritable (node.Entry d) ⊎ (capacity < length (canonical e (node.Entry d)))
+entry_unwritten e d write.Name capacity name parent memory = inl (λ w. name refl w.name)
+entry_unwritten e d write.Data capacity name parent memory = inl (λ w. let none = parent refl in let some = w.parent in omega arith)
+entry_unwritten e d write.OutOfMemory capacity name parent memory = inr (let few = memory refl in omega (arith, few, length-canonical_entry e d))
+
+-- why an inode node is not
+pub inode_unwritten : (e : Endian) (n : InodeNode) (f : WriteFault) (capacity : ℕ) → (f ≡ write.Name → ⊥) → (f ≡ write.Data → ¬ IsWritableInode n)
+    → (f ≡ write.OutOfMemory → capacity < inode_len + length (stored_bytes n.fill)) → ¬ IsWritable (node.Inode n) ⊎ (capacity < length (canonical e (node.Inode n)))
+inode_unwritten e n write.Name capacity name bad memory = absurd (name refl)
+inode_unwritten e n write.Data capacity name bad memory = inl (bad refl)
+inode_unwritten e n write.OutOfMemory capacity name bad memory = inr (let few = memory refl in omega (arith, few, length-canonical_inode e n))
+
+-- ---- one after another
 
 -- what went out so far, and the nodes that are left
 pub record Keeping (e : Endian) (size : ℕ) (all left : List NodeRef) (from : ℕ) (old now : Option (List ℕ)) : Type 0 where

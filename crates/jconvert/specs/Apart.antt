@@ -14,8 +14,7 @@ use Rattle.jlog.specs.Output.{output}
 use Rattle.jlog.specs.Places.{fit, end_of_all}
 use Rattle.jexpand.specs.Expanded.{expanded_node}
 use Rattle.jexpand.specs.declared.fault.ConvertFault.{ConvertFault}
-use Rattle.jexpand.specs.declared.fault.ConvertFault.TheVariants as fault
-use Rattle.jconvert.specs.Converting.{greatest_blocks, is_changed, convert_fault}
+use Rattle.jconvert.specs.Converting.{greatest_blocks, is_changed, convert_fault, FaultOwes, WriteFaultOwes}
 use Rattle.jconvert.specs.declared.apart.Apart.{Apart}
 use Rattle.jconvert.specs.declared.converted.Converted.{Converted}
 
@@ -41,11 +40,10 @@ abbrev pub WritesNodes : Endian → ℕ → List NodeRef → SinkChange → Resu
 WritesNodes e size nodes sink (Ok end) =
     HaveRoom e size nodes × Appends sink.old sink.new (image_of_nodes e size nodes)
     × (end ≡ end_of_all size 0 (map (canonical e) nodes)) × (sink.now ≡ sink.before)
-WritesNodes e size nodes sink (Err fault.Sink) =
-    PutsPart sink.old sink.new (image_of_nodes e size nodes) × (sink.now ≡ next_count sink.before)
-WritesNodes e size nodes sink (Err fault.OutOfMemory) =
-    PutsPart sink.old sink.new (image_of_nodes e size nodes) × (sink.now ≡ sink.before)
-WritesNodes e size nodes sink (Err _) = ⊥
+WritesNodes e size nodes sink (Err f) = WriteFaultOwes
+    (PutsPart sink.old sink.new (image_of_nodes e size nodes)
+    × (sink.now ≡ next_count sink.before))
+    (PutsPart sink.old sink.new (image_of_nodes e size nodes) × (sink.now ≡ sink.before)) f
 
 -- what goes out without the nodes that one of a higher address clashes with, and what is told of it
 pub record GoesOutApart (e : Endian) (size : ℕ) (image : List ℕ) (told : Converted)
@@ -71,11 +69,10 @@ DecompressesApart e size image sink (Ok done) =
     (convert_fault e size image ≡ None)
     × ((out : List ℕ) × GoesOutApart e size image done.told done.left.items out
     × Appends sink.old sink.new out) × (sink.now ≡ sink.before)
-DecompressesApart e size image sink (Err fault.Sink) =
-    (convert_fault e size image ≡ None) × PutsPartApart e size image sink.old sink.new
-    × (sink.now ≡ next_count sink.before)
-DecompressesApart e size image sink (Err fault.OutOfMemory) =
-    ((sink.new ≡ sink.old) ⊎ PutsPartApart e size image sink.old sink.new)
-    × (sink.now ≡ sink.before)
-DecompressesApart e size image sink (Err f) =
-    (convert_fault e size image ≡ Some f) × (sink.new ≡ sink.old) × (sink.now ≡ sink.before)
+DecompressesApart e size image sink (Err f) = FaultOwes
+    ((convert_fault e size image ≡ None) × PutsPartApart e size image sink.old sink.new
+    × (sink.now ≡ next_count sink.before))
+    (((sink.new ≡ sink.old) ⊎ PutsPartApart e size image sink.old sink.new)
+    × (sink.now ≡ sink.before))
+    (λ why. (convert_fault e size image ≡ Some why) × (sink.new ≡ sink.old)
+    × (sink.now ≡ sink.before)) f

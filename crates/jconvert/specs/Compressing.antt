@@ -1,16 +1,23 @@
 -- An image of the profile, compressed: what may stand for each of its nodes, and why none goes out.
-use Rattle.std.specs.Prelude.{◌≡◌, ◌⊎◌, ℕ, suc, ◌+◌, ◌<◌, Bool, true, false, not, nat_lt, IsTrue, List, [], ◌∷◌, length, Option, Some, None, Result, Ok, Err, if◌then◌else◌}
+use Rattle.std.specs.Prelude.{◌≡◌, ◌==◌, ◌&&◌, ◌⊎◌, ℕ, suc, ◌+◌, ◌^◌, ◌<◌, Bool, true, false, not, nat_le, nat_lt, IsTrue, IsFalse, List, [], ◌∷◌, length, Option, Some, None, Result, Ok, Err, if◌then◌else◌}
 use Rattle.std.specs.Option.{option_or}
 use Rattle.std.specs.Io.KnownBytes.{Appends}
+use Rattle.flashbase.specs.Bytes.{pad4_of}
 use Rattle.flashbase.specs.Device.{PutsPart, next_count}
 use Rattle.flashbase.specs.Sinks.{SinkChange}
-use Rattle.jnode.specs.Writing.{canonical}
+use Rattle.jnode.specs.Compressed.{IsWritableCompressed}
+use Rattle.jnode.specs.Reading.{inode_len}
+use Rattle.jnode.specs.Writing.{canonical, stored_bytes}
 use Rattle.jnode.specs.declared.node.CompressedNode.{CompressedNode}
+use Rattle.jnode.specs.declared.node.Fill.{Fill}
+use Rattle.jnode.specs.declared.node.Fill.TheVariants.{Zero, Data}
 use Rattle.jnode.specs.declared.node.InodeNode.{InodeNode}
 use Rattle.jnode.specs.declared.node.NodeRef.{NodeRef}
 use Rattle.jnode.specs.declared.node.Seen.{Seen}
 use Rattle.jnode.specs.declared.node.Seen.TheVariants as seen
 use Rattle.jnode.specs.declared.order.Endian.{Endian}
+use Rattle.jcompr.specs.Zlib.{zlib_of}
+use Rattle.jmount.specs.Tree.{type_bits, regular_bits}
 use Rattle.jscan.specs.Image.{is_block_size, greatest_image, sightings}
 use Rattle.jlog.specs.Output.{output}
 use Rattle.jlog.specs.Packed.{zlib_number, IsPackedForm}
@@ -18,7 +25,7 @@ use Rattle.jexpand.specs.Expanded.{expanded_nodes}
 use Rattle.jexpand.specs.Refused.{node_fault}
 use Rattle.jexpand.specs.declared.fault.ConvertFault.{ConvertFault}
 use Rattle.jexpand.specs.declared.fault.ConvertFault.TheVariants as fault
-use Rattle.jconvert.specs.Converting.{flash_fault}
+use Rattle.jconvert.specs.Converting.{FaultOwes, flash_fault}
 use Rattle.jconvert.specs.declared.converted.Converted.{Converted}
 
 -- ---- what may stand for a node
@@ -40,6 +47,29 @@ packed_as inode stream = record {
   compr = zlib_number;
   «data» = stream;
 }
+
+abbrev pub is_data : Fill → Bool
+is_data Zero = false
+is_data (Data bytes) = true
+
+-- whether a node has the data of a regular file, as many as its range has and at most 32 KiB
+abbrev pub may_be_packed : InodeNode → Bool
+may_be_packed inode = (inode.dsize == length (stored_bytes inode.fill))
+    && (type_bits inode.mode == regular_bits) && is_data inode.fill
+    && nat_le (length (stored_bytes inode.fill)) (2 ^ 15)
+
+-- a stream of so many bytes makes a node of fewer words than so many bytes as they are
+abbrev pub is_shorter : ℕ → ℕ → Bool
+is_shorter stream plain = nat_lt (pad4_of (inode_len + stream)) (pad4_of (inode_len + plain))
+
+-- The data of a node stay as they are: they may not be packed, or what packs them is no shorter, or
+-- makes a node that is not written.
+abbrev pub StaysPlain : InodeNode → Type 0
+StaysPlain inode = IsFalse (may_be_packed inode)
+    ⊎ ((stream : List ℕ)
+    × (zlib_of (length (stored_bytes inode.fill)) stream ≡ Some (stored_bytes inode.fill))
+    × (IsFalse (is_shorter (length stream) (length (stored_bytes inode.fill)))
+    ⊎ ¬ IsWritableCompressed (packed_as inode stream)))
 
 -- The written forms that go out for nodes, one for each and in their order: the node's own, or that
 -- of a compressed node that stands for it, of which there are so many.
@@ -100,10 +130,9 @@ Compresses e size image sink (Ok told) =
     × ((out : List ℕ) × IsPackedImage e size image out told.changed × Appends sink.old sink.new out
     × (told.bytes ≡ length out))
     × (told.nodes ≡ length (expanded_nodes e size image)) × (sink.now ≡ sink.before)
-Compresses e size image sink (Err fault.Sink) =
-    (compress_fault e size image ≡ None) × PutsPackedPart e size image sink.old sink.new
-    × (sink.now ≡ next_count sink.before)
-Compresses e size image sink (Err fault.OutOfMemory) =
-    PutsPackedPart e size image sink.old sink.new × (sink.now ≡ sink.before)
-Compresses e size image sink (Err f) =
-    (compress_fault e size image ≡ Some f) × (sink.new ≡ sink.old) × (sink.now ≡ sink.before)
+Compresses e size image sink (Err f) = FaultOwes
+    ((compress_fault e size image ≡ None) × PutsPackedPart e size image sink.old sink.new
+    × (sink.now ≡ next_count sink.before))
+    (PutsPackedPart e size image sink.old sink.new × (sink.now ≡ sink.before))
+    (λ why. (compress_fault e size image ≡ Some why) × (sink.new ≡ sink.old)
+    × (sink.now ≡ sink.before)) f

@@ -68,13 +68,31 @@ convert_fault e size image =
     else if nat_lt greatest_image (length image) then Some fault.TooLarge
     else option_or (nodes_fault e size image) (flash_fault e size image)
 
+-- What is owed of a fault: of the sink's, of want of memory, and of one that refuses the image.
+abbrev pub FaultOwes : Type 0 → Type 0 → (ConvertFault → Type 0) → ConvertFault → Type 0
+FaultOwes sink memory refused fault.Sink = sink
+FaultOwes sink memory refused fault.OutOfMemory = memory
+FaultOwes sink memory refused fault.BlockSize = refused fault.BlockSize
+FaultOwes sink memory refused fault.TooLarge = refused fault.TooLarge
+FaultOwes sink memory refused (fault.Incompatible addr nodetype) =
+    refused (fault.Incompatible addr nodetype)
+FaultOwes sink memory refused (fault.Compressed addr compr) = refused (fault.Compressed addr compr)
+FaultOwes sink memory refused (fault.Data addr) = refused (fault.Data addr)
+FaultOwes sink memory refused (fault.TooLong addr) = refused (fault.TooLong addr)
+FaultOwes sink memory refused fault.ReadOnly = refused fault.ReadOnly
+FaultOwes sink memory refused fault.Geometry = refused fault.Geometry
+FaultOwes sink memory refused (fault.Full needed free) = refused (fault.Full needed free)
+
+-- the same, where nothing refuses the image
+abbrev pub WriteFaultOwes : Type 0 → Type 0 → ConvertFault → Type 0
+WriteFaultOwes sink memory f = FaultOwes sink memory (λ _. ⊥) f
+
 -- The answer: the image that goes out, or why none does. Only memory may be wanting at any time.
 abbrev pub Converts : Endian → ℕ → List ℕ → Result (List ℕ) ConvertFault → Type 0
 Converts e size image (Ok bytes) =
     (convert_fault e size image ≡ None) × (bytes ≡ converted_image e size image)
-Converts e size image (Err fault.Sink) = ⊥
-Converts e size image (Err fault.OutOfMemory) = Unit {0}
-Converts e size image (Err f) = convert_fault e size image ≡ Some f
+Converts e size image (Err f) =
+    FaultOwes ⊥ (Unit {0}) (λ why. convert_fault e size image ≡ Some why) f
 
 -- What a call that writes the image does to a sink: all of it goes out, or a beginning, where the
 -- sink failed once or memory ran out. Nothing else is refused.
@@ -82,11 +100,10 @@ abbrev pub WritesConverted : {T : Type 0} → Endian → ℕ → List ℕ → Si
     → Result T ConvertFault → Type 0
 WritesConverted e size image sink (Ok _) =
     Appends sink.old sink.new (converted_image e size image) × (sink.now ≡ sink.before)
-WritesConverted e size image sink (Err fault.Sink) =
-    PutsPart sink.old sink.new (converted_image e size image) × (sink.now ≡ next_count sink.before)
-WritesConverted e size image sink (Err fault.OutOfMemory) =
-    PutsPart sink.old sink.new (converted_image e size image) × (sink.now ≡ sink.before)
-WritesConverted e size image sink (Err _) = ⊥
+WritesConverted e size image sink (Err f) = WriteFaultOwes
+    (PutsPart sink.old sink.new (converted_image e size image)
+    × (sink.now ≡ next_count sink.before))
+    (PutsPart sink.old sink.new (converted_image e size image) × (sink.now ≡ sink.before)) f
 
 -- What decompressing into a sink answers: the image goes out, with what is told of it; or it is
 -- refused before a byte is put; or a beginning went out. The sink comes back in any case.
@@ -95,10 +112,10 @@ abbrev pub Decompresses : Endian → ℕ → List ℕ → SinkChange → Result 
 Decompresses e size image sink (Ok told) =
     (convert_fault e size image ≡ None) × (told ≡ converted_of e size image)
     × Appends sink.old sink.new (converted_image e size image) × (sink.now ≡ sink.before)
-Decompresses e size image sink (Err fault.Sink) =
-    (convert_fault e size image ≡ None) × PutsPart sink.old sink.new (converted_image e size image)
-    × (sink.now ≡ next_count sink.before)
-Decompresses e size image sink (Err fault.OutOfMemory) =
-    PutsPart sink.old sink.new (converted_image e size image) × (sink.now ≡ sink.before)
-Decompresses e size image sink (Err f) =
-    (convert_fault e size image ≡ Some f) × (sink.new ≡ sink.old) × (sink.now ≡ sink.before)
+Decompresses e size image sink (Err f) = FaultOwes
+    ((convert_fault e size image ≡ None)
+    × PutsPart sink.old sink.new (converted_image e size image)
+    × (sink.now ≡ next_count sink.before))
+    (PutsPart sink.old sink.new (converted_image e size image) × (sink.now ≡ sink.before))
+    (λ why. (convert_fault e size image ≡ Some why) × (sink.new ≡ sink.old)
+    × (sink.now ≡ sink.before)) f

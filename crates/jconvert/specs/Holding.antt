@@ -1,5 +1,5 @@
 -- What is held of the bytes that the data of an image's compressed nodes stand for.
-use Rattle.std.specs.Prelude.{◌≡◌, ℕ, ◌≤◌, ◌++◌, nat_le, List, [], length, drop, if◌then◌else◌}
+use Rattle.std.specs.Prelude.{◌≡◌, ◌⊎◌, ℕ, ◌+◌, ◌<◌, ◌≤◌, ◌++◌, nat_le, List, [], length, drop, if◌then◌else◌}
 use Rattle.jnode.specs.declared.order.Endian.{Endian}
 use Rattle.jexpand.specs.Expanded.{unpacked_bytes}
 
@@ -15,3 +15,8 @@ BeginsAs content held = length content ≤ length held → held ≡ content ++ d
 abbrev pub held_after : List ℕ → List ℕ → List ℕ
 held_after content held =
     if nat_le (length content) (length held) then drop (length content) held else []
+
+-- There is no room for so many bytes more behind `len`: they pass the limit, or the memory that
+-- there is already. So there always is room for none.
+abbrev pub HasNoRoom : ℕ → ℕ → ℕ → ℕ → Type 0
+HasNoRoom most len capacity count = (most < len + count) ⊎ (capacity < len + count)

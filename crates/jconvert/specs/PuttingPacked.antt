@@ -8,8 +8,8 @@ use Rattle.jnode.specs.declared.node.NodeRef.{NodeRef}
 use Rattle.jnode.specs.declared.order.Endian.{Endian}
 use Rattle.jlog.specs.Places.{end_after}
 use Rattle.jexpand.specs.declared.fault.ConvertFault.{ConvertFault}
-use Rattle.jexpand.specs.declared.fault.ConvertFault.TheVariants as fault
 use Rattle.jlog.specs.Packed.{IsPackedForm}
+use Rattle.jconvert.specs.Converting.{WriteFaultOwes}
 use Rattle.jconvert.specs.Compressing.{IsPackedImage, PutsPackedPart}
 use Rattle.jconvert.specs.Putting.{form_piece}
 use Rattle.jconvert.specs.Tallying.{IsCursor}
@@ -38,14 +38,12 @@ abbrev pub PutsPacked : Endian → ℕ → Option NodeRef → ℕ → SinkChange
     → Result (ℕ × Bool) ConvertFault → Type 0
 PutsPacked e size gives from sink (Ok done) =
     PutsMade e size gives from sink.old sink.new done × (sink.now ≡ sink.before)
-PutsPacked e size gives from sink (Err fault.Sink) =
-    ((n : NodeRef) × (gives ≡ Some n)
+PutsPacked e size gives from sink (Err f) = WriteFaultOwes
+    (((n : NodeRef) × (gives ≡ Some n)
     × ((form : List ℕ) × (is_packed : Bool) × IsFormFor e n form is_packed
     × PutsPart sink.old sink.new (form_piece e size from form)))
-    × (sink.now ≡ next_count sink.before)
-PutsPacked e size gives from sink (Err fault.OutOfMemory) =
-    (sink.new ≡ sink.old) × (sink.now ≡ sink.before)
-PutsPacked e size gives from sink (Err _) = ⊥
+    × (sink.now ≡ next_count sink.before))
+    ((sink.new ≡ sink.old) × (sink.now ≡ sink.before)) f
 
 -- What a call does that writes an image of all nodes, and answers how many of them are packed, and
 -- how many bytes went out.
@@ -53,8 +51,6 @@ abbrev pub WritesPacked : Endian → ℕ → List ℕ → SinkChange → Result 
 WritesPacked e size image sink (Ok done) =
     ((out : List ℕ) × IsPackedImage e size image out done.0 × Appends sink.old sink.new out
     × (done.1 ≡ length out)) × (sink.now ≡ sink.before)
-WritesPacked e size image sink (Err fault.Sink) =
-    PutsPackedPart e size image sink.old sink.new × (sink.now ≡ next_count sink.before)
-WritesPacked e size image sink (Err fault.OutOfMemory) =
-    PutsPackedPart e size image sink.old sink.new × (sink.now ≡ sink.before)
-WritesPacked e size image sink (Err _) = ⊥
+WritesPacked e size image sink (Err f) = WriteFaultOwes
+    (PutsPackedPart e size image sink.old sink.new × (sink.now ≡ next_count sink.before))
+    (PutsPackedPart e size image sink.old sink.new × (sink.now ≡ sink.before)) f

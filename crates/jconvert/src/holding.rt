@@ -1,6 +1,7 @@
 //! What was decompressed while an image was judged, held up to a limit.
 
-ghost use Rattle.std.specs.Prelude.{◌≡◌, ◌≤◌, ◌+◌, ◌++◌, [], OnOk, IsTrue, length, vec_len, vec_capacity, if◌then◌else◌};
+ghost use Rattle.std.specs.Prelude.{◌≡◌, ◌≤◌, ◌<◌, ◌+◌, ◌*◌, ◌++◌, ◌⊎◌, [], min, OnOk, OnErr, IsTrue, IsFalse, length, vec_len, vec_capacity, if◌then◌else◌};
+ghost use Rattle.jconvert.specs.Holding.{HasNoRoom};
 
 use std::alloc::AllocError;
 
@@ -17,6 +18,9 @@ fn make_room(bytes: &mut Vec<u8>, count: usize, most: usize) -> Result<(), Alloc
     requires { vec_len bytes.old + count ≤ most }
     ensures same { bytes.new.items ≡ bytes.old.items }
     ensures ok { OnOk result (vec_len bytes.new + count ≤ vec_capacity bytes.new) }
+    ensures doubles { OnOk result (vec_capacity bytes.old < vec_len bytes.old + count
+        → min (2 * vec_len bytes.old) most ≤ vec_capacity bytes.new) }
+    ensures full { OnErr result (vec_capacity bytes.old < vec_len bytes.old + count) }
 {
     let len = bytes.len();
     if bytes.capacity() - len < count {
@@ -25,13 +29,15 @@ fn make_room(bytes: &mut Vec<u8>, count: usize, most: usize) -> Result<(), Alloc
     Ok(())
 }
 
-/// Whether bytes were put at the end: they are where there is room for them within the limit, and
-/// memory.
+/// Whether bytes were put at the end. They are not only where they pass the limit, or memory for
+/// them is wanting.
 fn is_taken(bytes: &mut Vec<u8>, content: &[u8], most: usize) -> bool
     requires { vec_len bytes.old ≤ most }
     ensures bytes { bytes.new.items
         ≡ (if result then bytes.old.items ++ content.now else bytes.old.items) }
     ensures few { vec_len bytes.new ≤ most }
+    ensures full { IsFalse result → HasNoRoom most (vec_len bytes.old) (vec_capacity bytes.old)
+        (length content.now) }
 {
     if most - bytes.len() < content.len() {
         return false;
@@ -47,6 +53,8 @@ impl Held {
             ≡ self.old.bytes.items ++ (if self.new.is_whole then content.now else []) }
         ensures whole { IsTrue self.new.is_whole → IsTrue self.old.is_whole }
         ensures few { vec_len self.new.bytes ≤ most }
+        ensures full { IsTrue self.old.is_whole → IsFalse self.new.is_whole → HasNoRoom most
+            (vec_len self.old.bytes) (vec_capacity self.old.bytes) (length content.now) }
     {
         if self.is_whole {
             self.is_whole = is_taken(&mut self.bytes, content, most);

@@ -1,12 +1,12 @@
 //! Writing the image of nodes that stay, of those that an image gives.
 
-ghost use Rattle.std.specs.Prelude.{◌≡◌, ◌≤◌, None, Ok, Err, IfErr, OnOk, IsTrue};
-ghost use Rattle.jnode.specs.Writing.{canonical};
+ghost use Rattle.std.specs.Prelude.{◌≡◌, ◌≤◌, ◌<◌, ◌⊎◌, None, Ok, Err, IfErr, OnErr, OnOk, IsTrue, length, vec_capacity};
+ghost use Rattle.jnode.specs.Writing.{canonical, IsWritable};
 ghost use Rattle.jscan.specs.Image.{is_block_size};
 ghost use Rattle.jexpand.specs.declared.fault.ConvertFault.TheVariants.{OutOfMemory};
 ghost use Rattle.jconvert.specs.Apart.{WritesNodes};
 ghost use Rattle.jconvert.specs.Converting.{least_written};
-ghost use Rattle.jconvert.specs.Putting.{PutsForm};
+ghost use Rattle.jconvert.specs.Putting.{IsUnput, PutsForm};
 ghost use Rattle.jconvert.specs.Tallying.{IsCursor};
 ghost use Rattle.flashbase.specs.Sinks.{change_of};
 
@@ -17,13 +17,13 @@ use jnode::{NodeRef, Order, write_entry, write_inode};
 use jscan::Geometry;
 use std::alloc::Global;
 
-/// The greatest length of a node, in bytes.
-const LONGEST: usize = 4_194_304;
-
 /// Writes a node over the bytes of a buffer.
 fn write_form<E: Order>(node: &NodeRef<'_>, form: &mut Vec<u8>) -> Result<(), ConvertFault>
     ensures ok { OnOk result (form.new.items ≡ canonical E.order node.now) }
+    ensures writable { OnOk result (IsWritable node.now) }
     ensures memory { IfErr result (λ fault. fault ≡ OutOfMemory) }
+    ensures full { OnErr result (¬ IsWritable node.now
+        ⊎ (vec_capacity form.old < length (canonical E.order node.now))) }
 {
     form.clear();
     let written = match node {
@@ -47,18 +47,15 @@ fn put_one<E: Order, S: Sink>(
     requires readable { IsTrue (is_block_size geometry.block) }
     requires written { least_written ≤ geometry.block }
     requires cursor { IsCursor geometry.block from }
-    ensures { PutsForm E.order geometry.block from (canonical E.order node.now)
+    ensures puts { PutsForm E.order geometry.block from (canonical E.order node.now)
         (change_of S.Sink sink.old sink.new) result }
+    ensures full { result ≡ Err OutOfMemory
+        → IsUnput E.order geometry.block from (vec_capacity form.old) node.now }
 {
     match write_form::<E>(node, form) {
-        Ok(()) => {}
-        Err(_) => return Err(ConvertFault::OutOfMemory),
+        Ok(()) => put_form::<E, S>(sink, geometry, from, form),
+        Err(_) => Err(ConvertFault::OutOfMemory),
     }
-    // None is longer.
-    if form.len() > LONGEST {
-        return Err(ConvertFault::OutOfMemory);
-    }
-    put_form::<E, S>(sink, geometry, from, form)
 }
 
 /// Puts an image of these nodes, from the start of an erased flash on, and answers its length.

@@ -1,6 +1,6 @@
 //! The expanded nodes of an image, each with the address of its tile.
 
-ghost use Rattle.std.specs.Prelude.{◌≡◌, ◌++◌, [], None, IfOk, IfErr, OnOk, IsTrue, Contains, option_map};
+ghost use Rattle.std.specs.Prelude.{◌≡◌, ◌<◌, ◌++◌, [], None, IfOk, IfErr, OnOk, OnErr, IsTrue, Contains, length, option_map};
 ghost use Rattle.std.specs.List.{cons_option};
 ghost use Rattle.jscan.specs.Image.{is_block_size, sightings};
 ghost use Rattle.jexpand.specs.Expanded.{tile_content};
@@ -33,6 +33,8 @@ fn split_content<'a, E: Order>(
     ensures rest { IfOk result (λ parts. parts.1.now
         ≡ held_after (tile_content E.order geometry.block image.now (addr, seen.now)) held.now) }
     ensures memory { IfErr result (λ fault. fault ≡ OutOfMemory) }
+    ensures short { OnErr result (length held.now
+        < length (tile_content E.order geometry.block image.now (addr, seen.now))) }
 {
     let len = content_len::<E>(image, geometry, addr, seen);
     if len <= held.len() {

@@ -1,15 +1,14 @@
 //! The compressed node that stands for a node.
 
-ghost use Rattle.std.specs.Prelude.{◌≡◌, ◌==◌, ◌≤◌, ◌<◌, ◌+◌, IfOk, IfErr, IsTrue, length};
-ghost use Rattle.flashbase.specs.Bytes.{pad4_of};
+ghost use Rattle.std.specs.Prelude.{◌≡◌, ◌==◌, ◌≤◌, ◌+◌, Some, IfNone, IfOk, IfErr, IfSome, IsFalse, IsTrue, length};
+ghost use Rattle.jcompr.specs.Zlib.{zlib_of};
 ghost use Rattle.jmount.specs.Tree.{type_bits, regular_bits};
-ghost use Rattle.jnode.specs.Reading.{inode_len};
 ghost use Rattle.jnode.specs.Writing.{totlen_most};
 ghost use Rattle.jnode.specs.declared.node.Fill.TheVariants.{Data};
 ghost use Rattle.jnode.specs.declared.node.NodeRef.TheVariants as node;
 ghost use Rattle.jexpand.specs.declared.fault.ConvertFault.TheVariants.{OutOfMemory};
 ghost use Rattle.jlog.specs.Packed.{IsPackedForm};
-ghost use Rattle.jconvert.specs.Compressing.{packed_as};
+ghost use Rattle.jconvert.specs.Compressing.{StaysPlain, is_shorter, may_be_packed, packed_as};
 
 use flashbase::{Part, pad4};
 use jexpand::ConvertFault;
@@ -55,7 +54,7 @@ fn packed_as<'a>(inode: &InodeNode<'_>, stream: &'a [u8]) -> CompressedNode<'a>
 fn is_shorter(packed: usize, plain: usize) -> bool
     requires packed { packed ≤ totlen_most }
     requires plain { plain ≤ totlen_most }
-    ensures { IsTrue result → pad4_of (inode_len + packed) < pad4_of (inode_len + plain) }
+    ensures { result ≡ is_shorter packed plain }
 {
     pad4(INODE_LEN as u32 + packed as u32) < pad4(INODE_LEN as u32 + plain as u32)
 }
@@ -85,8 +84,59 @@ impl Packing {
     }
 }
 
-/// Writes the compressed node that stands for a node with these bytes over the form, and answers
-/// whether there is one.
+/// The data of a node, if they may be packed: those of a regular file, as many as its range has and
+/// at most so many as are packed at once.
+fn packable<'a, 'b>(inode: &'a InodeNode<'b>) -> Option<&'a Part<'b>>
+    ensures some { IfSome result (λ part. inode.now.fill ≡ Data part.now) }
+    ensures may { IfSome result (λ _. IsTrue (may_be_packed inode.now)) }
+    ensures none { IfNone result (IsFalse (may_be_packed inode.now)) }
+{
+    match &inode.fill {
+        Fill::Zero => None,
+        Fill::Data(data) => {
+            if inode.dsize as usize == data.len()
+                && is_regular(inode.mode)
+                && data.len() <= LONGEST
+            {
+                Some(data)
+            } else {
+                None
+            }
+        }
+    }
+}
+
+/// Writes the compressed node that stands for a node, with a stream of its bytes, over the form,
+/// and answers whether it is shorter, and one that is written.
+fn write_shorter<E: Order>(
+    inode: &InodeNode<'_>,
+    bytes: &[u8],
+    stream: &[u8],
+    form: &mut Vec<u8>,
+) -> Result<bool, ConvertFault>
+    requires fill { inode.now.fill ≡ Data bytes.now }
+    requires may { IsTrue (may_be_packed inode.now) }
+    requires given { zlib_of (length bytes.now) stream.now ≡ Some bytes.now }
+    requires short { length stream.now ≤ length bytes.now + 11 }
+    ensures packed { IfOk result (λ is_packed. IsTrue is_packed
+        → IsPackedForm E.order (node.Inode inode.now) form.new.items) }
+    ensures plain { IfOk result (λ is_packed. IsFalse is_packed → StaysPlain inode.now) }
+    ensures memory { IfErr result (λ fault. fault ≡ OutOfMemory) }
+{
+    if !is_shorter(stream.len(), bytes.len()) {
+        return Ok(false);
+    }
+    form.clear();
+    match write_compressed::<E>(form, &packed_as(inode, stream)) {
+        Ok(()) => Ok(true),
+        Err(WriteFault::OutOfMemory) => Err(ConvertFault::OutOfMemory),
+        Err(WriteFault::Data) => Ok(false),
+        Err(WriteFault::Name) => Ok(false),
+    }
+}
+
+/// Packs the bytes of a node, and writes the compressed node that stands for it over the form.
+/// Answers whether there is one.
 fn pack_bytes<E: Order>(
     alloc: Global,
     inode: &InodeNode<'_>,
@@ -95,31 +145,21 @@ fn pack_bytes<E: Order>(
     form: &mut Vec<u8>,
 ) -> Result<bool, ConvertFault>
     requires fill { inode.now.fill ≡ Data bytes.now }
-    requires long { length bytes.now ≤ totlen_most }
+    requires may { IsTrue (may_be_packed inode.now) }
     ensures packed { IfOk result (λ is_packed. IsTrue is_packed
         → IsPackedForm E.order (node.Inode inode.now) form.new.items) }
+    ensures plain { IfOk result (λ is_packed. IsFalse is_packed → StaysPlain inode.now) }
     ensures memory { IfErr result (λ fault. fault ≡ OutOfMemory) }
 {
-    if inode.dsize as usize != bytes.len() || !is_regular(inode.mode) {
-        return Ok(false);
-    }
-    let stream = match compress(alloc, bytes, packer) {
-        Ok(Some(stream)) => stream,
-        Ok(None) => return Ok(false),
-        Err(_) => return Err(ConvertFault::OutOfMemory),
-    };
-    if stream.len() > bytes.len() || !is_shorter(stream.len(), bytes.len()) {
-        return Ok(false);
-    }
-    form.clear();
-    match write_compressed::<E>(form, &packed_as(inode, stream)) {
-        Ok(()) => Ok(true),
-        Err(WriteFault::OutOfMemory) => Err(ConvertFault::OutOfMemory),
-        Err(_) => Ok(false),
+    match compress(alloc, bytes, packer) {
+        Ok(Some(stream)) => write_shorter::<E>(inode, bytes, stream, form),
+        Ok(None) => Ok(false),
+        Err(_) => Err(ConvertFault::OutOfMemory),
     }
 }
 
-/// The same of a node whose data the image may lack the end of.
+/// The same of a node whose data the image may lack the end of. Data that may be packed stay as
+/// they are only where their stream makes no shorter node, or none that is written.
 pub(crate) fn pack_inode<E: Order>(
     alloc: Global,
     inode: &InodeNode<'_>,
@@ -127,35 +167,25 @@ pub(crate) fn pack_inode<E: Order>(
 ) -> Result<bool, ConvertFault>
     ensures packed { IfOk result (λ is_packed. IsTrue is_packed
         → IsPackedForm E.order (node.Inode inode.now) packing.new.form.items) }
+    ensures plain { IfOk result (λ is_packed. IsFalse is_packed → StaysPlain inode.now) }
     ensures memory { IfErr result (λ fault. fault ≡ OutOfMemory) }
 {
-    let data = match &inode.fill {
-        Fill::Zero => return Ok(false),
-        Fill::Data(data) => data,
-    };
-    if data.len() > LONGEST {
+    let Some(data) = packable(inode) else {
         return Ok(false);
-    }
+    };
+    let Packing {
+        packer,
+        whole,
+        form,
+    } = packing;
     let present = data.present();
     if present.len() == data.len() {
-        return pack_bytes::<E>(
-            alloc,
-            inode,
-            present,
-            &mut packing.packer,
-            &mut packing.form,
-        );
+        return pack_bytes::<E>(alloc, inode, present, packer, form);
     }
-    packing.whole.clear();
-    if packing.whole.reserve(data.len()).is_err() {
+    whole.clear();
+    if whole.reserve(data.len()).is_err() {
         return Err(ConvertFault::OutOfMemory);
     }
-    data.put_onto(&mut packing.whole);
-    pack_bytes::<E>(
-        alloc,
-        inode,
-        &packing.whole,
-        &mut packing.packer,
-        &mut packing.form,
-    )
+    data.put_onto(whole);
+    pack_bytes::<E>(alloc, inode, whole, packer, form)
 }

@@ -5,7 +5,7 @@ ghost use Rattle.jnode.specs.Writing.{totlen_most};
 ghost use Rattle.jscan.specs.Image.{is_block_size, sightings};
 ghost use Rattle.jscan.specs.Scans.{IsScannable};
 ghost use Rattle.jexpand.specs.Refused.{node_fault};
-ghost use Rattle.jconvert.specs.Tallying.{IsCursor};
+ghost use Rattle.jconvert.specs.Tallying.{EndsWithin, IsCursor};
 ghost use Rattle.jconvert.specs.Holding.{BeginsAs, held_after, IsHeldOf};
 ghost use Rattle.jconvert.specs.Putting.{PutsForm, PutsTile};
 ghost use Rattle.jexpand.specs.Answers.{IsFormOf};
@@ -35,8 +35,10 @@ pub(crate) fn put_form<E: Order, S: Sink>(
     requires written { least_written ≤ geometry.block }
     requires cursor { IsCursor geometry.block from }
     requires len { length form.now ≤ totlen_most }
-    ensures { PutsForm E.order geometry.block from form.now
+    ensures puts { PutsForm E.order geometry.block from form.now
         (change_of S.Sink sink.old sink.new) result }
+    ensures room { result ≡ Err OutOfMemory
+        → ¬ EndsWithin geometry.block from (length form.now) }
 {
     let len = form.len() as u32;
     match place_of(geometry.block, greatest_blocks(geometry), from, len) {

@@ -1,7 +1,7 @@
 -- What is told of damaged nodes, one by one.
-use Rattle.std.proofs.Common.{◌≡◌, ◌≢◌, ℕ, suc, ◌+◌, ◌-◌, ◌^◌, ◌<◌, ◌≤◌, Bool, true, List, [], ◌∷◌, ◌++◌, length, length-append, take, get_or, refl, sym, ap, ◌∙◌, arith, nat_lt, false, subst, Option, Some, None}
+use Rattle.std.proofs.Common.{◌≡◌, ℕ, zero, suc, ◌+◌, ◌-◌, ◌^◌, ◌<◌, ◌≤◌, Bool, true, List, [], ◌∷◌, ◌++◌, length, length-append, append_assoc, take, get_or, refl, sym, ap, ◌∙◌, arith, nat_lt, false, subst, Option, Some, None}
 use Rattle.std.specs.Io.KnownBytes.{Appends}
-use Rattle.std.specs.Prelude.{filter, filter_map, flat_map, map, min, sum_by, is_some, Err, IfOk, IsErr, Ok, Result, if◌then◌else◌, ◌==◌, cond}
+use Rattle.std.specs.Prelude.{filter, filter_map, flat_map, map, min, sum_by, is_some, Err, IfOk, IsErr, Ok, Result, ◌==◌, ◌&&◌, cond, option_and_then}
 use Rattle.std.specs.BTreeSet.{BTreeSet, contains}
 use Rattle.std.specs.List.{cons_option}
 use Rattle.std.specs.Ordering.{nat_cmp}
@@ -20,14 +20,14 @@ use Rattle.jnode.specs.declared.order.Endian.{Endian}
 use Rattle.jnode.specs.declared.node.Damage.{Damage}
 use Rattle.jnode.specs.declared.node.Damage.TheVariants.{NodeCrc, NameCrc, DataCrc, Length, Range}
 use Rattle.jmount.specs.Mount.{Mount}
-use Rattle.jmount.specs.Tree.{State, all_entries, dangling}
+use Rattle.jmount.specs.Tree.{State, all_entries, dangling, is_directory}
 use Rattle.jdamage.specs.Coverage.{is_not_older}
-use Rattle.jdamage.specs.Damage.{PutsDamage, damage_text, damage_told, damage_totals, data_text, hurt_text, missing_text, node_paths, node_text, size_at}
+use Rattle.jdamage.specs.Damage.{PutsDamage, damage_text, damage_told, damage_totals, data_text, hurt_text, missing_text, most_paths, node_paths, node_text, rest_text, size_at}
 use Rattle.jdamage.specs.Fields.{damaged_nodes, stretch_at, stretches}
-use Rattle.jdamage.specs.Lines.{hides_line, no_path_line, totals_shown}
-use Rattle.jdamage.specs.Telling.{HasListedNumber, HaveNumbers, is_kept, lost_paths, lost_text, missing_texts, named_text, own_paths, own_text, own_totals, own_whole, path_text_if, paths_of_name}
+use Rattle.jdamage.specs.Lines.{hides_line, totals_shown}
+use Rattle.jdamage.specs.Telling.{HasListedNumber, HaveNumbers, is_kept, lost_paths, lost_text, missing_texts, named_text, own_paths, own_text, own_totals, own_whole, path_text_if}
 use Rattle.jdamage.specs.Hidden.{AreHidden, IsHidden}
-use Rattle.jdamage.specs.Ways.{HeldName, NameOf, name_held, names_for, path_if, path_to_name, paths_to, root_paths}
+use Rattle.jdamage.specs.Ways.{HeldName, NameOf, climbed, first_name, is_led, name_held, names_led, path_if, path_to_name, paths_to, root_paths, steps_at_most}
 use Rattle.flashbase.specs.declared.source.DeviceFault.{DeviceFault}
 use Rattle.jdamage.specs.declared.fault.DamageFault.{DamageFault}
 use Rattle.jdamage.specs.declared.fields.Stretch.{Stretch}
@@ -57,10 +57,6 @@ count_more g xs i d x most here more after less is so_far one all =
     let added : min (here + more) most ≡ min (min (sum_by g (take i xs)) most + min (g x) most) most = ap (λ (n : ℕ). min (n + more) most) so_far ∙ ap (λ (n : ℕ). min (min (sum_by g (take i xs)) most + n) most) one in
     all ∙ added ∙ capped_sum (sum_by g (take i xs)) (g x) most ∙ ap (λ (n : ℕ). min n most) (sym (sum_next g xs i d x less is))
 
-pub one_more : (told : Bool) (n most : ℕ) → n ≡ (if told then 1 else 0) → 1 ≤ most → n ≡ min (if told then 1 else 0) most
-one_more true n most is some = omega (arith, is, some)
-one_more false n most is some = omega (arith, is)
-
 -- what holds of each so far
 pub each_more : {X : Type 0} (P : X → Type 0) (xs : List X) (i : ℕ) (e : X) → i < length xs → ((k : ℕ) (d : X) → k < i → P (get_or xs k d)) → P (get_or xs i e)
     → (k : ℕ) (d : X) → k < i + 1 → P (get_or xs k d)
@@ -74,19 +70,68 @@ each_more {X} P xs i e less before here k d below = by (nat_lt k i) refl
 
 -- ---- the paths of an object
 
--- those of the names that stand for a number
-paths_of_named : (s : State) (i : ℕ) → filter_map (path_to_name s) (names_for s i) ≡ filter_map (path_if s i) (all_entries s)
-unfolding names_for
-paths_of_named s i = each (all_entries s)
+-- whether a way leads on does not hang on the names that come after it
+same_way : (s : State) (steps dir : ℕ) (xs ys : List (List ℕ)) → is_some (climbed s steps dir xs) ≡ is_some (climbed s steps dir ys)
+unfolding climbed
+same_way s zero dir xs ys = refl
+same_way s (suc steps) dir xs ys = by (is_directory s dir) (dir == 1) (first_name s dir) (λ x. same_way s steps x.0 (x.1 ∷ xs) (x.1 ∷ ys))
   where
-    each : (xs : List NameOf) → filter_map (path_to_name s) (filter (λ n. n.2 == i) xs) ≡ filter_map (path_if s i) xs
-    each [] = refl
-    each (n ∷ xs) = by (n.2 == i) (each xs)
-      where
-        by : (b : Bool) → filter_map (path_to_name s) (filter (λ n. n.2 == i) xs) ≡ filter_map (path_if s i) xs
-            → filter_map (path_to_name s) (cond b (n ∷ filter (λ n. n.2 == i) xs) (filter (λ n. n.2 == i) xs)) ≡ cons_option (cond b (path_to_name s n) None) (filter_map (path_if s i) xs)
-        by true rest = ap (cons_option (path_to_name s n)) rest
-        by false rest = rest
+    by : (d r : Bool) (o : Option NameOf) → ((x : NameOf) → is_some (climbed s steps x.0 (x.1 ∷ xs)) ≡ is_some (climbed s steps x.0 (x.1 ∷ ys)))
+        → is_some (cond d (cond r (Some xs) (option_and_then (λ (x : NameOf). climbed s steps x.0 (x.1 ∷ xs)) o)) None)
+        ≡ is_some (cond d (cond r (Some ys) (option_and_then (λ (x : NameOf). climbed s steps x.0 (x.1 ∷ ys)) o)) None)
+    by false r o above = refl
+    by true true o above = refl
+    by true false None above = refl
+    by true false (Some x) above = above x
+
+module _ (s : State) (i : ℕ) where
+  is_led_by : (n : NameOf) → is_led s i n ≡ ((n.2 == i) && is_some (path_to_name s n))
+  is_led_by n = ap (λ (b : Bool). (n.2 == i) && b) (same_way s (steps_at_most s) n.0 [] (n.1 ∷ []))
+
+  -- the paths of the first names that are led to are the first paths
+  led_first : (xs : List NameOf) (k : ℕ) → filter_map (path_to_name s) (take k (filter (is_led s i) xs)) ≡ take k (filter_map (path_if s i) xs)
+  led_first [] k = ap (filter_map (path_to_name s)) (take-nil k) ∙ sym (take-nil k)
+  led_first (n ∷ xs) k =
+      ap (λ (b : Bool). filter_map (path_to_name s) (take k (cond b (n ∷ filter (is_led s i) xs) (filter (is_led s i) xs)))) (is_led_by n)
+      ∙ by k (n.2 == i) (path_to_name s n) refl (led_first xs)
+    where
+      by : (k : ℕ) (b : Bool) (o : Option (List (List ℕ))) → path_to_name s n ≡ o
+          → ((j : ℕ) → filter_map (path_to_name s) (take j (filter (is_led s i) xs)) ≡ take j (filter_map (path_if s i) xs))
+          → filter_map (path_to_name s) (take k (cond (b && is_some o) (n ∷ filter (is_led s i) xs) (filter (is_led s i) xs))) ≡ take k (cons_option (cond b o None) (filter_map (path_if s i) xs))
+      by k false o is rest = rest k
+      by k true None is rest = rest k
+      by zero true (Some path) is rest = refl
+      by (suc k) true (Some path) is rest =
+          ap (λ (o : Option (List (List ℕ))). cons_option o (filter_map (path_to_name s) (take k (filter (is_led s i) xs)))) is ∙ ap (λ (l : List (List (List ℕ))). path ∷ l) (rest k)
+
+  led_many : (xs : List NameOf) → length (filter (is_led s i) xs) ≡ length (filter_map (path_if s i) xs)
+  led_many [] = refl
+  led_many (n ∷ xs) =
+      ap (λ (b : Bool). length (cond b (n ∷ filter (is_led s i) xs) (filter (is_led s i) xs))) (is_led_by n) ∙ by (n.2 == i) (path_to_name s n) (led_many xs)
+    where
+      by : (b : Bool) (o : Option (List (List ℕ))) → length (filter (is_led s i) xs) ≡ length (filter_map (path_if s i) xs)
+          → length (cond (b && is_some o) (n ∷ filter (is_led s i) xs) (filter (is_led s i) xs)) ≡ length (cons_option (cond b o None) (filter_map (path_if s i) xs))
+      by false o rest = rest
+      by true None rest = rest
+      by true (Some path) rest = ap suc rest
+
+-- the paths of all names, beside the root's
+abbrev pub paths_of_names : State → ℕ → List (List (List ℕ))
+paths_of_names s i = filter_map (path_if s i) (all_entries s)
+
+-- so many of them have a line at most
+abbrev pub most_of_names : ℕ → ℕ
+most_of_names i = most_paths - length (root_paths i)
+
+abbrev root_if : Bool → List (List (List ℕ))
+root_if b = cond b ([] ∷ []) []
+
+first_paths_if : (b : Bool) (rest : List (List (List ℕ))) → root_if b ++ take (most_paths - length (root_if b)) rest ≡ take most_paths (root_if b ++ rest)
+first_paths_if true rest = refl
+first_paths_if false rest = refl
+
+first_paths : (i : ℕ) (rest : List (List (List ℕ))) → root_paths i ++ take (most_of_names i) rest ≡ take most_paths (root_paths i ++ rest)
+first_paths i rest = first_paths_if (i == 1) rest
 
 module _ (s : State) (addr : ℕ) (lost : Stretch) where
   abbrev pub told_of : List (List (List ℕ)) → List ℕ
@@ -104,51 +149,35 @@ module _ (s : State) (addr : ℕ) (lost : Stretch) where
       one None = refl
       one (Some path) = sym (flat_map-cons (hides_line addr lost) path (named_paths names))
 
-  count_of_names : (names : List HeldName) → sum_by (paths_of_name s) names ≡ length (named_paths names)
-  count_of_names [] = refl
-  count_of_names (n ∷ names) =
-      sum_cons (paths_of_name s) n names ∙ ap (λ (k : ℕ). paths_of_name s n + k) (count_of_names names) ∙ one (path_to_name s (name_held n))
-    where
-      one : (o : Option (List (List ℕ))) → (if is_some o then 1 else 0) + length (named_paths names) ≡ length (cons_option o (named_paths names))
-      one None = omega arith
-      one (Some path) = omega arith
+  -- what is told of names
+  abbrev pub of_names : List ℕ
+  of_names = told_of (take (most_of_names lost.ino) (paths_of_names s lost.ino))
 
-  module _ (names : List HeldName) (all : map name_held names ≡ names_for s lost.ino) where
-    rest_is : named_paths names ≡ filter_map (path_if s lost.ino) (all_entries s)
-    rest_is = ap (filter_map (path_to_name s)) all ∙ paths_of_named s lost.ino
+  pub names_are_told : (names : List HeldName) (most : ℕ) → most ≡ most_of_names lost.ino → map name_held names ≡ take most (names_led s lost.ino)
+      → flat_map (named_text s addr lost) names ≡ of_names
+  unfolding names_led
+  names_are_told names most few first =
+      text_of_names names ∙ ap (λ (l : List NameOf). told_of (filter_map (path_to_name s) l)) first
+      ∙ ap (λ (k : ℕ). told_of (filter_map (path_to_name s) (take k (filter (is_led s lost.ino) (all_entries s))))) few
+      ∙ ap told_of (led_first s lost.ino (all_entries s) (most_of_names lost.ino))
 
-    -- the root's, and those of all names
-    pub paths_told : told_of (root_paths lost.ino) ++ flat_map (named_text s addr lost) names ≡ told_of (paths_to s lost.ino)
-    paths_told =
-        ap (λ (l : List ℕ). told_of (root_paths lost.ino) ++ l) (text_of_names names ∙ ap told_of rest_is)
-        ∙ sym (flat_map-append (hides_line addr lost) (root_paths lost.ino) (filter_map (path_if s lost.ino) (all_entries s)))
+  -- what is told of the root, of names, and of the rest
+  all_is_told : told_of (root_paths lost.ino) ++ (of_names ++ rest_text addr lost (length (paths_to s lost.ino))) ≡ hurt_text addr lost (paths_to s lost.ino)
+  all_is_told =
+      let rest = rest_text addr lost (length (paths_to s lost.ino)) in
+      sym (append_assoc (told_of (root_paths lost.ino)) of_names rest)
+      ∙ ap (λ (l : List ℕ). l ++ rest)
+      (sym (flat_map-append (hides_line addr lost) (root_paths lost.ino) (take (most_of_names lost.ino) (paths_of_names s lost.ino))) ∙ ap told_of (first_paths lost.ino (paths_of_names s lost.ino)))
 
-    pub paths_counted : (most root named count : ℕ) → root ≡ length (root_paths lost.ino) → named ≡ min (sum_by (paths_of_name s) names) most → count ≡ min (root + named) most
-        → count ≡ min (length (paths_to s lost.ino)) most
-    paths_counted most root named count of_root of_names of_all =
-        let whole : length (paths_to s lost.ino) ≡ length (root_paths lost.ino) + length (filter_map (path_if s lost.ino) (all_entries s)) = length-append (root_paths lost.ino) (filter_map (path_if s lost.ino) (all_entries s)) in
-        let same : sum_by (paths_of_name s) names ≡ length (filter_map (path_if s lost.ino) (all_entries s)) = count_of_names names ∙ ap (λ (l : List (List (List ℕ))). length l) rest_is in
-        omega (arith, whole, same, of_root, of_names, of_all)
+  pub whole_is_told : {T E : Type 0} (a b : Option (List ℕ)) (before now : ℕ) (r : Result T E)
+      → Puts a b before now (told_of (root_paths lost.ino) ++ (of_names ++ rest_text addr lost (length (paths_to s lost.ino)))) r
+      → Puts a b before now (hurt_text addr lost (paths_to s lost.ino)) r
+  whole_is_told a b before now r puts = subst (λ (l : List ℕ). Puts a b before now l r) all_is_told puts
 
-  -- ---- what is told of them, where there are some, and where there is none
-
-  pub some_paths : (paths : List (List (List ℕ))) (count most : ℕ) → count ≡ min (length paths) most → count ≢ 0 → told_of paths ≡ hurt_text addr lost paths
-  some_paths [] count most is some = absurd (some (omega (arith, is)))
-  some_paths (path ∷ paths) count most is some = refl
-
-  pub no_paths : (paths : List (List (List ℕ))) (count : ℕ) → count ≡ min (length paths) (2 ^ 64 - 1) → count ≡ 0 → told_of paths ++ no_path_line addr lost ≡ hurt_text addr lost paths
-  no_paths [] count is none = refl
-  no_paths (path ∷ paths) count is none = absurd (omega (arith, is, none))
-
-  pub part_told : (paths : List (List (List ℕ))) (a b : Option (List ℕ)) → PutsPart a b (told_of paths) → PutsPart a b (hurt_text addr lost paths)
-  part_told [] a b part = (0, subst (Appends a b) (take-nil part.0) part.1)
-  part_told (path ∷ paths) a b part = part
-
-  -- a beginning of what is told of the root
-  pub root_part : (a b : Option (List ℕ)) → PutsPart a b (told_of (root_paths lost.ino)) → PutsPart a b (told_of (paths_to s lost.ino))
-  root_part a b part =
-      let rest = filter_map (path_if s lost.ino) (all_entries s) in
-      subst (PutsPart a b) (sym (flat_map-append (hides_line addr lost) (root_paths lost.ino) rest)) (part_before a b (told_of (root_paths lost.ino)) (told_of rest) part)
+  pub paths_are_counted : (root named : ℕ) → root ≡ length (root_paths lost.ino) → named ≡ length (names_led s lost.ino) → root + named ≡ length (paths_to s lost.ino)
+  unfolding names_led
+  paths_are_counted root named of_root is_named =
+      omega (arith, of_root, is_named, led_many s lost.ino (all_entries s), length-append (root_paths lost.ino) (paths_of_names s lost.ino))
 
 pub part_failed : {T E : Type 0} (a b : Option (List ℕ)) (before now : ℕ) (text : List ℕ) (r : Result T E) → IsErr r → PutsPart a b text → now ≡ next_count before → Puts a b before now text r
 part_failed a b before now text (Ok x) err part failed = cc

@@ -1,17 +1,17 @@
 -- How long the paths are that are told.
-use Rattle.std.proofs.Common.{◌≡◌, ℕ, zero, suc, ◌+◌, ◌<◌, ◌≤◌, Bool, true, false, cond, List, [], ◌∷◌, length, get_or, refl, sym, subst, ap, ◌∙◌, arith, Option, Some, None}
+use Rattle.std.proofs.Common.{◌≡◌, ℕ, zero, suc, ◌+◌, ◌<◌, ◌≤◌, Bool, true, false, cond, List, [], ◌∷◌, length, take, get_or, refl, sym, subst, ap, ◌∙◌, arith, Option, Some, None}
 use Rattle.std.specs.Prelude.{◌==◌, map, option_and_then, is_err, is_ok, is_some, reverse, Err, Ok, OnErr, Result, if◌then◌else◌}
 use Rattle.std.specs.Borrow.{Bor}
 use Rattle.std.specs.BTreeSet.{BTreeSet}
 use Rattle.std.proofs.lemmas.Bool.{false≢true}
-use Rattle.std.proofs.lemmas.List.{get_or-map, length-map, length-reverse}
+use Rattle.std.proofs.lemmas.List.{get_or-map, get_or-take, length-map, length-reverse, length-take}
 use Rattle.jnode.specs.declared.order.Endian.{Endian}
 use Rattle.jnode.specs.declared.node.Damage.{Damage}
 use Rattle.jnode.specs.declared.node.Damage.TheVariants.{NodeCrc, NameCrc, DataCrc, Length, Range}
 use Rattle.jmount.specs.Mount.{Mount}
 use Rattle.jmount.specs.Tree.{State, is_directory}
-use Rattle.jdamage.specs.Room.{HeldPathsFit, NodePathsFit}
-use Rattle.jdamage.specs.Ways.{HeldName, NameOf, climbed, depth, first_name, name_held, path_below, path_length, steps_at_most}
+use Rattle.jdamage.specs.Room.{HeldPathsFit, NodePathsFit, PathsFit, names_told}
+use Rattle.jdamage.specs.Ways.{HeldName, NameOf, climbed, depth, first_name, name_held, names_led, path_below, path_length, steps_at_most}
 
 -- names that are put in front go on with the path
 longer : (s : State) (steps dir : ℕ) (names more : List (List ℕ)) (n : ℕ) → length more ≡ length names + n
@@ -83,3 +83,18 @@ fits_more e m hidden room more (addr, Range) most fit = fit
 pub held_fits : (s : State) (room : ℕ) (names : List HeldName) (i : ℕ) (d : HeldName) → i < length names → HeldPathsFit s room names → depth s (get_or names i d).0 < room
 held_fits s room names i d less fit =
     subst (λ (n : NameOf). depth s n.0 < room) (get_or-map name_held names i d (name_held d) less) (fit i (name_held d) (omega (arith, less, length-map names name_held)))
+
+-- ---- fewer names
+
+pub fits_first : (s : State) (room k n : ℕ) (names : List NameOf) → k ≤ n → PathsFit s room (take n names) → PathsFit s room (take k names)
+fits_first s room k n names few fit j d less =
+    subst (λ (x : NameOf). depth s x.0 < room) (get_or-take n names j d (omega (arith, less, length-take k names)) ∙ sym (get_or-take k names j d (omega (arith, less, length-take k names))))
+    (fit j d (omega (arith, less, few, length-take k names, length-take n names)))
+
+pub held_first_fit : (s : State) (room k i : ℕ) (held : List HeldName) → k ≤ 16 → map name_held held ≡ take k (names_led s i) → PathsFit s room (names_told s i) → HeldPathsFit s room held
+unfolding names_told
+held_first_fit s room k i held few is fit = subst (PathsFit s room) (sym is) (fits_first s room k 16 (names_led s i) few fit)
+
+pub told_are : (s : State) (i : ℕ) (names : List NameOf) → names ≡ take 16 (names_led s i) → names ≡ names_told s i
+unfolding names_told
+told_are s i names is = is

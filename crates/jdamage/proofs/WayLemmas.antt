@@ -1,6 +1,6 @@
 -- The way up to the root, step by step.
-use Rattle.std.proofs.Common.{◌≡◌, ℕ, suc, ◌+◌, ◌-◌, ◌<◌, ◌≤◌, ◌≢◌, add-one, append_assoc, append-nil, drop, drop-cons, get_or, Bool, true, false, cond, List, [], ◌∷◌, ◌++◌, length, refl, sym, ap, ◌∙◌, arith, Option, Some, None}
-use Rattle.std.specs.Prelude.{◌==◌, Vec, filter, option_and_then, option_map, map, reverse, is_some}
+use Rattle.std.proofs.Common.{◌≡◌, ℕ, suc, ◌+◌, ◌-◌, ◌<◌, ◌≤◌, ◌≢◌, add-one, append_assoc, append-nil, drop, drop-cons, get_or, take, zero, Bool, true, false, cond, List, [], ◌∷◌, ◌++◌, length, refl, sym, ap, ◌∙◌, arith, Option, Some, None}
+use Rattle.std.specs.Prelude.{◌==◌, ◌&&◌, Vec, filter, option_and_then, option_map, map, min, reverse, is_some}
 use Rattle.std.specs.Borrow.{Bor}
 use Rattle.std.specs.BTreeMap.{BTreeMap, get}
 use Rattle.std.specs.BTreeSet.{BTreeSet, contains}
@@ -11,10 +11,11 @@ use Rattle.std.proofs.lemmas.Bool.{eqb-true, false≢true}
 use Rattle.std.specs.List.{find}
 use Rattle.std.specs.declared.alloc.Global.{Global}
 use Rattle.std.proofs.lemmas.Bool.Decides.{nat_tests}
-use Rattle.std.proofs.lemmas.List.{drop_all, map-append, reverse-append}
+use Rattle.std.proofs.lemmas.List.{drop_all, length-map, map-append, reverse-append}
+use Rattle.std.proofs.Math.Seq.{take-nil}
 use Rattle.jmount.specs.Tree.{State, all_entries, is_directory}
 use Rattle.jdamage.specs.Groups.{group_of}
-use Rattle.jdamage.specs.Ways.{AreFirsts, HeldName, NameOf, climbed, first_if, first_name, held_first, name_held, names_for, or_else}
+use Rattle.jdamage.specs.Ways.{AreFirsts, HeldName, NameOf, climbed, first_if, first_name, held_first, is_led, leads_to, name_held, names_led, or_else}
 use Rattle.jdamage.proofs.GroupLemmas.{no_group}
 
 -- a step, by what is met
@@ -73,46 +74,76 @@ names_turned f [] = refl
 names_turned f (x ∷ xs) =
     ap (map f) (reverse-append (x ∷ []) xs) ∙ map-append f (reverse xs) (x ∷ []) ∙ ap (λ l. l ++ f x ∷ []) (names_turned f xs) ∙ sym (reverse-append (f x ∷ []) (map f xs))
 
--- ---- the names of a number
+-- ---- the names of a number that a path leads to
 
-pub named_begin : (s : State) (numbers : BTreeSet ℕ) (groups : BTreeMap ℕ (Vec HeldName Global)) (left : List NameOf) → groups.entries ≡ [] → left ≡ all_entries s
-    → (i : ℕ) → contains nat_cmp numbers i ≡ true → map name_held (group_of groups i) ++ filter (λ n. n.2 == i) left ≡ names_for s i
-unfolding names_for
-named_begin s numbers groups left none all i wanted =
-    ap (λ (l : List HeldName). map name_held l ++ filter (λ n. n.2 == i) left) (no_group groups none i) ∙ ap (filter (λ n. n.2 == i)) all
+pub led_begin : (s : State) (numbers : BTreeSet ℕ) (groups : BTreeMap ℕ (Vec HeldName Global)) (left : List NameOf) → groups.entries ≡ [] → left ≡ all_entries s
+    → (i : ℕ) → contains nat_cmp numbers i ≡ true → map name_held (group_of groups i) ++ filter (is_led s i) left ≡ names_led s i
+unfolding names_led
+led_begin s numbers groups left none all i wanted =
+    ap (λ (l : List HeldName). map name_held l ++ filter (is_led s i) left) (no_group groups none i) ∙ ap (filter (is_led s i)) all
 
-pub one_named : (s : State) (numbers : BTreeSet ℕ) (old new : BTreeMap ℕ (Vec HeldName Global)) (n : HeldName) (left rest : List NameOf) → left ≡ name_held n ∷ rest
-    → ((i : ℕ) → contains nat_cmp numbers i ≡ true → group_of new i ≡ group_of old i ++ cond (n.2 == i) (n ∷ []) [])
-    → ((i : ℕ) → contains nat_cmp numbers i ≡ true → map name_held (group_of old i) ++ filter (λ x. x.2 == i) left ≡ names_for s i)
-    → (i : ℕ) → contains nat_cmp numbers i ≡ true → map name_held (group_of new i) ++ filter (λ x. x.2 == i) rest ≡ names_for s i
-one_named s numbers old new n left rest is added so_far i wanted =
+pub one_led : (s : State) (numbers : BTreeSet ℕ) (old new : BTreeMap ℕ (Vec HeldName Global)) (n : HeldName) (left rest : List NameOf) → left ≡ name_held n ∷ rest
+    → ((i : ℕ) → contains nat_cmp numbers i ≡ true → group_of new i ≡ group_of old i ++ cond (is_led s i (name_held n)) (n ∷ []) [])
+    → ((i : ℕ) → contains nat_cmp numbers i ≡ true → map name_held (group_of old i) ++ filter (is_led s i) left ≡ names_led s i)
+    → (i : ℕ) → contains nat_cmp numbers i ≡ true → map name_held (group_of new i) ++ filter (is_led s i) rest ≡ names_led s i
+one_led s numbers old new n left rest is added so_far i wanted =
     let here = map name_held (group_of old i) in
-    let after = filter (λ (x : NameOf). x.2 == i) rest in
+    let after = filter (is_led s i) rest in
     ap (λ (l : List HeldName). map name_held l ++ after) (added i wanted)
-    ∙ ap (λ (l : List NameOf). l ++ after) (map-append name_held (group_of old i) (cond (n.2 == i) (n ∷ []) []))
-    ∙ append_assoc here (map name_held (cond (n.2 == i) (n ∷ []) [])) after
-    ∙ ap (λ (l : List NameOf). here ++ l) (one (n.2 == i))
-    ∙ ap (λ (l : List NameOf). here ++ filter (λ x. x.2 == i) l) (sym is) ∙ so_far i wanted
+    ∙ ap (λ (l : List NameOf). l ++ after) (map-append name_held (group_of old i) (cond (is_led s i (name_held n)) (n ∷ []) []))
+    ∙ append_assoc here (map name_held (cond (is_led s i (name_held n)) (n ∷ []) [])) after
+    ∙ ap (λ (l : List NameOf). here ++ l) (one (is_led s i (name_held n)))
+    ∙ ap (λ (l : List NameOf). here ++ filter (is_led s i) l) (sym is) ∙ so_far i wanted
   where
-    one : (b : Bool) → map name_held (cond b (n ∷ []) []) ++ filter (λ (x : NameOf). x.2 == i) rest ≡ cond b (name_held n ∷ filter (λ (x : NameOf). x.2 == i) rest) (filter (λ (x : NameOf). x.2 == i) rest)
+    one : (b : Bool) → map name_held (cond b (n ∷ []) []) ++ filter (is_led s i) rest ≡ cond b (name_held n ∷ filter (is_led s i) rest) (filter (is_led s i) rest)
     one true = refl
     one false = refl
 
-pub all_named : (s : State) (numbers : BTreeSet ℕ) (groups : BTreeMap ℕ (Vec HeldName Global)) (left : List NameOf) → left ≡ []
-    → ((i : ℕ) → contains nat_cmp numbers i ≡ true → map name_held (group_of groups i) ++ filter (λ x. x.2 == i) left ≡ names_for s i)
-    → (i : ℕ) → contains nat_cmp numbers i ≡ true → map name_held (group_of groups i) ≡ names_for s i
-all_named s numbers groups left is so_far i wanted =
+pub all_led : (s : State) (numbers : BTreeSet ℕ) (groups : BTreeMap ℕ (Vec HeldName Global)) (left : List NameOf) → left ≡ []
+    → ((i : ℕ) → contains nat_cmp numbers i ≡ true → map name_held (group_of groups i) ++ filter (is_led s i) left ≡ names_led s i)
+    → (i : ℕ) → contains nat_cmp numbers i ≡ true → map name_held (group_of groups i) ≡ names_led s i
+all_led s numbers groups left is so_far i wanted =
     sym (append-nil (map name_held (group_of groups i)))
-    ∙ ap (λ (l : List NameOf). map name_held (group_of groups i) ++ filter (λ (x : NameOf). x.2 == i) l) (sym is) ∙ so_far i wanted
+    ∙ ap (λ (l : List NameOf). map name_held (group_of groups i) ++ filter (is_led s i) l) (sym is) ∙ so_far i wanted
+
+-- a name that is not added
+not_added : (group : List HeldName) (n : HeldName) (b : Bool) → b ≡ false → group ≡ group ++ cond b (n ∷ []) []
+not_added group n b skipped = sym (append-nil group) ∙ ap (λ (c : Bool). group ++ cond c (n ∷ []) []) (sym skipped)
 
 -- a name of another number
-pub passed_by : (numbers : BTreeSet ℕ) (group : List HeldName) (n : HeldName) (i : ℕ) → contains nat_cmp numbers n.2 ≡ false → contains nat_cmp numbers i ≡ true
-    → group ≡ group ++ cond (n.2 == i) (n ∷ []) []
-passed_by numbers group n i other wanted = by (n.2 == i) refl
+pub passed_by : (s : State) (numbers : BTreeSet ℕ) (group : List HeldName) (n : HeldName) (i : ℕ) → contains nat_cmp numbers n.2 ≡ false → contains nat_cmp numbers i ≡ true
+    → group ≡ group ++ cond (is_led s i (name_held n)) (n ∷ []) []
+passed_by s numbers group n i other wanted = by (n.2 == i) refl
   where
-    by : (b : Bool) → (n.2 == i) ≡ b → group ≡ group ++ cond b (n ∷ []) []
+    by : (b : Bool) → (n.2 == i) ≡ b → group ≡ group ++ cond (is_led s i (name_held n)) (n ∷ []) []
     by true e = absurd (false≢true (sym other ∙ ap (contains nat_cmp numbers) (eqb-true n.2 i e) ∙ wanted))
-    by false e = sym (append-nil group)
+    by false e = not_added group n (is_led s i (name_held n)) (ap (λ (b : Bool). b && leads_to s n.0) e)
+
+-- a name in a directory that no way leads to
+pub not_led : (s : State) (group : List HeldName) (n : HeldName) (i : ℕ) → leads_to s n.0 ≡ false → group ≡ group ++ cond (is_led s i (name_held n)) (n ∷ []) []
+not_led s group n i nowhere = not_added group n (is_led s i (name_held n)) (ap (λ (b : Bool). (n.2 == i) && b) nowhere ∙ no_and (n.2 == i))
+  where
+    no_and : (b : Bool) → (b && false) ≡ false
+    no_and true = refl
+    no_and false = refl
+
+pub led_one : (s : State) (old new : List HeldName) (n : HeldName) (i : ℕ) → leads_to s n.0 ≡ true → new ≡ old ++ cond (n.2 == i) (n ∷ []) [] → new ≡ old ++ cond (is_led s i (name_held n)) (n ∷ []) []
+led_one s old new n i there is = is ∙ ap (λ (b : Bool). old ++ cond b (n ∷ []) []) (sym (ap (λ (b : Bool). (n.2 == i) && b) there ∙ and_true (n.2 == i)))
+  where
+    and_true : (b : Bool) → (b && true) ≡ b
+    and_true true = refl
+    and_true false = refl
+
+-- the first of some names
+pub first_held : (names : List HeldName) (most : ℕ) → map name_held (take (min (length names) most) names) ≡ take most (map name_held names)
+first_held [] most = ap (map name_held) (take-nil (min 0 most)) ∙ sym (take-nil most)
+first_held (n ∷ names) zero = ap (λ (k : ℕ). map name_held (take k (n ∷ names))) {x = min (length (n ∷ names)) 0} {y = 0} (omega arith)
+first_held (n ∷ names) (suc most) =
+    ap (λ (k : ℕ). map name_held (take k (n ∷ names))) {x = min (length (n ∷ names)) (suc most)} {y = suc (min (length names) most)} (omega arith)
+    ∙ ap (λ (l : List NameOf). name_held n ∷ l) (first_held names most)
+
+pub named_length : (names : List HeldName) (all : List NameOf) → map name_held names ≡ all → length names ≡ length all
+named_length names all is = sym (length-map names name_held) ∙ ap (λ (l : List NameOf). length l) is
 
 -- ---- the first names of directories
 

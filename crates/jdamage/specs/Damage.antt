@@ -1,5 +1,5 @@
 -- What `damage` prints of a mounted image.
-use Rattle.std.specs.Prelude.{◌≡◌, ℕ, ◌-◌, ◌^◌, Bool, List, [], ◌∷◌, ◌++◌, length, min, sum_by, Option, Some, None, option_map, Result, Ok, Err, if◌then◌else◌}
+use Rattle.std.specs.Prelude.{◌≡◌, ℕ, ◌-◌, ◌^◌, ◌==◌, nat_lt, Bool, List, [], ◌∷◌, ◌++◌, length, take, min, sum_by, Option, Some, None, option_map, Result, Ok, Err, if◌then◌else◌}
 use Rattle.std.specs.List.{flat_map}
 use Rattle.std.specs.Io.KnownBytes.{Appends}
 use Rattle.flashbase.specs.Device.{PutsPart, next_count}
@@ -13,7 +13,7 @@ use Rattle.jmount.specs.Tree.{State, object, dangling}
 use Rattle.jmount.specs.declared.object.Object.{Object}
 use Rattle.jdamage.specs.Coverage.{hides_nothing}
 use Rattle.jdamage.specs.Fields.{stretch_at, loss_at, damaged_nodes, stretches}
-use Rattle.jdamage.specs.Lines.{nothing_line, no_path_line, hides_line, loss_line, unknown_line, missing_line, totals_shown}
+use Rattle.jdamage.specs.Lines.{nothing_line, no_path_line, hides_line, more_line, loss_line, unknown_line, missing_line, totals_shown}
 use Rattle.jdamage.specs.Ways.{NameOf, path_below, paths_to}
 use Rattle.jdamage.specs.declared.fault.DamageFault.{DamageFault}
 use Rattle.jdamage.specs.declared.fault.DamageFault.TheVariants.{Output, OutOfMemory}
@@ -38,10 +38,19 @@ changes_nothing s others lost = hides_nothing others (size_at s lost.ino) lost
 abbrev pub hurt_paths : State → List Stretch → Stretch → List (List (List ℕ))
 hurt_paths s others lost = if changes_nothing s others lost then [] else paths_to s lost.ino
 
--- a line for each, or that no path leads there
+-- of one node so many paths have a line at most
+abbrev pub most_paths : ℕ
+most_paths = 16
+
+-- by how many paths there are: that none leads there, or how many more than have a line
+abbrev pub rest_text : ℕ → Stretch → ℕ → List ℕ
+rest_text addr lost count = if count == 0 then no_path_line addr lost
+    else (if nat_lt most_paths count then more_line addr lost (count - most_paths) else [])
+
+-- a line for each of the first, and what is told of the rest
 abbrev pub hurt_text : ℕ → Stretch → List (List (List ℕ)) → List ℕ
-hurt_text addr lost [] = no_path_line addr lost
-hurt_text addr lost (path ∷ paths) = flat_map (hides_line addr lost) (path ∷ paths)
+hurt_text addr lost paths = flat_map (hides_line addr lost) (take most_paths paths)
+    ++ rest_text addr lost (length paths)
 
 unfoldable pub data_text : State → List Stretch → ℕ → Stretch → List ℕ
 data_text s others addr lost =
@@ -70,7 +79,7 @@ node_paths e m others (addr, _) = 0
 abbrev pub missing_text : State → NameOf → List ℕ
 missing_text s n = missing_line n (path_below s n.0 (n.1 ∷ []))
 
--- How many nodes are damaged, how many lines name a path that one hides, to the greatest u64, and
+-- How many nodes are damaged, how many paths they hide, each by itself, to the greatest u64, and
 -- how many names have no object.
 abbrev pub totals_by : Endian → Mount → List Stretch → List (ℕ × Damage) → Totals
 totals_by e m others damaged = record {

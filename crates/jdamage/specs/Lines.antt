@@ -25,6 +25,13 @@ abbrev pub hides_line : ℕ → Stretch → List (List ℕ) → List ℕ
 hides_line addr s path =
     stretch_start addr s ++ (codes " hides " ++ (path_shown path ++ codes "\n"))
 
+-- so many more paths than have a line
+unfoldable pub more_end : ℕ → List ℕ
+more_end count = decimal count ++ codes " more paths\n"
+
+abbrev pub more_line : ℕ → Stretch → ℕ → List ℕ
+more_line addr s count = stretch_start addr s ++ (codes " and " ++ more_end count)
+
 -- ---- an entry node whose name is damaged
 
 unfoldable pub loss_start : ℕ → Loss → List ℕ

@@ -1,5 +1,5 @@
 -- What a call adds to the text.
-use Rattle.std.specs.Prelude.{◌≡◌, ℕ, ◌-◌, ◌^◌, Bool, List, [], ◌++◌, length, min, sum_by, All, Option, Some, None, is_some, true, if◌then◌else◌}
+use Rattle.std.specs.Prelude.{◌≡◌, ℕ, ◌-◌, ◌^◌, Bool, List, [], ◌++◌, length, min, sum_by, All, Option, Some, None, true, if◌then◌else◌}
 use Rattle.std.specs.List.{flat_map}
 use Rattle.std.specs.BTreeSet.{BTreeSet, contains}
 use Rattle.std.specs.Ordering.{nat_cmp}
@@ -23,13 +23,6 @@ path_text_if addr lost (Some path) = hides_line addr lost path
 -- the line of a name, where a path leads to it
 abbrev pub named_text : State → ℕ → Stretch → HeldName → List ℕ
 named_text s addr lost n = path_text_if addr lost (path_to_name s (name_held n))
-
--- whether a path leads to it, and how many that are
-abbrev pub leads : State → HeldName → Bool
-leads s n = is_some (path_to_name s (name_held n))
-
-abbrev pub paths_of_name : State → HeldName → ℕ
-paths_of_name s n = if leads s n then 1 else 0
 
 -- a version of an object whose number is among some
 abbrev pub is_kept : BTreeSet ℕ → Stretch → Bool

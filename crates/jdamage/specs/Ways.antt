@@ -1,5 +1,5 @@
 -- The paths that lead to a number.
-use Rattle.std.specs.Prelude.{◌≡◌, ℕ, true, zero, suc, ◌+◌, ◌^◌, ◌==◌, min, Vec, List, [], ◌∷◌, ◌++◌, length, map, filter, filter_map, Option, Some, None, option_and_then, option_map, if◌then◌else◌}
+use Rattle.std.specs.Prelude.{◌≡◌, ℕ, ◌&&◌, Bool, is_some, true, zero, suc, ◌+◌, ◌^◌, ◌==◌, min, Vec, List, [], ◌∷◌, ◌++◌, length, map, filter, filter_map, Option, Some, None, option_and_then, option_map, if◌then◌else◌}
 use Rattle.std.specs.Borrow.{Bor}
 use Rattle.std.specs.BTreeMap.{BTreeMap, get}
 use Rattle.std.specs.BTreeSet.{BTreeSet, contains}
@@ -30,13 +30,21 @@ climbed s (suc steps) dir names = if is_directory s dir then
 abbrev pub steps_at_most : State → ℕ
 steps_at_most s = min (length (all_entries s)) (2 ^ 32) + 1
 
--- the names that stand for a number, in the same order
-unfoldable pub names_for : State → ℕ → List NameOf
-names_for s i = filter (λ n. n.2 == i) (all_entries s)
-
 -- these names, below a directory, as a path
 abbrev pub path_below : State → ℕ → List (List ℕ) → Option (List (List ℕ))
 path_below s dir names = climbed s (steps_at_most s) dir names
+
+-- whether a way leads to a directory
+abbrev pub leads_to : State → ℕ → Bool
+leads_to s dir = is_some (path_below s dir [])
+
+-- whether a name stands for a number, in a directory that a way leads to
+abbrev pub is_led : State → ℕ → NameOf → Bool
+is_led s i n = (n.2 == i) && leads_to s n.0
+
+-- the names that do, in the same order
+unfoldable pub names_led : State → ℕ → List NameOf
+names_led s i = filter (is_led s i) (all_entries s)
 
 -- how many names a path has, 0 where there is none
 abbrev pub path_length : Option (List (List ℕ)) → ℕ
@@ -74,10 +82,10 @@ name_held n = (n.0, n.1.now, n.2)
 abbrev pub HeldName : Type 0
 HeldName = ℕ × Bor (List ℕ) × ℕ
 
--- each of these numbers has its names
-abbrev pub AreNamed : State → BTreeSet ℕ → BTreeMap ℕ (Vec HeldName Global) → Type 0
-AreNamed s numbers names = (i : ℕ) → contains nat_cmp numbers i ≡ true
-    → map name_held (group_of names i) ≡ names_for s i
+-- each of these numbers has its names that a path leads to
+abbrev pub AreLed : State → BTreeSet ℕ → BTreeMap ℕ (Vec HeldName Global) → Type 0
+AreLed s numbers names = (i : ℕ) → contains nat_cmp numbers i ≡ true
+    → map name_held (group_of names i) ≡ names_led s i
 
 -- the first name of a number among those that are held
 abbrev pub held_first : BTreeMap ℕ HeldName → ℕ → Option NameOf

@@ -103,15 +103,15 @@ fn put_nodes<'m, E: Order, T: Sink>(
     path: &mut Vec<&'m [u8]>,
     sink: &mut T,
 ) -> Result<u64, DeviceFault>
-    requires image { length ways.now.mounted.now.image ≤ greatest_image }
-    requires numbers { HaveNumbers E.order ways.now.mounted.now.image ways.now.numbers.now
+    requires image { length ways.now.up.mounted.now.image ≤ greatest_image }
+    requires numbers { HaveNumbers E.order ways.now.up.mounted.now.image ways.now.numbers.now
         damaged.now }
-    requires room { All (NodePathsFit E.order ways.now.mounted.now hidden.now
+    requires room { All (NodePathsFit E.order ways.now.up.mounted.now hidden.now
         (vec_capacity path.old)) damaged.now }
     ensures puts { PutsTo T.Sink sink.old sink.new
-        (flat_map (own_text E.order ways.now.mounted.now hidden.now) damaged.now) result }
+        (flat_map (own_text E.order ways.now.up.mounted.now hidden.now) damaged.now) result }
     ensures count { IfOk result (λ count. count
-        ≡ min (sum_by (own_paths E.order ways.now.mounted.now hidden.now) damaged.now)
+        ≡ min (sum_by (own_paths E.order ways.now.up.mounted.now hidden.now) damaged.now)
         (2 ^ 64 - 1)) }
     ensures capacity { vec_capacity path.old ≤ vec_capacity path.new }
 {
@@ -130,9 +130,9 @@ fn put_all_missing<'m, T: Sink>(
     path: &mut Vec<&'m [u8]>,
     sink: &mut T,
 ) -> Result<(), DeviceFault>
-    requires { HeldPathsFit ways.now.mounted.now.state (vec_capacity path.old) missing.now }
+    requires { HeldPathsFit ways.now.up.mounted.now.state (vec_capacity path.old) missing.now }
     ensures puts { PutsTo T.Sink sink.old sink.new
-        (missing_texts ways.now.mounted.now.state missing.now) result }
+        (missing_texts ways.now.up.mounted.now.state missing.now) result }
 {
     for name in missing {
         put_missing_name(ways, *name, path, sink)?;
@@ -149,16 +149,17 @@ fn put_lines<'m, E: Order, T: Sink>(
     path: &mut Vec<&'m [u8]>,
     sink: &mut T,
 ) -> Result<Totals, DeviceFault>
-    requires image { length ways.now.mounted.now.image ≤ greatest_image }
-    requires numbers { HaveNumbers E.order ways.now.mounted.now.image ways.now.numbers.now
+    requires image { length ways.now.up.mounted.now.image ≤ greatest_image }
+    requires numbers { HaveNumbers E.order ways.now.up.mounted.now.image ways.now.numbers.now
         damaged.now }
-    requires room { All (NodePathsFit E.order ways.now.mounted.now hidden.now
+    requires room { All (NodePathsFit E.order ways.now.up.mounted.now hidden.now
         (vec_capacity path.old)) damaged.now }
-    requires names { HeldPathsFit ways.now.mounted.now.state (vec_capacity path.old) missing.now }
+    requires names { HeldPathsFit ways.now.up.mounted.now.state (vec_capacity path.old)
+        missing.now }
     ensures puts { PutsTo T.Sink sink.old sink.new
-        (own_whole E.order ways.now.mounted.now hidden.now damaged.now missing.now) result }
+        (own_whole E.order ways.now.up.mounted.now hidden.now damaged.now missing.now) result }
     ensures totals { IfOk result (λ totals. totals
-        ≡ own_totals E.order ways.now.mounted.now hidden.now damaged.now missing.now) }
+        ≡ own_totals E.order ways.now.up.mounted.now hidden.now damaged.now missing.now) }
 {
     let paths = put_nodes::<E, T>(ways, hidden, damaged, path, sink)?;
     put_all_missing(ways, missing, path, sink)?;
@@ -179,13 +180,13 @@ fn room_for<'m, E: Order>(
     damaged: &[(u32, Damage)],
     missing: &[Name<'m>],
 ) -> Result<Vec<&'m [u8]>, AllocError>
-    requires image { length ways.now.mounted.now.image ≤ greatest_image }
-    requires numbers { HaveNumbers E.order ways.now.mounted.now.image ways.now.numbers.now
+    requires image { length ways.now.up.mounted.now.image ≤ greatest_image }
+    requires numbers { HaveNumbers E.order ways.now.up.mounted.now.image ways.now.numbers.now
         damaged.now }
-    ensures room { IfOk result (λ path. All (NodePathsFit E.order ways.now.mounted.now hidden.now
+    ensures room { IfOk result (λ path. All (NodePathsFit E.order ways.now.up.mounted.now hidden.now
         (vec_capacity path)) damaged.now) }
     ensures names { IfOk result (λ path.
-        HeldPathsFit ways.now.mounted.now.state (vec_capacity path) missing.now) }
+        HeldPathsFit ways.now.up.mounted.now.state (vec_capacity path) missing.now) }
 {
     let nodes = deepest_of_all::<E>(ways, hidden, damaged);
     let names = deepest(ways, missing);

@@ -28,6 +28,7 @@ mod room;
 mod telling;
 mod totals;
 mod ways;
+mod ways_up;
 
 pub use crate::damage::put_damage;
 pub use crate::fault::DamageFault;

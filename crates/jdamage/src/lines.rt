@@ -4,7 +4,7 @@ ghost use Rattle.std.specs.Prelude.{◌≡◌, ◌++◌, ◌≤◌, length, map,
 ghost use Rattle.flashbase.specs.Sinks.{PutsTo};
 ghost use Rattle.jline.specs.Paths.{path_shown};
 ghost use Rattle.jline.specs.Words.{escaped};
-ghost use Rattle.jdamage.specs.Lines.{hides_line, loss_line, loss_start, missing_end, missing_line, missing_start, no_path_line, nothing_line, stretch_start, totals_shown, unknown_line};
+ghost use Rattle.jdamage.specs.Lines.{hides_line, loss_line, loss_start, missing_end, missing_line, missing_start, more_end, more_line, no_path_line, nothing_line, stretch_start, totals_shown, unknown_line};
 
 use crate::fields::{Loss, Stretch};
 use crate::totals::Totals;
@@ -38,6 +38,14 @@ fn put_name_between<T: Sink>(
 {
     put_text(sink, start)?;
     put_escaped(sink, name)?;
+    put_text(sink, end)
+}
+
+/// Puts two texts.
+fn put_two<T: Sink>(start: &[u8], end: &[u8], sink: &mut T) -> Result<(), DeviceFault>
+    ensures { PutsTo T.Sink sink.old sink.new (start.now ++ end.now) result }
+{
+    put_text(sink, start)?;
     put_text(sink, end)
 }
 
@@ -102,6 +110,31 @@ pub(crate) fn put_hides<T: Sink>(
 {
     let start = stretch_until(addr, lost, b" hides ");
     put_path_between(start.as_slice(), path, b"\n", sink)
+}
+
+/// The end of a line that tells how many more paths there are.
+#[tactic(auto, unfolding(crate::specs::Lines::more_end), using(std::proofs::Common::append_assoc))]
+fn more_end(count: u64) -> LineBuffer
+    ensures { result ≡ more_end count }
+{
+    let mut line = LineBuffer::new();
+    line.push_decimal(count);
+    line.push_text(b" more paths\n");
+    line
+}
+
+/// The line of a node that hides so many more paths than have a line.
+#[tactic(auto, using(std::proofs::Common::append_assoc))]
+pub(crate) fn put_more<T: Sink>(
+    addr: u32,
+    lost: &Stretch,
+    count: u64,
+    sink: &mut T,
+) -> Result<(), DeviceFault>
+    ensures { PutsTo T.Sink sink.old sink.new (more_line addr lost.now count) result }
+{
+    let start = stretch_until(addr, lost, b" and ");
+    put_two(start.as_slice(), more_end(count).as_slice(), sink)
 }
 
 /// What the line of a node of a damaged name begins with, and this text.

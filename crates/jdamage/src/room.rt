@@ -13,12 +13,12 @@ use std::collections::BTreeSet;
 
 /// The greatest depth of the directories that hold these names.
 pub(crate) fn deepest(ways: &Ways<'_, '_>, names: &[Name<'_>]) -> u64
-    ensures room { HeldPathsFit ways.now.mounted.now.state (result + 1) names.now }
+    ensures room { HeldPathsFit ways.now.up.mounted.now.state (result + 1) names.now }
     ensures few { result ≤ 2 ^ 32 }
 {
     let mut most = 0;
     for (pino, _, _) in names {
-        most = most.max(ways.depth(*pino));
+        most = most.max(ways.up.depth(*pino));
     }
     most
 }
@@ -30,21 +30,22 @@ fn deepest_of<E: Order>(
     addr: u32,
     which: Damage,
 ) -> u64
-    requires image { length ways.now.mounted.now.image ≤ greatest_image }
-    requires number { HasListedNumber E.order ways.now.mounted.now.image ways.now.numbers.now
+    requires image { length ways.now.up.mounted.now.image ≤ greatest_image }
+    requires number { HasListedNumber E.order ways.now.up.mounted.now.image ways.now.numbers.now
         (addr, which) }
-    ensures room { NodePathsFit E.order ways.now.mounted.now hidden.now (result + 1) (addr, which) }
+    ensures room { NodePathsFit E.order ways.now.up.mounted.now hidden.now (result + 1)
+        (addr, which) }
     ensures few { result ≤ 2 ^ 32 }
 {
-    let image = ways.mounted.image();
+    let image = ways.up.mounted.image();
     match which {
         Damage::DataCrc => {
             if hidden.contains(&addr) {
                 return 0;
             }
-            deepest(ways, ways.named(stretch_at::<E>(image, addr).ino))
+            deepest(ways, ways.told(stretch_at::<E>(image, addr).ino))
         }
-        Damage::NameCrc => ways.depth(loss_at::<E>(image, addr).pino),
+        Damage::NameCrc => ways.up.depth(loss_at::<E>(image, addr).pino),
         Damage::NodeCrc | Damage::Length | Damage::Range => 0,
     }
 }
@@ -55,10 +56,10 @@ pub(crate) fn deepest_of_all<E: Order>(
     hidden: &BTreeSet<u32>,
     damaged: &[(u32, Damage)],
 ) -> u64
-    requires image { length ways.now.mounted.now.image ≤ greatest_image }
-    requires numbers { HaveNumbers E.order ways.now.mounted.now.image ways.now.numbers.now
+    requires image { length ways.now.up.mounted.now.image ≤ greatest_image }
+    requires numbers { HaveNumbers E.order ways.now.up.mounted.now.image ways.now.numbers.now
         damaged.now }
-    ensures room { All (NodePathsFit E.order ways.now.mounted.now hidden.now (result + 1))
+    ensures room { All (NodePathsFit E.order ways.now.up.mounted.now hidden.now (result + 1))
         damaged.now }
     ensures few { result ≤ 2 ^ 32 }
 {

@@ -1,7 +1,7 @@
 //! What is told in all.
 
-/// How many nodes are damaged, how many lines name a path that one hides, and how many names have
-/// no object.
+/// How many nodes are damaged, how many paths they hide, each by itself, and how many names have no
+/// object.
 #[derive(Clone, Copy, Debug, PartialEq, Eq)]
 pub struct Totals {
     pub damaged: usize,

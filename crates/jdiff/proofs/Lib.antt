@@ -1,4 +1,5 @@
 pub mod ByteLemmas
+pub mod ComparedLemmas
 pub mod FoundLemmas
 pub mod LawLemmas
 pub mod LineLemmas

@@ -1,4 +1,5 @@
 pub mod Changes
+pub mod Compared
 pub mod Differing
 pub mod Entries
 pub mod Laws

@@ -7,11 +7,12 @@
 //!
 //! `specs/Entries.antt` says what a tree lists, `specs/Changes.antt` which lines there are on a
 //! path, `specs/Pairing.antt` how the entries of two trees stand side by side,
-//! `specs/Differing.antt` what the call puts, and `specs/Walking.antt` how it walks. `laws` has
-//! what follows.
+//! `specs/Differing.antt` what the call puts, `specs/Walking.antt` how it walks, and
+//! `specs/Compared.antt` what is remembered on the way. `laws` has what follows.
 #![tactic(auto)]
 
 mod bytes;
+mod compared;
 mod found;
 pub mod laws;
 mod line;

@@ -5,9 +5,9 @@ ghost use Rattle.std.specs.List.{flat_map};
 ghost use Rattle.flashbase.specs.Sinks.{PutsTo};
 ghost use Rattle.jmount.specs.Shown.{readable};
 ghost use Rattle.jdiff.specs.Changes.{both_lines, bytes_changes, changes, first_difference, is_same_object, is_symlink};
+ghost use Rattle.jdiff.specs.Compared.{IsPlaceHere};
 ghost use Rattle.jdiff.specs.Walking.{entries_here, entry_found, IsFoundIn};
 
-use crate::bytes::first_difference;
 use crate::found::Found;
 use crate::line::{put_entry, put_place};
 use flashbase::{DeviceFault, Sink};
@@ -22,7 +22,7 @@ pub(crate) struct Trees<'m, 'a> {
 }
 
 /// Whether two objects are the same, but for their bytes.
-fn is_same_object(times: bool, left: &Object, right: &Object) -> bool
+pub(crate) fn is_same_object(times: bool, left: &Object, right: &Object) -> bool
     ensures { result ≡ is_same_object times left.now right.now }
 {
     left.mode % 65536 == right.mode % 65536
@@ -65,11 +65,13 @@ fn put_bytes<T: Sink>(
     path: &[&[u8]],
     left: &Found,
     right: &Found,
+    place: Option<u64>,
     sink: &mut T,
 ) -> Result<u64, DeviceFault>
     requires left { IsFoundIn trees.now.left.now.state left.now }
     requires right { IsFoundIn trees.now.right.now.state right.now }
-    requires size { left.now.object.size ≡ right.now.object.size }
+    requires place { place ≡ first_difference (readable trees.now.left.now.state left.now.ino)
+        (readable trees.now.right.now.state right.now.ino) }
     ensures puts { let way = map (λ name. name.now) path.now in
         let x = entry_found trees.now.left.now.state way left.now in
         let y = entry_found trees.now.right.now.state way right.now in
@@ -81,8 +83,7 @@ fn put_bytes<T: Sink>(
         IfOk result
         (λ n. n ≡ length (bytes_changes trees.now.times x y (first_difference x.bytes y.bytes))) }
 {
-    let size = left.object.size;
-    match first_difference(trees.left, left.ino, trees.right, right.ino, size) {
+    match place {
         None => Ok(0),
         Some(place) => {
             if is_symlink(left.object.kind) {
@@ -94,16 +95,19 @@ fn put_bytes<T: Sink>(
     }
 }
 
-/// Puts the lines on a path, and answers how many.
+/// Puts the lines on a path, by where bytes differ. Answers how many.
 pub(crate) fn put_changes<T: Sink>(
     trees: &Trees<'_, '_>,
     path: &[&[u8]],
     left: Option<Found>,
     right: Option<Found>,
+    place: Option<u64>,
     sink: &mut T,
 ) -> Result<u64, DeviceFault>
     requires left { IfSome left (λ f. IsFoundIn trees.now.left.now.state f) }
     requires right { IfSome right (λ f. IsFoundIn trees.now.right.now.state f) }
+    requires place { IsPlaceHere trees.now.times trees.now.left.now.state
+        trees.now.right.now.state left right place }
     ensures puts { let way = map (λ name. name.now) path.now in
         PutsTo T.Sink sink.old sink.new (flat_map (λ line. line) (changes trees.now.times
         (entries_here trees.now.left.now.state way left)
@@ -125,7 +129,7 @@ pub(crate) fn put_changes<T: Sink>(
         }
         (Some(ours), Some(theirs)) => {
             if is_same_object(trees.times, &ours.object, &theirs.object) {
-                put_bytes(trees, path, &ours, &theirs, sink)
+                put_bytes(trees, path, &ours, &theirs, place, sink)
             } else {
                 put_both(trees, path, &ours, &theirs, sink)
             }

@@ -114,7 +114,10 @@ stops_begun s owners firsts task todo old new (inr begun) told =
 pub stops : (s : State) (owners : Bool) (firsts : FirstPaths) (task : Task) (todo : List Task) (old new : Sight) (r : Result Bool MakeFault) (f : ExtractFault)
     → Works s owners firsts task (folder_change old new) r
     → Settles r (path_of_task task) (notes_change old new) old.totals new.totals (Err f) → StopsBy s owners firsts (task ∷ todo) old new f
-stops s owners firsts task todo old new (Ok x) f works tells = absurd tells
+stops s owners firsts task todo old new (Ok x) fault.Folder works tells = absurd tells
+stops s owners firsts task todo old new (Ok x) fault.Notes works tells = absurd tells
+stops s owners firsts task todo old new (Ok x) fault.NoSpace works tells = absurd tells
+stops s owners firsts task todo old new (Ok x) fault.OutOfMemory works tells = absurd tells
 stops s owners firsts task todo old new (Err (make.LeftOut why)) fault.Folder works tells = absurd tells
 stops s owners firsts task todo old new (Err (make.LeftOut why)) fault.Notes works tells =
     (stops_told s owners firsts task todo old new works.0 why works.1 works.2 works.3 tells.0, tells.1, full_unchanged old.failures new.failures (Some why) works.4)

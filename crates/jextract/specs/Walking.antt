@@ -37,29 +37,38 @@ totals_up n left_out lost_bits = record {
   lost_bits = counted_up n.lost_bits lost_bits;
 }
 
--- A call tells of a task what is to be told, and counts it. The answer is whether the task was
--- done.
+-- A call tells of a task what is to be told, and counts it, also where it can't be told. The answer
+-- is whether the task was done.
 abbrev pub Settles : Result Bool MakeFault → List (List ℕ) → SinkChange → Totals → Totals
     → Result Bool ExtractFault → Type 0
 Settles (Ok lost) path notes n after (Ok done) =
     (done ≡ true) × Appends notes.old notes.new [] × (notes.now ≡ notes.before)
     × (after ≡ totals_up n 0 (if lost then 1 else 0))
-Settles (Ok lost) path notes n after (Err _) = ⊥
+Settles (Ok lost) path notes n after (Err Folder) = ⊥
+Settles (Ok lost) path notes n after (Err Notes) = ⊥
+Settles (Ok lost) path notes n after (Err NoSpace) = ⊥
+Settles (Ok lost) path notes n after (Err OutOfMemory) = ⊥
 Settles (Err (make.LeftOut why)) path notes n after (Ok done) =
     (done ≡ false) × Appends notes.old notes.new (line_if_left_out path (Some why))
     × (notes.now ≡ notes.before) × (after ≡ totals_up n 1 0)
 Settles (Err (make.LeftOut why)) path notes n after (Err Notes) =
     PutsPart notes.old notes.new (line_if_left_out path (Some why))
-    × (notes.now ≡ next_count notes.before)
-Settles (Err (make.LeftOut why)) path notes n after (Err _) = ⊥
+    × (notes.now ≡ next_count notes.before) × (after ≡ totals_up n 1 0)
+Settles (Err (make.LeftOut why)) path notes n after (Err Folder) = ⊥
+Settles (Err (make.LeftOut why)) path notes n after (Err NoSpace) = ⊥
+Settles (Err (make.LeftOut why)) path notes n after (Err OutOfMemory) = ⊥
 Settles (Err make.NoSpace) path notes n after (Ok done) = ⊥
 Settles (Err make.NoSpace) path notes n after (Err NoSpace) =
-    Appends notes.old notes.new [] × (notes.now ≡ notes.before)
-Settles (Err make.NoSpace) path notes n after (Err _) = ⊥
+    Appends notes.old notes.new [] × (notes.now ≡ notes.before) × (after ≡ n)
+Settles (Err make.NoSpace) path notes n after (Err Folder) = ⊥
+Settles (Err make.NoSpace) path notes n after (Err Notes) = ⊥
+Settles (Err make.NoSpace) path notes n after (Err OutOfMemory) = ⊥
 Settles (Err make.OutOfMemory) path notes n after (Ok done) = ⊥
 Settles (Err make.OutOfMemory) path notes n after (Err OutOfMemory) =
-    Appends notes.old notes.new [] × (notes.now ≡ notes.before)
-Settles (Err make.OutOfMemory) path notes n after (Err _) = ⊥
+    Appends notes.old notes.new [] × (notes.now ≡ notes.before) × (after ≡ n)
+Settles (Err make.OutOfMemory) path notes n after (Err Folder) = ⊥
+Settles (Err make.OutOfMemory) path notes n after (Err Notes) = ⊥
+Settles (Err make.OutOfMemory) path notes n after (Err NoSpace) = ⊥
 
 -- ---- what is still to be done at a place of the walk
 

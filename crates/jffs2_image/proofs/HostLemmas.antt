@@ -107,7 +107,7 @@ maker_fault u v before now f (Err other) is w = subst (λ (z : ProgramFault). Bl
 pub lines_blame : (u v : Type 0) (rb rn mb mn : ℕ) (r : Result ℕ ProgramFault) → rn ≡ rb → BlamesMaker u v mb mn r → Blames u v rb rn mb mn r
 lines_blame u v rb rn mb mn (Ok x) read made = (read, made.0, made.1)
 lines_blame u v rb rn mb mn (Err (program.Load f)) read made = absurd made
-lines_blame u v rb rn mb mn (Err (program.Scan f)) read made = tt
+lines_blame u v rb rn mb mn (Err (program.Scan f)) read made = absurd made
 lines_blame u v rb rn mb mn (Err (program.Mount f)) read made = made
 lines_blame u v rb rn mb mn (Err (program.File name)) read made = inr made
 lines_blame u v rb rn mb mn (Err (program.NotRead name)) read made = absurd made
@@ -119,9 +119,9 @@ lines_blame u v rb rn mb mn (Err (program.Session (session.Refused f) line cause
 lines_blame u v rb rn mb mn (Err (program.Session (session.Full a b) line cause)) read made = made
 lines_blame u v rb rn mb mn (Err (program.Session session.OutOfMemory line cause)) read made = made
 lines_blame u v rb rn mb mn (Err (program.Session session.Broken line cause)) read made = made
-lines_blame u v rb rn mb mn (Err (program.Path f)) read made = tt
-lines_blame u v rb rn mb mn (Err program.NotRegular) read made = tt
-lines_blame u v rb rn mb mn (Err (program.NoSpace folder)) read made = tt
+lines_blame u v rb rn mb mn (Err (program.Path f)) read made = absurd made
+lines_blame u v rb rn mb mn (Err program.NotRegular) read made = absurd made
+lines_blame u v rb rn mb mn (Err (program.NoSpace folder)) read made = absurd made
 lines_blame u v rb rn mb mn (Err (program.Data addr)) read made = absurd made
 lines_blame u v rb rn mb mn (Err (program.TooLong addr)) read made = absurd made
 lines_blame u v rb rn mb mn (Err (program.Clash addr other)) read made = made

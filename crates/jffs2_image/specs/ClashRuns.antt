@@ -23,7 +23,7 @@ use Rattle.jreport.specs.declared.faults.ProgramFault.TheVariants as program
 use Rattle.jffs2_image.specs.Compressing.{CompressionAsked}
 use Rattle.jffs2_image.specs.Decompressing.{HoldsMade, IsNotConverted, IsNotWritten, line_of_counts}
 use Rattle.jffs2_image.specs.Host.{AreLoaded, BlamesDecompress, MakesFile}
-use Rattle.jffs2_image.specs.Runs.{GoesOut, IsSaid}
+use Rattle.jffs2_image.specs.Runs.{GoesOut, IsSaid, either_found}
 use Rattle.jffs2_image.specs.Writes.{Held, IsUnreadFile, FileReads, FileWrites}
 use Rattle.jffs2_image.specs.declared.clashes.ApartDone.{ApartDone}
 
@@ -93,9 +93,9 @@ abbrev pub said_of_apart : Result ApartDone ProgramFault → List ℕ
 said_of_apart (Ok done) = left_lines done.left.items ++ note_if_any done.found
 said_of_apart (Err fault) = fault_lines_of fault
 
--- where nodes are left out the run has found something
+-- nodes that are left out are found, and findings of the image that was read
 abbrev pub outcome_of_apart : Result ApartDone ProgramFault → Outcome
-outcome_of_apart (Ok done) = outcome_of (length done.left.items)
+outcome_of_apart (Ok done) = outcome_of (either_found (length done.left.items) done.found)
 outcome_of_apart (Err fault) = outcome.Fault
 
 -- The file of a name is decompressed into that of another, and a fault is blamed on the file that

@@ -10,6 +10,7 @@ use Rattle.jexpand.specs.declared.fault.ConvertFault.TheVariants as convert
 use Rattle.jconvert.specs.Compressing.{IsPackedImage, compress_fault}
 use Rattle.jconvert.specs.declared.converted.Converted.{Converted}
 use Rattle.jcommand.specs.Parsed.{CompressParsed, IsFaultless, parsed_from}
+use Rattle.jcommand.specs.Status.{outcome_of}
 use Rattle.jcommand.specs.declared.parsed.Options.{Options}
 use Rattle.jcommand.specs.declared.outcome.Outcome.{Outcome}
 use Rattle.jcommand.specs.declared.outcome.Outcome.TheVariants as outcome
@@ -92,8 +93,9 @@ abbrev pub said_after_compression : Result ℕ ProgramFault → Option (List ℕ
 said_after_compression (Ok n) = note_after n
 said_after_compression (Err fault) = Some (fault_lines_of fault)
 
+-- findings of the image that was read are found
 abbrev pub outcome_of_compression : Result ℕ ProgramFault → Outcome
-outcome_of_compression (Ok n) = outcome.Done
+outcome_of_compression (Ok n) = outcome_of n
 outcome_of_compression (Err fault) = outcome.Fault
 
 -- The file of a name is compressed into that of another, and a fault is blamed on the file that

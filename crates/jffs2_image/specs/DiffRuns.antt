@@ -1,10 +1,12 @@
 -- What a run of the program does that tells what the trees of two images differ in.
-use Rattle.std.specs.Prelude.{◌≡◌, ◌⊎◌, ℕ, Bool, List, Option, Some, None, Result, Ok, Err}
+use Rattle.std.specs.Prelude.{◌≡◌, ◌⊎◌, ◌==◌, ◌&&◌, ℕ, Bool, List, Option, Some, None, Result, Ok, Err, if◌then◌else◌}
 use Rattle.flashbase.specs.Sinks.{SinkChange}
 use Rattle.jmount.specs.Mount.{Mount}
 use Rattle.jmount.specs.Mounts.{Answers}
 use Rattle.jdiff.specs.Differing.{PutsDifferences}
 use Rattle.jreport.specs.Advice.{fault_lines_of}
+use Rattle.jreport.specs.NamedNotes.{named_notes_of}
+use Rattle.jreport.specs.Notes.{noted}
 use Rattle.jreport.specs.Refusal.{IsRefusalTold}
 use Rattle.jreport.specs.declared.faults.ProgramFault.{ProgramFault}
 use Rattle.jcommand.specs.Parsed.{DiffParsed, IsFaultless, parsed_from}
@@ -13,8 +15,9 @@ use Rattle.jcommand.specs.declared.parsed.Options.{Options}
 use Rattle.jcommand.specs.declared.outcome.Outcome.{Outcome}
 use Rattle.jcommand.specs.declared.outcome.Outcome.TheVariants as outcome
 use Rattle.jffs2_image.specs.Host.{AreLoaded, ReadsFile}
-use Rattle.jffs2_image.specs.Runs.{GoesOut, Says}
+use Rattle.jffs2_image.specs.Runs.{GoesOut, Says, either_found}
 use Rattle.jffs2_image.specs.Writes.{IsUnreadFile, FileReads}
+use Rattle.jffs2_image.specs.declared.diff.Compared.{Compared}
 
 -- how two images are compared
 pub record Comparing : Type 0 where
@@ -28,19 +31,28 @@ IsUnmounted by first second fault =
     ⊎ ((m : Mount) × Answers by.options.endian by.options.geometry.block first (Ok m)
     × IsRefusalTold by.options.endian by.options.geometry.block second fault)
 
+-- how many lines there are, and how many findings each mount has to note
+abbrev pub as_compared : Mount → Mount → Result ℕ ProgramFault → Result Compared ProgramFault
+as_compared left right (Ok lines) =
+    Ok (record { lines = lines; first = noted left; second = noted right })
+as_compared left right (Err fault) = Err fault
+
 -- the lines on the trees of two mounts are put
 pub record DiffersAsMounts (by : Comparing) (first second : List ℕ) (output : SinkChange)
-    (result : Result ℕ ProgramFault) : Type 0 where
+    (result : Result Compared ProgramFault) : Type 0 where
   pub left : Mount
   pub right : Mount
   pub of_first : Answers by.options.endian by.options.geometry.block first (Ok left)
   pub of_second : Answers by.options.endian by.options.geometry.block second (Ok right)
+  pub told : Result ℕ ProgramFault
   pub put : PutsDifferences by.times left.state right.state output.old output.new output.before
-      output.now result
+      output.now told
+  pub comes_to : result ≡ as_compared left right told
 
 -- Both images mount, and the lines on their trees are put, or a beginning of them and why no more
 -- of them are; or one does not mount, and nothing is put.
-abbrev pub DiffersOf : Comparing → List ℕ → List ℕ → SinkChange → Result ℕ ProgramFault → Type 0
+abbrev pub DiffersOf : Comparing → List ℕ → List ℕ → SinkChange → Result Compared ProgramFault
+    → Type 0
 DiffersOf by first second output result =
     DiffersAsMounts by first second output result
     ⊎ ((fault : ProgramFault) × (result ≡ Err fault)
@@ -63,7 +75,7 @@ IsFirstUnread first second reading fault =
 
 -- both files were read, and what their images differ in goes out; no file failed
 pub record DiffersAsFiles (by : Comparing) (first second : List ℕ) (reading : FileReads)
-    (output : SinkChange) (result : Result ℕ ProgramFault) : Type 0 where
+    (output : SinkChange) (result : Result Compared ProgramFault) : Type 0 where
   pub image : List ℕ
   pub other : List ℕ
   pub of_first : AreLoaded (reading.told first) image
@@ -73,7 +85,7 @@ pub record DiffersAsFiles (by : Comparing) (first second : List ℕ) (reading : 
 
 -- the same; or one of them can't be read to its end, and `untouched` holds, the output is as it was
 abbrev pub DiffersOfFiles : Comparing → List ℕ → List ℕ → FileReads → Type 0 → SinkChange
-    → Result ℕ ProgramFault → Type 0
+    → Result Compared ProgramFault → Type 0
 DiffersOfFiles by first second reading untouched output result =
     DiffersAsFiles by first second reading output result
     ⊎ ((fault : ProgramFault) × (result ≡ Err fault)
@@ -81,22 +93,30 @@ DiffersOfFiles by first second reading untouched output result =
 
 -- ---- the command
 
-abbrev pub said_after_diff : Result ℕ ProgramFault → Option (List ℕ)
-said_after_diff (Ok lines) = None
-said_after_diff (Err fault) = Some (fault_lines_of fault)
+-- the notes on the findings of the images of two names, if there are any
+abbrev pub notes_after_diff : List ℕ → List ℕ → Compared → Option (List ℕ)
+notes_after_diff first second done = if (done.first == 0) && (done.second == 0) then None
+    else Some (named_notes_of first done.first second done.second)
 
--- a line that was put is found
-abbrev pub outcome_of_diff : Result ℕ ProgramFault → Outcome
-outcome_of_diff (Ok lines) = outcome_of lines
+abbrev pub said_after_diff : List ℕ → List ℕ → Result Compared ProgramFault → Option (List ℕ)
+said_after_diff first second (Ok done) = notes_after_diff first second done
+said_after_diff first second (Err fault) = Some (fault_lines_of fault)
+
+-- the lines that were put are found, or else the findings of an image
+abbrev pub found_by_diff : Compared → ℕ
+found_by_diff done = either_found done.lines (either_found done.first done.second)
+
+abbrev pub outcome_of_diff : Result Compared ProgramFault → Outcome
+outcome_of_diff (Ok done) = outcome_of (found_by_diff done)
 outcome_of_diff (Err fault) = outcome.Fault
 
 -- The trees of the files of two names are compared, and how that ends.
 pub record EndsDiff (by : Comparing) (first second : List ℕ) (reading : FileReads)
     (untouched : Type 0) (output errors : SinkChange) (result : Outcome) : Type 0 where
-  pub answer : Result ℕ ProgramFault
+  pub answer : Result Compared ProgramFault
   pub differs : DiffersOfFiles by first second reading untouched output answer
   pub said : Says ((errors.new ≡ errors.old) × (errors.now ≡ errors.before)) errors.old errors.new
-      errors.before errors.now (said_after_diff answer)
+      errors.before errors.now (said_after_diff first second answer)
   pub ends : result ≡ outcome_of_diff answer
 
 -- `diff`, of what is given

@@ -249,7 +249,10 @@ BlamesMaker untouched makes before now (Err (program.TooLong addr)) = ⊥
 BlamesMaker untouched makes before now (Err (program.Listing n)) = ⊥
 BlamesMaker untouched makes before now (Err program.Output) = makes
 BlamesMaker untouched makes before now (Err program.OutOfMemory) = untouched ⊎ makes
-BlamesMaker untouched makes before now (Err _) = Unit {0}
+BlamesMaker untouched makes before now (Err (program.Scan fault)) = ⊥
+BlamesMaker untouched makes before now (Err (program.Path fault)) = ⊥
+BlamesMaker untouched makes before now (Err program.NotRegular) = ⊥
+BlamesMaker untouched makes before now (Err (program.NoSpace name)) = ⊥
 
 -- By the answer: a fault of a file that is read, or of the one that is made, comes only where it
 -- failed, and what is judged before a file is made comes with none touched. `makes`: the file was
@@ -275,14 +278,21 @@ Blames untouched makes read_before read_now made_before made_now (Err (program.F
     (untouched × (read_now ≡ next_count read_before)) ⊎ (made_now ≡ next_count made_before)
 Blames untouched makes read_before read_now made_before made_now (Err (program.NotRead name)) =
     untouched × (read_now ≡ next_count read_before)
-Blames untouched makes read_before read_now made_before made_now (Err (program.Load fault)) =
-    untouched
+Blames untouched makes read_before read_now made_before made_now
+    (Err (program.Load load.Device)) = ⊥
+Blames untouched makes read_before read_now made_before made_now
+    (Err (program.Load load.TooLarge)) = untouched
+Blames untouched makes read_before read_now made_before made_now
+    (Err (program.Load load.OutOfMemory)) = untouched
 Blames untouched makes read_before read_now made_before made_now (Err (program.Data addr)) = ⊥
 Blames untouched makes read_before read_now made_before made_now (Err (program.TooLong addr)) = ⊥
 Blames untouched makes read_before read_now made_before made_now (Err program.Output) = makes
 Blames untouched makes read_before read_now made_before made_now (Err program.OutOfMemory) =
     untouched ⊎ makes
-Blames untouched makes read_before read_now made_before made_now (Err _) = Unit {0}
+Blames untouched makes read_before read_now made_before made_now (Err (program.Scan fault)) = ⊥
+Blames untouched makes read_before read_now made_before made_now (Err (program.Path fault)) = ⊥
+Blames untouched makes read_before read_now made_before made_now (Err program.NotRegular) = ⊥
+Blames untouched makes read_before read_now made_before made_now (Err (program.NoSpace name)) = ⊥
 
 -- A file of which the host tells these bytes is only read. It counts once where it can't be opened,
 -- or fails while it is read, and only then; it is too large only where it is.

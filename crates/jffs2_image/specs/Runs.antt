@@ -231,7 +231,7 @@ success_of (ListParsed options decompress image path) n = success.Shown n
 success_of (CatParsed options decompress image path) n = success.Shown n
 success_of (BuildParsed options blocks page listing output) n = success.Shown n
 success_of (AppendParsed options blocks page decompress image listing output) n = success.Shown n
-success_of (DecompressParsed options image output) n = success.Shown n
+success_of (DecompressParsed options image output) n = success.Made n
 
 -- What a command line is answered: the request is met; help goes out; a refusal and out of memory
 -- stay what they are, and leave the output as it was.
@@ -265,8 +265,13 @@ IsCommand args (Err refused.OutOfMemory) = Unit {0}
 abbrev pub outcome_after : Result Success Stop → Outcome
 outcome_after (Ok (success.Found n)) = outcome_of n
 outcome_after (Ok (success.Shown n)) = outcome.Done
+outcome_after (Ok (success.Made n)) = outcome_of n
 outcome_after (Err (stop.Usage text)) = outcome.Usage
 outcome_after (Err (stop.Fault fault)) = outcome.Fault
+
+-- of two numbers of things found one that is not zero, if there is one
+abbrev pub either_found : ℕ → ℕ → ℕ
+either_found n m = if n == 0 then m else n
 
 -- the note on so many findings
 abbrev pub note_after : ℕ → Option (List ℕ)
@@ -276,6 +281,7 @@ note_after n = if n == 0 then None else Some (note_line_of n)
 abbrev pub said_after : Result Success Stop → Option (List ℕ)
 said_after (Ok (success.Found n)) = None
 said_after (Ok (success.Shown n)) = note_after n
+said_after (Ok (success.Made n)) = note_after n
 said_after (Err (stop.Usage text)) = Some (string_bytes text)
 said_after (Err (stop.Fault fault)) = Some (fault_lines_of fault)
 

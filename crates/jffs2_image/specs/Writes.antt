@@ -279,7 +279,10 @@ IsWriteFault held form output base text (program.File file) = (file.name.now ≡
     ⊎ ((lines : List Line) × (lines_of text ≡ Ok lines) × IsNamedByLine lines file.name.now)
 IsWriteFault held form output base text (program.NotRead file) =
     (lines : List Line) × (lines_of text ≡ Ok lines) × IsNamedByLine lines file.name.now
-IsWriteFault held form output base text (program.Load fault) =
+IsWriteFault held form output base text (program.Load load.Device) = ⊥
+IsWriteFault held form output base text (program.Load load.TooLarge) =
+    (lines : List Line) × (lines_of text ≡ Ok lines)
+IsWriteFault held form output base text (program.Load load.OutOfMemory) =
     (lines : List Line) × (lines_of text ≡ Ok lines)
 IsWriteFault held form output base text (program.Mount fault) =
     IsRefusalTold form.order form.block base (program.Mount fault)
@@ -288,7 +291,13 @@ IsWriteFault held form output base text (program.Clash addr other) =
 IsWriteFault held form output base text (program.Session fault line cause) =
     IsSessionFault held form base text fault line cause
 IsWriteFault held form output base text program.OutOfMemory = Unit {0}
-IsWriteFault held form output base text _ = ⊥
+IsWriteFault held form output base text (program.Scan fault) = ⊥
+IsWriteFault held form output base text (program.Path fault) = ⊥
+IsWriteFault held form output base text program.NotRegular = ⊥
+IsWriteFault held form output base text program.Output = ⊥
+IsWriteFault held form output base text (program.NoSpace name) = ⊥
+IsWriteFault held form output base text (program.Data addr) = ⊥
+IsWriteFault held form output base text (program.TooLong addr) = ⊥
 
 -- the line on what was accepted of operations on a base
 abbrev pub line_on : ImageForm → List ℕ → ℕ → List Place → List ℕ

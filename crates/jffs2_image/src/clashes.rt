@@ -12,7 +12,7 @@ ghost use Rattle.jcommand.specs.Status.{outcome_of};
 ghost use Rattle.jffs2_image.specs.ClashRuns.{DecompressesApartFile, DecompressesApartNamed, EndsApart, left_line, left_lines, said_of_apart};
 ghost use Rattle.jffs2_image.specs.Decompressing.{HoldsMade, IsNotWritten};
 ghost use Rattle.jffs2_image.specs.Host.{BlamesDecompress, HasFailed, MakesFile};
-ghost use Rattle.jffs2_image.specs.Runs.{IsSaid};
+ghost use Rattle.jffs2_image.specs.Runs.{IsSaid, either_found};
 ghost use Rattle.jffs2_image.specs.Writes.{GivesText, IsFaultOfMaking};
 ghost use Rattle.jffs2_image.specs.Tasks.{passage, reads};
 ghost use Rattle.jffs2_image.specs.Placing.{telling, writes};
@@ -21,7 +21,7 @@ use crate::decompressing::{conversion_fault, sink_cause};
 use crate::host::{Loader, MakeFault, Maker};
 use crate::loading::load_file;
 use crate::output::{Output, finished};
-use crate::program::{note, report_fault};
+use crate::program::{either_found, note, report_fault};
 use flashbase::{DeviceFault, Sink};
 use jcommand::{Decompression, Outcome};
 use jconvert::{ConvertFault, LeftOut, Parted, judge, part, write_nodes};
@@ -226,12 +226,12 @@ fn say_apart<E: Sink>(done: &ApartDone, errors: &mut E)
 
 /// The same, and what the run comes to.
 fn tell_apart<E: Sink>(done: &ApartDone, errors: &mut E) -> Outcome
-    ensures ends { result ≡ outcome_of (length done.now.left.items) }
+    ensures ends { result ≡ outcome_of (either_found (length done.now.left.items) done.now.found) }
     ensures said { IsSaid (E.taken errors.old) (E.taken errors.new) (E.failures errors.old)
         (E.failures errors.new) (said_of_apart (Ok done.now)) }
 {
     say_apart(done, errors);
-    Outcome::of(done.left.len() as u64)
+    Outcome::of(either_found(done.left.len() as u64, done.found))
 }
 
 /// `decompress --clashes higher` as a command.

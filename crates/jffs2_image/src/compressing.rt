@@ -15,7 +15,7 @@ use crate::decompressing::{conversion_fault, sink_cause};
 use crate::host::{Loader, MakeFault, Maker};
 use crate::loading::load_file;
 use crate::output::{Output, finished};
-use crate::program::{note, report_fault};
+use crate::program::{note_found, report_fault};
 use flashbase::{DeviceFault, Sink};
 use jcommand::{Compression, Outcome};
 use jconvert::{ConvertFault, judge_plain, write_packed};
@@ -182,7 +182,7 @@ pub(crate) fn run_compress<E: Order, L: Loader, M: Maker, T: Output, N: Sink>(
 {
     let answer = compress_file::<E, L, M, T>(alloc, loader, maker, asked, output);
     match finished(answer, output) {
-        Ok(findings) => note(findings, errors),
+        Ok(findings) => note_found(findings, errors),
         Err(fault) => report_fault(&fault, errors),
     }
 }

@@ -1,45 +1,62 @@
 //! `damage`: what the damage of an image costs.
 ghost use Rattle.std.specs.Prelude.{◌≡◌, ◌≤◌, length};
+ghost use Rattle.jcommand.specs.Status.{outcome_of};
 ghost use Rattle.jdamage.specs.Damage.{PutsDamage};
 ghost use Rattle.jffs2_image.specs.DamageRuns.{EndsDamage, TellsDamage, TellsDamageOfFile, as_told};
+ghost use Rattle.jffs2_image.specs.Runs.{either_found};
 ghost use Rattle.flashbase.specs.Sinks.{change_of};
 ghost use Rattle.jffs2_image.specs.Tasks.{passage, reads};
 
 use crate::host::Loader;
 use crate::loading::load_file;
 use crate::output::{Output, finished};
-use crate::program::report_fault;
+use crate::program::{either_found, note, report_fault};
 use flashbase::Sink;
 use jcommand::{Examination, Options, Outcome};
 use jdamage::{DamageFault, Totals, put_damage};
+use jmount::Mounted;
 use jnode::Order;
-use jreport::{ProgramFault, mount_or_tell};
+use jreport::{ProgramFault, mount_or_tell, noted};
 use std::alloc::Global;
 
-/// How much is told, or why not all.
-fn as_told(told: Result<Totals, DamageFault>) -> Result<u64, ProgramFault<'static>>
-    ensures { result ≡ as_told told }
+/// What an examination comes to: how many damaged nodes and missing objects are told, or the
+/// greatest u64, and how many findings the image has to note.
+#[derive(Clone, Copy)]
+pub struct Examined {
+    pub told: u64,
+    pub findings: u64,
+}
+
+/// How much is told of a mounted image, or why not all.
+fn as_told(
+    mounted: &Mounted<'_>,
+    told: Result<Totals, DamageFault>,
+) -> Result<Examined, ProgramFault<'static>>
+    ensures { result ≡ as_told mounted.now told }
 {
     match told {
-        Ok(totals) => Ok((totals.damaged as u64).saturating_add(totals.missing as u64)),
+        Ok(totals) => Ok(Examined {
+            told: (totals.damaged as u64).saturating_add(totals.missing as u64),
+            findings: noted(mounted),
+        }),
         Err(DamageFault::Output) => Err(ProgramFault::Output),
         Err(DamageFault::OutOfMemory) => Err(ProgramFault::OutOfMemory),
     }
 }
 
-/// Mounts an image, and puts what its damage costs. Answers how many damaged nodes and missing
-/// objects are told, or the greatest u64.
+/// Mounts an image, and puts what its damage costs.
 fn put_lines<E: Order, T: Sink>(
     alloc: Global,
     options: Options,
     image: &[u8],
     sink: &mut T,
-) -> Result<u64, ProgramFault<'static>>
+) -> Result<Examined, ProgramFault<'static>>
     requires { options.endian ≡ E.order }
     ensures { TellsDamage options image.now (change_of T.Sink sink.old sink.new) result }
 {
     let mounted = mount_or_tell::<E>(alloc, image, options.geometry)?;
-    as_told(put_damage::<E, T>(alloc, &mounted, options.geometry, sink))
+    let told = put_damage::<E, T>(alloc, &mounted, options.geometry, sink);
+    as_told(&mounted, told)
 }
 
 /// The same of the file of a name, to the last byte.
@@ -48,7 +65,7 @@ fn examine_file<'a, E: Order, L: Loader, T: Output>(
     loader: &mut L,
     asked: Examination<'a>,
     output: &mut T,
-) -> Result<u64, ProgramFault<'a>>
+) -> Result<Examined, ProgramFault<'a>>
     requires { asked.options.endian ≡ E.order }
     ensures { TellsDamageOfFile asked.entry.options asked.entry.image.now
         (reads L.told L.failures loader.old loader.new) (output.new ≡ output.old)
@@ -62,7 +79,14 @@ fn examine_file<'a, E: Order, L: Loader, T: Output>(
     finished(answer, output)
 }
 
-/// `damage` as a command: damage that was told is found.
+/// How an examination ends.
+fn outcome_of_examined(done: Examined) -> Outcome
+    ensures { result ≡ outcome_of (either_found done.told done.findings) }
+{
+    Outcome::of(either_found(done.told, done.findings))
+}
+
+/// `damage` as a command: damage that was told is found, and so are the findings of the image.
 pub(crate) fn run_damage<E: Order, L: Loader, T: Output, N: Sink>(
     alloc: Global,
     loader: &mut L,
@@ -77,7 +101,10 @@ pub(crate) fn run_damage<E: Order, L: Loader, T: Output, N: Sink>(
         (change_of N.Sink errors.old errors.new) result }
 {
     match examine_file::<E, L, T>(alloc, loader, asked, output) {
-        Ok(count) => Outcome::of(count),
+        Ok(done) => {
+            note(done.findings, errors);
+            outcome_of_examined(done)
+        }
         Err(fault) => report_fault(&fault, errors),
     }
 }

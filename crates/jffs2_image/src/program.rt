@@ -2,6 +2,7 @@
 //! ended.
 ghost use Rattle.std.specs.Prelude.{◌≡◌, ◌⊎◌, ℕ, true, List, Option, Ok, Err, IfErr, IsTrue, OnOk, map};
 ghost use Rattle.std.specs.Io.KnownBytes.{Appends};
+ghost use Rattle.jcommand.specs.Status.{outcome_of};
 ghost use Rattle.jcommand.specs.Parsed.{BuildParsed, AppendParsed, DecompressParsed, is_unplaced, options_of, placing_from, view};
 ghost use Rattle.jreport.specs.Advice.{fault_lines_of};
 ghost use Rattle.jffs2_image.specs.Host.{Blames, BlamesCommand, BlamesDecompress, BlamesFor, HasFailed, MakesFile};
@@ -9,7 +10,7 @@ ghost use Rattle.jffs2_image.specs.WeakRuns.{HasNotes};
 ghost use Rattle.jffs2_image.specs.Tasks.{RunsAsked, RunsTask, fills, passage, reads};
 ghost use Rattle.jffs2_image.specs.Placing.{SaysOn, putting, telling, tellings, writes};
 ghost use Rattle.jffs2_image.specs.Writes.{GivesText, Held};
-ghost use Rattle.jffs2_image.specs.Runs.{IsSaid, Meets, MeetsCommand, MeetsWhole, RunsCommand, Says, note_after, outcome_after, said_after, success_of};
+ghost use Rattle.jffs2_image.specs.Runs.{IsSaid, Meets, MeetsCommand, MeetsWhole, RunsCommand, Says, either_found, note_after, outcome_after, said_after, success_of};
 ghost use Rattle.flashbase.specs.Sinks.{PutsTo, change_of};
 
 use crate::decompressing::{decompress_into, noting, subject_of};
@@ -34,6 +35,8 @@ pub enum Success {
     Found(u64),
     /// What was asked for was shown, of an image with so many findings to note.
     Shown(u64),
+    /// An image was made of one with so many findings to note, which are found.
+    Made(u64),
 }
 
 /// Why a run ends early.
@@ -279,8 +282,8 @@ fn as_success(request: &Request<'_>, findings: u64) -> Success
         Request::List { .. }
         | Request::Cat { .. }
         | Request::Build { .. }
-        | Request::Append { .. }
-        | Request::Decompress { .. } => Success::Shown(findings),
+        | Request::Append { .. } => Success::Shown(findings),
+        Request::Decompress { .. } => Success::Made(findings),
     }
 }
 
@@ -356,8 +359,25 @@ pub fn note<E: Sink>(findings: u64, errors: &mut E) -> Outcome
     Outcome::Done
 }
 
+/// Notes that an image of which another was made has findings, which is how that ends.
+pub(crate) fn note_found<E: Sink>(findings: u64, errors: &mut E) -> Outcome
+    ensures ends { result ≡ outcome_of findings }
+    ensures noted { Says (errors.new ≡ errors.old) (E.taken errors.old) (E.taken errors.new)
+        (E.failures errors.old) (E.failures errors.new) (note_after findings) }
+{
+    note(findings, errors);
+    Outcome::of(findings)
+}
+
+/// Of two numbers of things found one that is not zero, if there is one.
+pub(crate) fn either_found(one: u64, other: u64) -> u64
+    ensures { result ≡ either_found one other }
+{
+    if one == 0 { other } else { one }
+}
+
 /// Reports what a command line was answered, and how that ends. A fault is told in one line, which a
-/// note may follow; `ls` and `cat` note what they passed over.
+/// note may follow; `ls`, `cat` and `decompress` note what they passed over.
 fn report_answer<N: Sink>(answer: Result<Success, Stop<'_>>, errors: &mut N) -> Outcome
     ensures ends { result ≡ outcome_after answer.entry }
     ensures said { Says (errors.new ≡ errors.old) (N.taken errors.old) (N.taken errors.new)
@@ -366,6 +386,7 @@ fn report_answer<N: Sink>(answer: Result<Success, Stop<'_>>, errors: &mut N) -> 
     match answer {
         Ok(Success::Found(findings)) => Outcome::of(findings),
         Ok(Success::Shown(findings)) => note(findings, errors),
+        Ok(Success::Made(findings)) => note_found(findings, errors),
         Err(Stop::Usage { text }) => report_usage(text.as_str(), errors),
         Err(Stop::Fault(fault)) => report_fault(&fault, errors),
     }

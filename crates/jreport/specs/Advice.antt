@@ -6,6 +6,7 @@ use Rattle.jlisting.specs.declared.rule.WordRule.{WordRule}
 use Rattle.jlisting.specs.declared.rule.WordRule.TheVariants as word
 use Rattle.jmount.specs.declared.fault.MountFault.{MountFault}
 use Rattle.jmount.specs.declared.fault.MountFault.TheVariants as mount
+use Rattle.jscan.specs.declared.geometry.ScanFault.{ScanFault}
 use Rattle.jscan.specs.declared.geometry.ScanFault.TheVariants as scan
 use Rattle.jline.specs.Words.{hex, in_line}
 use Rattle.jreport.specs.Causes.{cause_note}
@@ -48,10 +49,34 @@ rule_note (rule.Word n broken) = codes "word " ++ decimal n ++ word_note broken
 abbrev pub is_read_method : ℕ → Bool
 is_read_method compr = (compr == 2) || (compr == 6) || (compr == 7) || (compr == 8)
 
--- that an image has compressed data
-unfoldable pub compressed_note : List ℕ
-compressed_note = codes "the image is compressed; " ++ codes "decompress writes one that is not, "
-    ++ codes "and --decompress reads it"
+-- the name of one of these
+abbrev pub read_method_name : ℕ → List ℕ
+read_method_name compr =
+    if compr == 2 then codes "rtime" else
+    if compr == 6 then codes "zlib" else
+    if compr == 7 then codes "lzo" else codes "lzma"
+
+-- that an image has data that `decompress` reads
+unfoldable pub compressed_note : ℕ → List ℕ
+compressed_note compr = codes "the image is compressed (" ++ read_method_name compr
+    ++ codes "); decompress writes one that is not, without damaged nodes; "
+    ++ codes "ls, cat, extract and append take --decompress"
+
+-- what is said of a method that is not read
+abbrev pub unread_method : ℕ → List ℕ
+unread_method compr =
+    if compr == 3 then codes " is RUBINMIPS, which is not read" else
+    if compr == 4 then codes " is COPY, which is not read" else
+    if compr == 5 then codes " is DYNRUBIN, which is not read" else codes " is not known"
+
+-- that an image has data of such a method
+unfoldable pub unread_method_note : ℕ → List ℕ
+unread_method_note compr = codes "method " ++ decimal compr ++ unread_method compr
+
+-- that an image has data of a method of compression
+abbrev pub method_note : ℕ → List ℕ
+method_note compr =
+    if is_read_method compr then compressed_note compr else unread_method_note compr
 
 -- that two nodes of an image clash
 unfoldable pub clash_note : List ℕ
@@ -70,28 +95,58 @@ block_note = codes "--block takes a multiple of 4 from 4096 to 4194304"
 -- what is said of an image that does not mount
 unfoldable pub mount_note : MountFault → List ℕ
 mount_note mount.BlockSize = block_note
-mount_note (mount.Compressed addr compr) = if is_read_method compr then compressed_note else []
+mount_note mount.TooLarge = []
+mount_note (mount.Incompatible addr nodetype) = []
+mount_note (mount.Compressed addr compr) = method_note compr
 mount_note (mount.Clash addr) = clash_note
-mount_note _ = []
+mount_note mount.RootKind = []
+mount_note mount.OutOfMemory = []
+
+-- what is said of an image that is not scanned
+unfoldable pub scan_note : ScanFault → List ℕ
+scan_note scan.BlockSize = block_note
+scan_note scan.TooLarge = []
+scan_note (scan.Incompatible addr nodetype) = []
+scan_note (scan.Compressed addr compr) = method_note compr
+scan_note scan.OutOfMemory = []
 
 -- ---- a fault
 
 -- the file that a note is on, if it is on one
 unfoldable pub named_in : ProgramFault → List ℕ
-named_in (program.File file) = file.name.now
+named_in (program.Load fault) = []
 named_in (program.NotRead file) = file.name.now
-named_in _ = []
+named_in (program.Scan fault) = []
+named_in (program.Mount fault) = []
+named_in (program.Clash addr other) = []
+named_in (program.File file) = file.name.now
+named_in (program.Listing bad) = []
+named_in (program.Session fault line cause) = []
+named_in (program.Path fault) = []
+named_in program.NotRegular = []
+named_in program.Output = []
+named_in program.OutOfMemory = []
+named_in (program.NoSpace name) = []
+named_in (program.Data addr) = []
+named_in (program.TooLong addr) = []
 
 -- what is said of a fault beside its line, if anything is
 unfoldable pub note_of : ProgramFault → List ℕ
-note_of (program.Listing bad) = rule_note bad.rule
-note_of (program.Scan scan.BlockSize) = block_note
+note_of (program.Load fault) = []
+note_of (program.NotRead file) = unread_note file.reason
+note_of (program.Scan fault) = scan_note fault
 note_of (program.Mount fault) = mount_note fault
 note_of (program.Clash addr other) = pair_note other addr
 note_of (program.File file) = file_note file.reason
-note_of (program.NotRead file) = unread_note file.reason
+note_of (program.Listing bad) = rule_note bad.rule
 note_of (program.Session fault line cause) = cause_note cause
-note_of _ = []
+note_of (program.Path fault) = []
+note_of program.NotRegular = []
+note_of program.Output = []
+note_of program.OutOfMemory = []
+note_of (program.NoSpace name) = []
+note_of (program.Data addr) = []
+note_of (program.TooLong addr) = []
 
 -- as a line, where there is something to say
 abbrev pub noted_line : List ℕ → List ℕ → List ℕ

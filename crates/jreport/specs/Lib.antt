@@ -8,6 +8,7 @@ pub mod Faults
 pub mod Forms
 pub mod WholeImage
 pub mod ListedOnce
+pub mod NamedNotes
 pub mod Notes
 pub mod Paths
 pub mod Puts

@@ -3,7 +3,7 @@
 ghost use Rattle.std.specs.Prelude.{◌≡◌, ◌≤◌, ◌++◌, [], codes, length};
 ghost use Rattle.flashbase.specs.Sinks.{PutsTo};
 ghost use Rattle.jline.specs.Words.{in_line};
-ghost use Rattle.jreport.specs.Advice.{advice_of, fault_lines_of, is_read_method, mount_note, named_in, note_of, pair_note, rule_note, word_note};
+ghost use Rattle.jreport.specs.Advice.{advice_of, block_note, fault_lines_of, is_read_method, method_note, mount_note, named_in, note_of, pair_note, read_method_name, rule_note, scan_note, unread_method, word_note};
 ghost use Rattle.jreport.specs.Causes.{cause_note, limit_note};
 ghost use Rattle.jreport.specs.Reasons.{file_note, host_text, unread_note};
 
@@ -89,27 +89,93 @@ fn is_read_method(compr: u8) -> bool
     compr == 2 || compr == 6 || compr == 7 || compr == 8
 }
 
+/// The name of a method that it reads.
+fn read_method_name(compr: u8) -> &'static [u8]
+    ensures text { result.now ≡ read_method_name compr }
+    ensures short { length result.now ≤ 8 }
+{
+    match compr {
+        2 => b"rtime",
+        6 => b"zlib",
+        7 => b"lzo",
+        _ => b"lzma",
+    }
+}
+
+/// What is said of a method that it does not read.
+fn unread_method(compr: u8) -> &'static [u8]
+    ensures text { result.now ≡ unread_method compr }
+    ensures short { length result.now ≤ 40 }
+{
+    match compr {
+        3 => b" is RUBINMIPS, which is not read",
+        4 => b" is COPY, which is not read",
+        5 => b" is DYNRUBIN, which is not read",
+        _ => b" is not known",
+    }
+}
+
+/// What is said of an image that has data of a method of compression.
+#[tactic(auto, unfolding(crate::specs::Advice::compressed_note, crate::specs::Advice::unread_method_note))]
+fn push_method_note(line: &mut LineBuffer, compr: u8)
+    requires { line.old ≡ [] }
+    ensures text { line.new ≡ method_note compr }
+    ensures short { length line.new ≤ 200 }
+{
+    if is_read_method(compr) {
+        line.push_text(b"the image is compressed (");
+        line.push_text(read_method_name(compr));
+        line.push_text(b"); decompress writes one that is not, without damaged nodes; ");
+        line.push_text(b"ls, cat, extract and append take --decompress");
+    } else {
+        line.push_text(b"method ");
+        line.push_decimal(u64::from(compr));
+        line.push_text(unread_method(compr));
+    }
+}
+
+/// That no erase block has this size.
+#[tactic(auto, unfolding(crate::specs::Advice::block_note))]
+fn push_block_note(line: &mut LineBuffer)
+    requires { line.old ≡ [] }
+    ensures text { line.new ≡ block_note }
+    ensures short { length line.new ≤ 200 }
+{
+    line.push_text(b"--block takes a multiple of 4 from 4096 to 4194304");
+}
+
 /// What is said of an image that does not mount.
-#[tactic(auto, unfolding(crate::specs::Advice::mount_note, crate::specs::Advice::block_note, crate::specs::Advice::clash_note, crate::specs::Advice::compressed_note))]
+#[tactic(auto, unfolding(crate::specs::Advice::mount_note, crate::specs::Advice::clash_note))]
 fn push_mount_note(line: &mut LineBuffer, fault: MountFault)
     requires { line.old ≡ [] }
     ensures text { line.new ≡ mount_note fault }
     ensures short { length line.new ≤ 200 }
 {
     match fault {
-        MountFault::BlockSize => {
-            line.push_text(b"--block takes a multiple of 4 from 4096 to 4194304");
-        }
-        MountFault::Compressed { compr, .. } if is_read_method(compr) => {
-            line.push_text(b"the image is compressed; ");
-            line.push_text(b"decompress writes one that is not, ");
-            line.push_text(b"and --decompress reads it");
-        }
+        MountFault::BlockSize => push_block_note(line),
+        MountFault::Compressed { compr, .. } => push_method_note(line, compr),
         MountFault::Clash { .. } => {
             line.push_text(b"two nodes differ; ");
             line.push_text(b"decompress --clashes higher keeps that of the higher address");
         }
-        _ => {}
+        MountFault::TooLarge
+        | MountFault::Incompatible { .. }
+        | MountFault::RootKind
+        | MountFault::OutOfMemory => {}
+    }
+}
+
+/// What is said of an image that is not scanned.
+#[tactic(auto, unfolding(crate::specs::Advice::scan_note))]
+fn push_scan_note(line: &mut LineBuffer, fault: ScanFault)
+    requires { line.old ≡ [] }
+    ensures text { line.new ≡ scan_note fault }
+    ensures short { length line.new ≤ 200 }
+{
+    match fault {
+        ScanFault::BlockSize => push_block_note(line),
+        ScanFault::Compressed { compr, .. } => push_method_note(line, compr),
+        ScanFault::TooLarge | ScanFault::Incompatible { .. } | ScanFault::OutOfMemory => {}
     }
 }
 
@@ -221,12 +287,24 @@ fn named_in<'a>(fault: &ProgramFault<'a>) -> &'a str
 {
     match *fault {
         ProgramFault::File(file) | ProgramFault::NotRead(file) => file.name,
-        _ => "",
+        ProgramFault::Load(_)
+        | ProgramFault::Scan(_)
+        | ProgramFault::Mount(_)
+        | ProgramFault::Clash { .. }
+        | ProgramFault::Listing(_)
+        | ProgramFault::Session { .. }
+        | ProgramFault::Path(_)
+        | ProgramFault::NotRegular
+        | ProgramFault::Output
+        | ProgramFault::OutOfMemory
+        | ProgramFault::NoSpace(_)
+        | ProgramFault::Data { .. }
+        | ProgramFault::TooLong { .. } => "",
     }
 }
 
 /// What is said of a fault beside its line.
-#[tactic(auto, unfolding(crate::specs::Advice::note_of, crate::specs::Advice::block_note))]
+#[tactic(auto, unfolding(crate::specs::Advice::note_of))]
 fn push_note(line: &mut LineBuffer, fault: &ProgramFault<'_>)
     requires { line.old ≡ [] }
     ensures text { line.new ≡ note_of fault.now }
@@ -236,18 +314,23 @@ fn push_note(line: &mut LineBuffer, fault: &ProgramFault<'_>)
         ProgramFault::Listing(bad) => push_rule(line, bad.rule),
         ProgramFault::Mount(fault) => push_mount_note(line, fault),
         ProgramFault::Clash { addr, other } => push_pair_note(line, other, addr),
-        ProgramFault::Scan(ScanFault::BlockSize) => {
-            line.push_text(b"--block takes a multiple of 4 from 4096 to 4194304");
-        }
+        ProgramFault::Scan(fault) => push_scan_note(line, fault),
         ProgramFault::File(file) => push_file_note(line, file.reason),
         ProgramFault::NotRead(file) => push_unread_note(line, file.reason),
         ProgramFault::Session { cause, .. } => push_cause(line, cause),
-        _ => {}
+        ProgramFault::Load(_)
+        | ProgramFault::Path(_)
+        | ProgramFault::NotRegular
+        | ProgramFault::Output
+        | ProgramFault::OutOfMemory
+        | ProgramFault::NoSpace(_)
+        | ProgramFault::Data { .. }
+        | ProgramFault::TooLong { .. } => {}
     }
 }
 
 /// Puts a line that notes something, with a name before the rest of it.
-fn put_note<T: Sink>(sink: &mut T, name: &[u8], rest: &[u8]) -> Result<(), DeviceFault>
+pub(crate) fn put_note<T: Sink>(sink: &mut T, name: &[u8], rest: &[u8]) -> Result<(), DeviceFault>
     ensures { PutsTo T.Sink sink.old sink.new
         (codes "jffs2_image: note: " ++ (in_line name.now ++ rest.now)) result }
 {

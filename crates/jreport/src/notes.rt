@@ -34,7 +34,7 @@ pub fn noted(mounted: &Mounted<'_>) -> u64
 
 /// What is said of so many findings.
 #[tactic(auto, unfolding(crate::specs::Notes::findings_text))]
-fn findings_text(findings: u64) -> &'static [u8]
+pub(crate) fn findings_text(findings: u64) -> &'static [u8]
     ensures text { result.now ≡ findings_text findings }
     ensures short { length result.now ≤ 100 }
 {

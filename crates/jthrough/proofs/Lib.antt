@@ -1,1 +1,4 @@
+pub mod MountLemmas
+pub mod PlacedLemmas
+pub mod RefusalLemmas
 pub mod ViewLemmas

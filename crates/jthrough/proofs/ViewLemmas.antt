@@ -1,7 +1,7 @@
 -- A view of an image, extent by extent.
-use Rattle.std.proofs.Common.{◌≡◌, ℕ, ◌<◌, ◌≤◌, ◌+◌, Bool, true, false, List, [], ◌∷◌, ◌++◌, length, None, Some, Option, refl, sym, ap, subst, ◌∙◌, arith, append_assoc, inl, inr, ⊎_elim}
+use Rattle.std.proofs.Common.{◌≡◌, ℕ, ◌<◌, ◌≤◌, Bool, true, false, List, [], ◌∷◌, ◌++◌, length, None, Some, Option, refl, sym, ap, subst, ◌∙◌, arith, append_assoc, inl, inr}
 use Rattle.std.specs.Prelude.{◌||◌, Contains, filter_map, option_to_list}
-use Rattle.std.specs.List.{cons_option, flat_map}
+use Rattle.std.specs.List.{cons_option}
 use Rattle.std.specs.Option.{is_some}
 use Rattle.std.proofs.lemmas.List.{append-nil}
 use Rattle.std.proofs.lemmas.List.Elements.{Contains-append_left, Contains-append_right, Contains-append_cases, filter_map-append}
@@ -21,7 +21,7 @@ use Rattle.jscan.specs.declared.extent.ExtentKind.TheVariants.{Tiled, Erased, Ot
 use Rattle.jscan.specs.declared.finding.Finding.{Finding}
 use Rattle.jscan.proofs.ImageLemmas.{image_sighted}
 use Rattle.jscan.proofs.PartialScanLemmas.{any_forbids, cons_append, or_again, or_false}
-use Rattle.jexpand.specs.Expanded.{expanded_node, tile_content, contents_of_tiles}
+use Rattle.jexpand.specs.Expanded.{tile_content, contents_of_tiles}
 use Rattle.jview.specs.Through.{greatest_contents, through_fault}
 use Rattle.jthrough.specs.Refusals.{HasTileFault, IsRefusedBy}
 use Rattle.jthrough.specs.View.{IsViewBegun, BeginWith, AddsTile, RefusesTile, TakesTile, HasTiles, EndsView, IsViewOf, kept_tile, placed_node, placed_nodes}

@@ -1,2 +1,3 @@
+pub mod MountsThrough
 pub mod Refusals
 pub mod View

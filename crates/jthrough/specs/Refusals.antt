@@ -1,5 +1,5 @@
 -- What refuses an image that is seen through its compression.
-use Rattle.std.specs.Prelude.{◌≡◌, ◌⊎◌, ◌<◌, ⊤, ℕ, List, [], ◌∷◌, ◌++◌, length, filter_map, Contains, Option, Some, None}
+use Rattle.std.specs.Prelude.{◌≡◌, ◌⊎◌, ◌<◌, ◌≤◌, ⊤, ℕ, List, [], ◌∷◌, ◌++◌, length, filter_map, Contains, Option, Some, None}
 use Rattle.jnode.specs.declared.node.NodeRef.{NodeRef}
 use Rattle.jnode.specs.declared.node.Seen.{Seen}
 use Rattle.jnode.specs.declared.order.Endian.{Endian}
@@ -34,10 +34,16 @@ PassesContents e size image before s =
     (through_fault e size image s ≡ None)
     × (greatest_contents < length (contents_of_tiles e size image (before ++ s ∷ [])))
 
--- the node of a tile clashes with one of the tiles before it
+-- a tile that has no fault by itself, and whose content may be held with those before it
+abbrev pub IsHeldAfter : Endian → ℕ → List ℕ → List (ℕ × Seen) → ℕ × Seen → Type 0
+IsHeldAfter e size image before s =
+    (through_fault e size image s ≡ None)
+    × (length (contents_of_tiles e size image (before ++ s ∷ [])) ≤ greatest_contents)
+
+-- the node of such a tile clashes with one of the tiles before it
 abbrev pub ClashesWithTiles : Endian → ℕ → List ℕ → List (ℕ × Seen) → ℕ × Seen → Type 0
-ClashesWithTiles e size image before s = (node : NodeRef) × (other : NodeRef)
-    × (expanded_node e size image s ≡ Some node)
+ClashesWithTiles e size image before s = IsHeldAfter e size image before s
+    × (node : NodeRef) × (other : NodeRef) × (expanded_node e size image s ≡ Some node)
     × Contains (nodes_of_tiles e size image before) other × NodesClash node other
 
 -- why a tile refuses the image, after those before it

@@ -1,5 +1,5 @@
 -- What is found out of an image before it is mounted through its compression.
-use Rattle.std.specs.Prelude.{◌≡◌, ◌⊎◌, ◌<◌, ◌≤◌, ◌++◌, ◌||◌, ℕ, Bool, false, IsTrue, IsFalse, List, [], ◌∷◌, length, filter_map, Contains, Option, Some, None, option_map, option_to_list}
+use Rattle.std.specs.Prelude.{◌≡◌, ◌⊎◌, ◌<◌, ◌≤◌, ◌++◌, ◌||◌, ℕ, false, IsTrue, IsFalse, List, [], ◌∷◌, length, filter_map, Contains, Option, Some, None, option_map, option_to_list}
 use Rattle.jnode.specs.declared.node.NodeRef.{NodeRef}
 use Rattle.jnode.specs.declared.node.Seen.{Seen}
 use Rattle.jnode.specs.declared.node.Seen.TheVariants as seen
@@ -12,7 +12,7 @@ use Rattle.jexpand.specs.Expanded.{expanded_node, tile_content, contents_of_tile
 use Rattle.jmount.specs.declared.fault.MountFault.{MountFault}
 use Rattle.jmount.specs.declared.fault.MountFault.TheVariants as mount
 use Rattle.jview.specs.Through.{greatest_contents, through_fault}
-use Rattle.jthrough.specs.Refusals.{HasTileFault, IsRefusedBy, PassesContents}
+use Rattle.jthrough.specs.Refusals.{HasTileFault, IsRefusedBy}
 use Rattle.jthrough.specs.declared.fault.ViewFault.{ViewFault}
 use Rattle.jthrough.specs.declared.fault.ViewFault.TheVariants as fault
 use Rattle.jthrough.specs.declared.view.View.{View}

@@ -1,18 +1,24 @@
-//! What an image shows through its compression, found out in one walk: the tiles that give nodes,
-//! and the contents of the compressed ones. No second image is made.
+//! What an image shows through its compression, found out in one walk, and the file system that it
+//! makes. No second image is made: a mount borrows the image, and the contents of its compressed
+//! nodes, each of which is decompressed once.
 //!
-//! It is built on `jscan` (the extents of an image) and `jexpand` (what the data of one node stand
-//! for). What it promises to the crate above: `view_image` answers the tiles and contents of the
-//! whole image, with its findings, or those in front of the first tile that refuses it by itself,
-//! and why. The mount of a view is not written yet; `jmount::mount_nodes` is for it.
+//! It is built on `jscan` (the extents of an image), `jexpand` (what the data of one node stand
+//! for) and `jmount` (the file system of a list of nodes), by the definitions of `jview`. What it
+//! promises to the crate above: `view_image` answers the tiles that give nodes and their contents,
+//! with the image's findings, or those in front of the first tile that refuses it by itself, and
+//! why; `mount_view` mounts such a view, and `mount_through` is both. The mount shows the state of
+//! the image's expanded nodes; else the fault of least address is answered.
 //!
-//! `specs/View.antt` says what a view has, `specs/Refusals.antt` what refuses an image.
+//! `specs/View.antt` says what a view has, `specs/Refusals.antt` what refuses an image, and
+//! `specs/MountsThrough.antt` what a mount answers.
 #![tactic(auto)]
 
 mod fault;
+mod mounting;
 mod view;
 mod viewing;
 
 pub use crate::fault::ViewFault;
+pub use crate::mounting::{mount_through, mount_view};
 pub use crate::view::View;
 pub use crate::viewing::{GREATEST_CONTENTS, view_image};

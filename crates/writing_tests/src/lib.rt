@@ -12,3 +12,5 @@ mod convert;
 mod log;
 #[cfg(test)]
 mod steps;
+#[cfg(test)]
+mod through;

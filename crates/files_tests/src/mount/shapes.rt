@@ -161,6 +161,7 @@ fn have_shapes(rt: &(impl Abort + AllocGlobal), shapes: &[Shape]) -> Result<(), 
         let image = image_of::<LittleEndian>(rt.alloc(), items)?;
         let mounted = mount::<LittleEndian>(rt.alloc(), &image, GEOMETRY)?;
         equal_at(rt, mounted.has_shape(), wanted, about);
+        equal_at(rt, mounted.shape()?, wanted, about);
     }
     Ok(())
 }

@@ -271,22 +271,32 @@ fn texts_of_a_listing(rt: HostRuntime) {
     has_text(&rt, rt.alloc(), told, "P2 Listing line 3");
 }
 
-/// The methods of compression of Linux that there are, and whether they are read.
-fn methods() -> &'static [(u8, bool)] {
+const RTIME_NOTE: &str = "the image is compressed (rtime); decompress writes one that is not, \
+    without damaged nodes; ls, cat, extract and append take --decompress";
+
+const ZLIB_NOTE: &str = "the image is compressed (zlib); decompress writes one that is not, \
+    without damaged nodes; ls, cat, extract and append take --decompress";
+
+const LZO_NOTE: &str = "the image is compressed (lzo); decompress writes one that is not, \
+    without damaged nodes; ls, cat, extract and append take --decompress";
+
+const LZMA_NOTE: &str = "the image is compressed (lzma); decompress writes one that is not, \
+    without damaged nodes; ls, cat, extract and append take --decompress";
+
+/// The numbers of methods of compression, and what is noted of an image that has data of one.
+fn methods() -> &'static [(u8, &'static str)] {
     &[
-        (1, false),
-        (2, true),
-        (3, false),
-        (4, false),
-        (5, false),
-        (6, true),
-        (7, true),
-        (8, true),
+        (2, RTIME_NOTE),
+        (3, "method 3 is RUBINMIPS, which is not read"),
+        (4, "method 4 is COPY, which is not read"),
+        (5, "method 5 is DYNRUBIN, which is not read"),
+        (6, ZLIB_NOTE),
+        (7, LZO_NOTE),
+        (8, LZMA_NOTE),
+        (9, "method 9 is not known"),
+        (255, "method 255 is not known"),
     ]
 }
-
-const COMPRESSED_NOTE: &str =
-    "the image is compressed; decompress writes one that is not, and --decompress reads it";
 
 const BLOCK_NOTE: &str = "--block takes a multiple of 4 from 4096 to 4194304";
 
@@ -315,7 +325,7 @@ fn is_note(line: &[u8], note: &str) -> bool {
     }
     let rest = line.strip_suffix(b"\n".as_slice());
     let rest = rest.and_then(|rest| rest.strip_prefix(b"jffs2_image: note: ".as_slice()));
-    line.len() <= 126 && rest == Some(note.as_bytes())
+    line.len() <= 160 && rest == Some(note.as_bytes())
 }
 
 /// Whether after the line of a fault comes this note, or none where it is empty.
@@ -455,8 +465,7 @@ fn notes_after_mounts(rt: HostRuntime) {
     for &(fault, note) in mount_notes() {
         has_note(&rt, rt.alloc(), ProgramFault::Mount(fault), note);
     }
-    for &(compr, is_read) in methods() {
-        let note = if is_read { COMPRESSED_NOTE } else { "" };
+    for &(compr, note) in methods() {
         let fault = MountFault::Compressed { addr: 12, compr };
         has_note(&rt, rt.alloc(), ProgramFault::Mount(fault), note);
     }
@@ -474,7 +483,7 @@ fn notes_after_faults(rt: HostRuntime) {
         BLOCK_NOTE,
     );
     let compressed = ScanFault::Compressed { addr: 2, compr: 6 };
-    has_note(&rt, rt.alloc(), ProgramFault::Scan(compressed), "");
+    has_note(&rt, rt.alloc(), ProgramFault::Scan(compressed), ZLIB_NOTE);
     has_note(&rt, rt.alloc(), clash(0x9C, 0x50), PAIR_NOTE);
     has_note(&rt, rt.alloc(), clash(u32::MAX, 0), FAR_PAIR_NOTE);
     has_note(&rt, rt.alloc(), ProgramFault::Data { addr: 6 }, "");

@@ -17,21 +17,22 @@ fn is_given_back<E: Order>(
     rt: &impl Abort,
     alloc: Global,
     image: &[u8],
+    geometry: Geometry,
     changed: u64,
     nodes: u64,
 ) -> u64 {
     let sink = Taker::new(alloc);
-    let Ok((sink, told)) = compress::<E, Taker>(alloc, image, BLOCKS_OF_8_KIB, sink) else {
+    let Ok((sink, told)) = compress::<E, Taker>(alloc, image, geometry, sink) else {
         panic!(rt; "refused");
     };
     equal(rt, (told.changed, told.nodes), (changed, nodes));
     equal(rt, told.bytes, sink.bytes.len() as u64);
-    let Ok(judged) = judge::<E>(alloc, &sink.bytes, BLOCKS_OF_8_KIB, 0) else {
+    let Ok(judged) = judge::<E>(alloc, &sink.bytes, geometry, 0) else {
         panic!(rt; "refused again");
     };
     equal(rt, judged.told.changed, changed);
-    let back = decompressed::<E>(alloc, &sink.bytes, BLOCKS_OF_8_KIB);
-    let plain = decompressed::<E>(alloc, image, BLOCKS_OF_8_KIB);
+    let back = decompressed::<E>(alloc, &sink.bytes, geometry);
+    let plain = decompressed::<E>(alloc, image, geometry);
     expect(rt, back.is_ok() && back == plain);
     told.bytes
 }
@@ -39,9 +40,16 @@ fn is_given_back<E: Order>(
 /// What goes out is shorter.
 #[test]
 fn images_are_compressed(rt: HostRuntime) {
-    let little = is_given_back::<LittleEndian>(&rt, rt.alloc(), little_expanded(), 4, 9);
+    let little = is_given_back::<LittleEndian>(
+        &rt,
+        rt.alloc(),
+        little_expanded(),
+        BLOCKS_OF_8_KIB,
+        4,
+        9,
+    );
     expect(&rt, little < 728);
-    let big = is_given_back::<BigEndian>(&rt, rt.alloc(), big_expanded(), 4, 9);
+    let big = is_given_back::<BigEndian>(&rt, rt.alloc(), big_expanded(), BLOCKS_OF_8_KIB, 4, 9);
     equal(&rt, big, little);
 }
 
@@ -72,8 +80,49 @@ fn nodes() -> &'static [(&'static Node<'static>, u64, u64)] {
 fn what_is_compressed(rt: HostRuntime) -> Result<(), Fail> {
     for &(node, changed, bytes) in nodes() {
         let image = image_of_nodes::<LittleEndian>(rt.alloc(), &[*node], ATTRIBUTES)?;
-        let out = is_given_back::<LittleEndian>(&rt, rt.alloc(), &image, changed, 1);
+        let out = is_given_back::<LittleEndian>(
+            &rt,
+            rt.alloc(),
+            &image,
+            BLOCKS_OF_8_KIB,
+            changed,
+            1,
+        );
         equal(&rt, out, bytes);
+    }
+    Ok(())
+}
+
+const BLOCKS_OF_64_KIB: Geometry = Geometry { block: 65_536 };
+
+const LONG: &[u8] = &[0x61; 32_769];
+
+/// Numbers of equal bytes, how many nodes of them change, and the most bytes that go out. Of 32,768
+/// Python's `zlib` makes 53, which fill 56; of more nothing is made.
+fn lengths() -> &'static [(usize, u64, u64)] {
+    &[
+        (2048, 1, 136),
+        (2049, 1, 136),
+        (32_768, 1, 136),
+        (32_769, 0, 32_852),
+    ]
+}
+
+#[test]
+fn how_much_is_compressed(rt: HostRuntime) -> Result<(), Fail> {
+    for &(length, changed, most) in lengths() {
+        let node = Node::Inode(2, FILE, LONG.get(..length).unwrap_or(&[]));
+        let image = image_of_nodes::<LittleEndian>(rt.alloc(), &[node], ATTRIBUTES)?;
+        let out = is_given_back::<LittleEndian>(
+            &rt,
+            rt.alloc(),
+            &image,
+            BLOCKS_OF_64_KIB,
+            changed,
+            1,
+        );
+        expect(&rt, out <= most);
+        expect(&rt, changed == 1 || out == most);
     }
     Ok(())
 }

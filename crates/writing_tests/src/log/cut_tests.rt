@@ -355,6 +355,122 @@ fn by_pages() -> &'static [Case] {
     }]
 }
 
+/// An object of each kind that has no bytes to write. A device's node has its number, of two bytes
+/// or four, which no reader gets as its content, and a symlink's its target.
+fn kinds() -> &'static [Case] {
+    &[
+        Case {
+            about: "devices and a symlink",
+            flash: ONE,
+            goes_on: false,
+            in_turn: false,
+            lines: &["char /a 620 4:65", "block /b 660 259:7", "symlink /e ../t"],
+            steps: &[
+                Change::Make(0o020620, 0, 1),
+                Change::Name(b"a", 2),
+                Change::Make(0o060660, 0, 2),
+                Change::Name(b"b", 3),
+                Change::Link(b"../t", 3),
+                Change::Name(b"e", 4),
+            ],
+            whole: &[82, 125, 200, 241, 316, 357],
+            len: 360,
+        },
+        Case {
+            about: "a FIFO and a socket",
+            flash: ONE,
+            goes_on: false,
+            in_turn: false,
+            lines: &["fifo /b 622", "socket /d 755"],
+            steps: &[
+                Change::Make(0o010622, 0, 1),
+                Change::Name(b"b", 2),
+                Change::Make(0o140755, 0, 2),
+                Change::Name(b"d", 3),
+            ],
+            whole: &[80, 121, 192, 233],
+            len: 236,
+        },
+    ]
+}
+
+/// Names that come and go. An object stays that has no name.
+fn names() -> &'static [Case] {
+    &[Case {
+        about: "names of files that are linked, removed and replaced",
+        flash: ONE,
+        goes_on: false,
+        in_turn: false,
+        lines: &[
+            "create /a 644",
+            "link /a /b",
+            "remove /a",
+            "file /d 600 20",
+            "replace /d /b",
+            "remove /b",
+        ],
+        steps: &[
+            Change::Make(FILE, 0, 1),
+            Change::Name(b"a", 2),
+            Change::Name(b"b", 2),
+            Change::Clear(b"a"),
+            Change::Make(0o100600, 20, 4),
+            Change::Name(b"d", 3),
+            Change::Name(b"b", 3),
+            Change::Clear(b"d"),
+            Change::Clear(b"b"),
+        ],
+        whole: &[80, 121, 165, 209, 300, 341, 385, 429, 473],
+        len: 476,
+    }]
+}
+
+/// A file that is longer than a page of 4,096 bytes, and takes the name of another. By larger pages
+/// it is one node.
+fn by_each_page() -> &'static [Case] {
+    const IN_TWO: Case = Case {
+        about: "a file of two pages that replaces another",
+        flash: ONE,
+        goes_on: false,
+        in_turn: false,
+        lines: &["file /a 644 3", "file /b 600 5001", "replace /b /a"],
+        steps: &[
+            Change::Make(FILE, 3, 1),
+            Change::Name(b"a", 2),
+            Change::Make(0o100600, 4096, 2),
+            Change::Fill(1, 4096, 905, 2),
+            Change::Name(b"b", 3),
+            Change::Name(b"a", 3),
+            Change::Clear(b"b"),
+        ],
+        whole: &[83, 125, 4292, 5265, 5309, 5353, 5397],
+        len: 5400,
+    };
+    const IN_ONE: Case = Case {
+        about: "a file of one page that replaces another",
+        flash: LARGE,
+        steps: &[
+            Change::Make(FILE, 3, 1),
+            Change::Name(b"a", 2),
+            Change::Make(0o100600, 5001, 2),
+            Change::Name(b"b", 3),
+            Change::Name(b"a", 3),
+            Change::Clear(b"b"),
+        ],
+        whole: &[83, 125, 5197, 5241, 5285, 5329],
+        len: 5332,
+        ..IN_TWO
+    };
+    &[
+        IN_TWO,
+        IN_ONE,
+        Case {
+            flash: LARGEST,
+            ..IN_ONE
+        },
+    ]
+}
+
 /// The operations of lines, asked for at the times 1, 2 and so on.
 fn ops_in_time(alloc: Global, lines: &[&'static str]) -> Result<Vec<Op<'static>>, Fail> {
     let mut ops = Vec::new(alloc);
@@ -509,6 +625,16 @@ fn survives<E: Order>(alloc: Global, case: &Case) -> Result<bool, Fail> {
     Ok(is_long && mounts_as_told::<E>(alloc, case, &log)?)
 }
 
+/// The same by pages of 4,096, 8,192 and 16,384, where no node is longer than a page.
+fn all_survive_by_each_page(rt: &impl Abort, alloc: Global, cases: &[Case]) -> Result<(), Fail> {
+    for flash in [ONE, LARGE, LARGEST] {
+        for case in cases {
+            all_survive(rt, alloc, &[Case { flash, ..*case }])?;
+        }
+    }
+    Ok(())
+}
+
 fn all_survive(rt: &impl Abort, alloc: Global, cases: &[Case]) -> Result<(), Fail> {
     for case in cases {
         let little = survives::<LittleEndian>(alloc, case)?;
@@ -529,8 +655,17 @@ fn what_is_left_after_each_byte(rt: HostRuntime) -> Result<(), Fail> {
         going_on(),
         in_parts(),
         by_pages(),
+        by_each_page(),
     ] {
         all_survive(&rt, rt.alloc(), cases)?;
+    }
+    Ok(())
+}
+
+#[test]
+fn what_is_left_of_each_kind(rt: HostRuntime) -> Result<(), Fail> {
+    for cases in [kinds(), names()] {
+        all_survive_by_each_page(&rt, rt.alloc(), cases)?;
     }
     Ok(())
 }

@@ -9,6 +9,8 @@ use std::test::Fail;
 pub enum Change {
     /// A new object: its mode, of how many bytes 0x5A it is, and the time.
     Make(u32, usize, u32),
+    /// A new symlink: its target and the time.
+    Link(&'static [u8], u32),
     /// A name and its object.
     Name(&'static [u8], u32),
     /// A name that goes.
@@ -53,6 +55,14 @@ impl File {
         }
     }
 
+    /// The bytes that a reader gets: those of a regular file, and a symlink's target.
+    fn readable(&self) -> &[u8] {
+        match self.object.kind {
+            Kind::Regular | Kind::Symlink => self.bytes.as_slice(),
+            _ => &[],
+        }
+    }
+
     fn put(&mut self, offset: usize, bytes: &[u8]) -> Result<(), Fail> {
         for (k, byte) in bytes.iter().enumerate() {
             match self.bytes.get_mut(offset.wrapping_add(k)) {
@@ -94,15 +104,23 @@ impl File {
     }
 }
 
+/// What kind of object has this mode (POSIX.1-2017, `sys/stat.h`).
+fn kind_of(mode: u32) -> Kind {
+    match mode & 0o170000 {
+        0o010000 => Kind::Fifo,
+        0o020000 => Kind::CharacterDevice,
+        0o040000 => Kind::Directory,
+        0o060000 => Kind::BlockDevice,
+        0o120000 => Kind::Symlink,
+        0o140000 => Kind::Socket,
+        _ => Kind::Regular,
+    }
+}
+
 /// A new object without bytes.
 fn new_object(mode: u32, time: u32) -> Object {
-    let kind = if mode & 0o170000 == 0o040000 {
-        Kind::Directory
-    } else {
-        Kind::Regular
-    };
     Object {
-        kind,
+        kind: kind_of(mode),
         mode,
         uid: 0,
         gid: 0,
@@ -151,6 +169,14 @@ impl Plain {
                 object: new_object(mode, time),
                 bytes: vec![in alloc; 0x5A; count]?,
             })?,
+            Change::Link(target, time) => {
+                let mut bytes = Vec::new(alloc);
+                bytes.extend_from_slice(target)?;
+                self.files.push(File {
+                    object: new_object(0o120777, time),
+                    bytes,
+                })?;
+            }
             Change::Name(name, ino) => self.set_name(name, Some(ino)),
             Change::Clear(name) => self.set_name(name, None),
             Change::Root(permissions, time) => {
@@ -181,7 +207,7 @@ impl Plain {
             let count = mounted.read_at(ino, 0, room);
             same = same
                 && shown.next() == Some((ino, file.object()))
-                && room.get(..count) == Some(file.bytes.as_slice());
+                && room.get(..count) == Some(file.readable());
             ino = ino.wrapping_add(1);
         }
         same && shown.next().is_none() && mounted.next() == u64::from(ino)

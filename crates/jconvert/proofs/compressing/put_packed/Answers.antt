@@ -17,4 +17,4 @@ returns-in-Err-put_form g c =
     let made = subst (λ (form : List ℕ). IsMadeFor e (expanded_node e c.args.geometry.block c.args.image.now (c.args.addr, c.args.seen.now)) form c.in-Ok-true-default.field-0-0
     c.in-Ok-true-default.is_packed) (sym c.deref.ensures.value) c.in-Ok-true-default.ensures.ok in
     made_failed e c.args.geometry.block c.args.image.now (c.args.addr, c.args.seen.now) c.args.from _ _ _ _ c.in-Err-put_form.fault c.deref.result.now c.in-Ok-true-default.field-0-0
-    c.in-Ok-true-default.is_packed made c.in-Ok-true-default.field-0-0-test c.in-Err-put_form.ensures
+    c.in-Ok-true-default.is_packed made c.in-Ok-true-default.field-0-0-test c.in-Err-put_form.ensures.puts

@@ -13,15 +13,15 @@ loop-node-preserved g c =
     let split = slice_left c.args.nodes.now c.loop-node.node-index c.node-item.result c.loop-node-test.true c.node-item.is in
     record {
       kept = keeping_next g.E.Order.order c.args.geometry.block c.args.nodes.now (drop c.loop-node.node-index c.args.nodes.now) (drop (c.loop-node.node-index + 1) c.args.nodes.now) c.node-item.result
-          c.loop-node.from c.in-Ok.next _ _ _ _ _ c.loop-node.invariant.kept split c.in-Ok.ensures;
-      none_failed = c.in-Ok.ensures.1 ∙ c.loop-node.invariant.none_failed;
+          c.loop-node.from c.in-Ok.next _ _ _ _ _ c.loop-node.invariant.kept split c.in-Ok.ensures.puts;
+      none_failed = c.in-Ok.ensures.puts.1 ∙ c.loop-node.invariant.none_failed;
     }
 
 pub returns-in-Err : goal.returns-in-Err
 returns-in-Err g c =
     let split = slice_left c.args.nodes.now c.loop-node.node-index c.node-item.result c.loop-node-test.true c.node-item.is in
     keeping_failed g.E.Order.order c.args.geometry.block c.args.nodes.now (drop c.loop-node.node-index c.args.nodes.now) (drop (c.loop-node.node-index + 1) c.args.nodes.now) c.node-item.result
-    c.loop-node.from _ _ _ _ _ _ c.in-Err.fault c.loop-node.invariant.kept split c.loop-node.invariant.none_failed c.in-Err.ensures
+    c.loop-node.from _ _ _ _ _ _ c.in-Err.fault c.loop-node.invariant.kept split c.loop-node.invariant.none_failed c.in-Err.ensures.puts
 
 pub returns : goal.returns
 returns g c =

@@ -1,4 +1,4 @@
-use Rattle.std.proofs.Common.{rules, ◌≡◌, ◌≤◌, ◌<◌, ◌+◌, ◌++◌, ℕ, List, length, Some, sym, ap, subst, ◌∙◌, arith}
+use Rattle.std.proofs.Common.{rules, ◌≡◌, ◌≤◌, ◌<◌, ◌+◌, ◌++◌, ℕ, List, length, Some, None, sym, ap, subst, ◌∙◌, arith}
 use Rattle.std.specs.Io.KnownBytes.{Appends}
 use Rattle.flashbase.specs.Bytes.{pad4_of}
 use Rattle.jnode.specs.Writing.{filled}
@@ -10,7 +10,7 @@ use Rattle.jexpand.proofs.SightedLemmas.{size_some}
 use Rattle.jconvert.specs.Converting.{greatest_blocks}
 use Rattle.jconvert.specs.Tallying.{IsCursor}
 use Rattle.jconvert.specs.Putting.{form_piece}
-use Rattle.jconvert.proofs.PlaceLemmas.{within_some, place_up, next_small, next_cursor, piece_is}
+use Rattle.jconvert.proofs.PlaceLemmas.{within_some, place_up, next_small, next_cursor, piece_is, no_place}
 use Rattle.jconvert.proofs.writing.put_form.Goals as goal
 
 pub put_node-requires-clause-up : goal.put_node-requires-clause-up
@@ -38,8 +38,8 @@ overflow_add-result g c =
     let fits : c.in-Some.at + c.pad4.result ≤ 268435456 = subst (λ (n : ℕ). c.in-Some.at + n ≤ 268435456) (sym c.pad4.ensures) small in
     search (rules, fits)
 
-pub returns-in-Ok : goal.returns-in-Ok
-returns-in-Ok g c =
+pub returns-in-Ok-clause-puts : goal.returns-in-Ok-clause-puts
+returns-in-Ok-clause-puts g c =
     let e = g.E.Order.order in
     let size : ℕ = c.args.geometry.block in
     let form : List ℕ = c.args.form.now in
@@ -55,3 +55,11 @@ returns-in-Ok g c =
       next_is,
       subst (IsCursor size) (ap (λ (n : ℕ). c.in-Some.at + n) (sym c.pad4.ensures)) (next_cursor size c.args.from len c.in-Some.at c.requires.readable found),
     )
+
+pub returns-in-None-clause-room : goal.returns-in-None-clause-room
+returns-in-None-clause-room g c =
+    let size : ℕ = c.args.geometry.block in
+    let len : ℕ = length c.args.form.now in
+    let found : place_within size (greatest_blocks size) c.args.from len ≡ None =
+    ap (λ (b : ℕ). place_within size b c.args.from len) (sym c.greatest_blocks.ensures) ∙ (sym c.place_of.ensures ∙ c.in-None.is) in
+    λ _. no_place size (greatest_blocks size) c.args.from len found

@@ -10,7 +10,7 @@ use Rattle.jdamage.proofs.damage.put_all_missing.Goals as goal
 pub put_missing_name-requires : goal.put_missing_name-requires
 put_missing_name-requires g c =
     let d : HeldName = (0, record { ref_ptr = (0, 0); now = [] }, 0) in
-    omega (arith, held_fits c.args.ways.now.mounted.now.state _ c.args.missing.now c.loop-name.name-index d c.loop-name-test.true c.requires, c.loop-name.invariant.capacity)
+    omega (arith, held_fits c.args.ways.now.up.mounted.now.state _ c.args.missing.now c.loop-name.name-index d c.loop-name-test.true c.requires, c.loop-name.invariant.capacity)
 
 pub returns-in_err-put_missing_name : goal.returns-in_err-put_missing_name
 returns-in_err-put_missing_name g c =
@@ -19,7 +19,7 @@ returns-in_err-put_missing_name g c =
     let d : HeldName = (0, record { ref_ptr = (0, 0); now = [] }, 0) in
     let name = get_or c.args.missing.now c.loop-name.name-index d in
     record {
-      puts = item_failed (λ n. missing_text c.args.ways.now.mounted.now.state (name_held n)) c.args.missing.now c.loop-name.name-index d name _ (g.T.Sink.taken c.loop-name.sink) _ _ _ _ _
+      puts = item_failed (λ n. missing_text c.args.ways.now.up.mounted.now.state (name_held n)) c.args.missing.now c.loop-name.name-index d name _ (g.T.Sink.taken c.loop-name.sink) _ _ _ _ _
           c.from_residual.ensures.0 c.loop-name-test.true refl before.put before.failed put.0 put.1;
     }
 
@@ -32,7 +32,7 @@ loop-name-preserved g c =
     let name = get_or c.args.missing.now i d in
     record {
       put = subst (Appends (g.T.Sink.taken c.args.sink.now) (g.T.Sink.taken c.put_missing_name.new.sink))
-          (flat_map-next (λ n. missing_text c.args.ways.now.mounted.now.state (name_held n)) c.args.missing.now i d name c.loop-name-test.true refl)
+          (flat_map-next (λ n. missing_text c.args.ways.now.up.mounted.now.state (name_held n)) c.args.missing.now i d name c.loop-name-test.true refl)
           (Appends-trans _ (g.T.Sink.taken c.loop-name.sink) _ _ _ before.put put.0);
       failed = put.1 ∙ before.failed;
       capacity = omega (arith, before.capacity, c.put_missing_name.ensures.capacity);

@@ -31,12 +31,12 @@ returns-then-is_empty-2 g c =
 
 pub room_for-requires-clause-numbers : goal.room_for-requires-clause-numbers
 room_for-requires-clause-numbers g c =
-    have_numbers g.E.Order.order c.image-image.result.now c.in_ok-ways.ways.mounted.now.image c.in_ok-numbers.numbers c.in_ok-ways.ways.numbers.now c.deref.result.now c.deref-5.result.now
+    have_numbers g.E.Order.order c.image-image.result.now c.in_ok-ways.ways.up.mounted.now.image c.in_ok-numbers.numbers c.in_ok-ways.ways.numbers.now c.deref.result.now c.deref-5.result.now
     (c.image-image.ensures ∙ ap (λ (m : Mount). m.image) (sym c.in_ok-ways.ensures.image)) (sym c.in_ok-ways.ensures.numbers) (c.deref.ensures.value ∙ sym c.deref-5.ensures.value) c.in_ok-numbers.ensures
 
 pub put_lines-requires-clause-numbers : goal.put_lines-requires-clause-numbers
 put_lines-requires-clause-numbers g c =
-    have_numbers g.E.Order.order c.image-image.result.now c.in_ok-ways.ways.mounted.now.image c.in_ok-numbers.numbers c.in_ok-ways.ways.numbers.now c.deref.result.now c.deref-7.result.now
+    have_numbers g.E.Order.order c.image-image.result.now c.in_ok-ways.ways.up.mounted.now.image c.in_ok-numbers.numbers c.in_ok-ways.ways.numbers.now c.deref.result.now c.deref-7.result.now
     (c.image-image.ensures ∙ ap (λ (m : Mount). m.image) (sym c.in_ok-ways.ensures.image)) (sym c.in_ok-ways.ensures.numbers) (c.deref.ensures.value ∙ sym c.deref-7.ensures.value) c.in_ok-numbers.ensures
 
 pub returns : goal.returns
@@ -44,7 +44,7 @@ returns g c =
     let e = g.E.Order.order in
     let size = c.args.geometry.block in
     let m = c.args.mounted.now in
-    let w = c.in_ok-ways.ways.mounted.now in
+    let w = c.in_ok-ways.ways.up.mounted.now in
     let numbers = c.in_ok-numbers.numbers in
     let hidden = c.in_ok-hidden.hidden in
     let damaged = c.in_ok-damaged.damaged.items in

@@ -9,7 +9,7 @@ use Rattle.jdamage.proofs.damage.put_lines.Goals as goal
 pub returns-in_err-paths-clause-puts : goal.returns-in_err-paths-clause-puts
 returns-in_err-paths-clause-puts g c =
     let e = g.E.Order.order in
-    let m = c.args.ways.now.mounted.now in
+    let m = c.args.ways.now.up.mounted.now in
     let damaged = c.args.damaged.now in
     let missing = c.args.missing.now in
     let put = c.in_err-paths.ensures.puts in
@@ -19,7 +19,7 @@ returns-in_err-paths-clause-puts g c =
 pub returns-in_err-put_all_missing-clause-puts : goal.returns-in_err-put_all_missing-clause-puts
 returns-in_err-put_all_missing-clause-puts g c =
     let e = g.E.Order.order in
-    let m = c.args.ways.now.mounted.now in
+    let m = c.args.ways.now.up.mounted.now in
     let damaged = c.args.damaged.now in
     let missing = c.args.missing.now in
     let last = totals_shown (own_totals e m c.args.hidden.now damaged missing) in
@@ -31,7 +31,7 @@ returns-in_err-put_all_missing-clause-puts g c =
 pub returns-in_err-put_totals-clause-puts : goal.returns-in_err-put_totals-clause-puts
 returns-in_err-put_totals-clause-puts g c =
     let e = g.E.Order.order in
-    let m = c.args.ways.now.mounted.now in
+    let m = c.args.ways.now.up.mounted.now in
     let damaged = c.args.damaged.now in
     let missing = c.args.missing.now in
     let last = totals_shown (own_totals e m c.args.hidden.now damaged missing) in

@@ -14,7 +14,7 @@ put_node-requires-clause-number g c = c.requires.numbers c.loop-addr.addr-index 
 
 pub put_node-requires-clause-room : goal.put_node-requires-clause-room
 put_node-requires-clause-room g c =
-    fits_more g.E.Order.order c.args.ways.now.mounted.now c.args.hidden.now _ _ _ c.loop-addr.invariant.capacity (c.requires.room c.loop-addr.addr-index (0, NodeCrc) c.loop-addr-test.true)
+    fits_more g.E.Order.order c.args.ways.now.up.mounted.now c.args.hidden.now _ _ _ c.loop-addr.invariant.capacity (c.requires.room c.loop-addr.addr-index (0, NodeCrc) c.loop-addr-test.true)
 
 pub returns-in_err-more-clause-puts : goal.returns-in_err-more-clause-puts
 returns-in_err-more-clause-puts g c =
@@ -22,13 +22,13 @@ returns-in_err-more-clause-puts g c =
     let before = c.loop-addr.invariant in
     let d : ℕ × Damage = (0, NodeCrc) in
     let node = get_or c.args.damaged.now c.loop-addr.addr-index d in
-    item_failed (own_text g.E.Order.order c.args.ways.now.mounted.now c.args.hidden.now) c.args.damaged.now c.loop-addr.addr-index d node _ (g.T.Sink.taken c.loop-addr.sink) _ _ _ _ _
+    item_failed (own_text g.E.Order.order c.args.ways.now.up.mounted.now c.args.hidden.now) c.args.damaged.now c.loop-addr.addr-index d node _ (g.T.Sink.taken c.loop-addr.sink) _ _ _ _ _
     c.from_residual.ensures.0 c.loop-addr-test.true refl before.put before.failed put.0 put.1
 
 pub loop-addr-preserved : goal.loop-addr-preserved
 loop-addr-preserved g c =
     let e = g.E.Order.order in
-    let m = c.args.ways.now.mounted.now in
+    let m = c.args.ways.now.up.mounted.now in
     let hidden = c.args.hidden.now in
     let put = c.in_ok-more.ensures.puts in
     let before = c.loop-addr.invariant in

@@ -13,7 +13,7 @@ deepest_of-requires-clause-number g c = c.requires.numbers c.loop-addr.addr-inde
 pub loop-addr-preserved : goal.loop-addr-preserved
 loop-addr-preserved g c =
     let e = g.E.Order.order in
-    let m = c.args.ways.now.mounted.now in
+    let m = c.args.ways.now.up.mounted.now in
     let hidden = c.args.hidden.now in
     let most = c.max-most.result in
     let d : ℕ × Damage = (0, NodeCrc) in

@@ -1,4 +1,5 @@
 use Rattle.std.proofs.Common.{◌≡◌}
+use Rattle.jdiff.specs.Compared.{AreCompared}
 use Rattle.jdiff.proofs.ReachLemmas.{NeedsLeft, ReachesPlaces, steps_to_go}
 use Rattle.jdiff.proofs.walk.put_differences.Given as goal
 
@@ -6,6 +7,7 @@ abbrev pub invariant-loop-walk : goal.invariant-loop-walk
 invariant-loop-walk g l = record {
   needs : NeedsLeft l.fn.left.state l.fn.right.state l.walk;
   so_far : ReachesPlaces l.fn.times l.fn.left.state l.fn.right.state l.walk (g.T.Sink.taken l.fn.sink) (g.T.Sink.taken l.sink) l.lines;
+  known : AreCompared l.fn.left.state l.fn.right.state l.walk.compared;
   failed : g.T.Sink.failures l.sink ≡ g.T.Sink.failures l.fn.sink;
 }
 

@@ -14,8 +14,8 @@ returns-in-Ok g c = record {
     finishes = c.in-Ok.ensures.1;
     comes_to = c.in-Ok.ensures.2;
   };
-  said = note_said _ (λ e. g.N.Sink.taken e) (λ e. g.N.Sink.failures e) _ _ _ c.note.ensures.noted;
-  ends = c.note.ensures.done;
+  said = note_said _ (λ e. g.N.Sink.taken e) (λ e. g.N.Sink.failures e) _ _ _ c.note_found.ensures.noted;
+  ends = c.note_found.ensures.ends;
 }
 
 pub returns-in-Err : goal.returns-in-Err

@@ -19,8 +19,8 @@ returns-in_err-mounted g c =
 pub returns : goal.returns
 returns g c = inl (record {
   mount = c.in_ok-mounted.mounted;
-  told = c.put_damage.result;
+  told = c.put_damage-told.result;
   of_image = subst (λ (e : Endian). Answers e c.args.options.geometry.block c.args.image.now (Ok c.in_ok-mounted.mounted)) (sym c.requires) c.in_ok-mounted.ensures.mounts;
-  put = subst (λ (e : Endian). PutsDamage e c.args.options.geometry.block c.in_ok-mounted.mounted (g.T.Sink.taken c.args.sink.now) (g.T.Sink.taken c.put_damage.new.sink) (g.T.Sink.failures c.args.sink.now) (g.T.Sink.failures c.put_damage.new.sink) c.put_damage.result) (sym c.requires) c.put_damage.ensures;
+  put = subst (λ (e : Endian). PutsDamage e c.args.options.geometry.block c.in_ok-mounted.mounted (g.T.Sink.taken c.args.sink.now) (g.T.Sink.taken c.put_damage-told.new.sink) (g.T.Sink.failures c.args.sink.now) (g.T.Sink.failures c.put_damage-told.new.sink) c.put_damage-told.result) (sym c.requires) c.put_damage-told.ensures;
   comes_to = c.as_told.ensures;
 })

@@ -37,5 +37,7 @@ returns g c = inl (record {
   right = c.in_ok-right.right;
   of_first = subst (λ (e : Endian). Answers e c.args.options.geometry.block c.args.first.now (Ok c.in_ok-left.left)) (sym c.requires) c.in_ok-left.ensures.mounts;
   of_second = subst (λ (e : Endian). Answers e c.args.options.geometry.block c.args.second.now (Ok c.in_ok-right.right)) (sym c.requires) c.in_ok-right.ensures.mounts;
-  put = c.put_differences.ensures;
+  told = c.put_differences-told.result;
+  put = c.put_differences-told.ensures;
+  comes_to = c.as_compared.ensures;
 })

@@ -1,5 +1,4 @@
-use Rattle.std.proofs.Common.{rules, ◌≡◌, ℕ, Some, None, sym, ap, ◌∙◌}
-use Rattle.jscan.specs.Extents.{sighted}
+use Rattle.std.proofs.Common.{◌≡◌, ℕ, ap, ◌∙◌}
 use Rattle.jscan.specs.ImageLeft.{image_left}
 use Rattle.jscan.specs.Scans.{image_extents}
 use Rattle.jthrough.proofs.ViewLemmas.{Found, viewing_start, viewing_found, viewing_skip, viewing_sighted, viewing_next, viewing_refused, sighted_tile, sighted_none, refused_some, refused_none}

@@ -2,7 +2,7 @@ use Rattle.std.proofs.Common.{◌≡◌, ◌++◌, ◌∷◌, [], ℕ, List, Bor
 use Rattle.std.specs.Prelude.{map, reverse, vec_capacity}
 use Rattle.jdamage.specs.Ways.{names_held, path_below, path_length}
 use Rattle.jdamage.proofs.RoomLemmas.{name_fits, pushed}
-use Rattle.jdamage.proofs.ways.Ways.put_name.Goals as goal
+use Rattle.jdamage.proofs.ways_up.WaysUp.put_name.Goals as goal
 
 pub climb-requires : goal.climb-requires
 climb-requires c =

@@ -3,7 +3,7 @@ use Rattle.std.specs.Prelude.{map, reverse}
 use Rattle.jdamage.specs.Ways.{climbed, names_held, NameOf, first_name, path_length}
 use Rattle.jdamage.proofs.WayLemmas.{climb_gone, climb_root, climb_nameless, climb_on, climb_none, names_turned, pushed_first}
 use Rattle.jdamage.proofs.RoomLemmas.{held_length, no_room, pushed, was_full}
-use Rattle.jdamage.proofs.ways.climb.Goals as goal
+use Rattle.jdamage.proofs.ways_up.climb.Goals as goal
 
 pub returns-then-not-is_directory-clause-none : goal.returns-then-not-is_directory-clause-none
 returns-then-not-is_directory-clause-none c = λ no.

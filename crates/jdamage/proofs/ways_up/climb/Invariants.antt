@@ -1,7 +1,7 @@
 use Rattle.std.proofs.Common.{◌≡◌, ◌≤◌}
 use Rattle.std.specs.Prelude.{reverse, vec_capacity}
 use Rattle.jdamage.specs.Ways.{climbed, names_held, path_below}
-use Rattle.jdamage.proofs.ways.climb.Given as goal
+use Rattle.jdamage.proofs.ways_up.climb.Given as goal
 
 abbrev pub invariant-loop-left : goal.invariant-loop-left
 invariant-loop-left l = record {

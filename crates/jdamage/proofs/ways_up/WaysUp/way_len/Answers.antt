@@ -1,30 +1,31 @@
-use Rattle.std.proofs.Common.{◌≡◌, ◌∷◌, [], Some, None, arith, sym, ap, ◌∙◌}
-use Rattle.jdamage.specs.Ways.{NameOf, first_name, path_below, path_length}
+use Rattle.std.proofs.Common.{◌≡◌, ◌∷◌, ℕ, List, [], length, Some, None, arith, sym, ap, ◌∙◌}
+use Rattle.std.specs.Prelude.{option_map}
+use Rattle.jdamage.specs.Ways.{NameOf, first_name, path_below}
 use Rattle.jdamage.proofs.WayLemmas.{climb_gone, climb_root, climb_nameless, climb_on, climb_none}
-use Rattle.jdamage.proofs.ways.Ways.depth.Goals as goal
+use Rattle.jdamage.proofs.ways_up.WaysUp.way_len.Goals as goal
 
-pub returns-then-not-is_directory-clause-depth : goal.returns-then-not-is_directory-clause-depth
-returns-then-not-is_directory-clause-depth c =
+pub returns-then-not-is_directory-clause-way : goal.returns-then-not-is_directory-clause-way
+returns-then-not-is_directory-clause-way c =
     let none : path_below c.args.self.now.mounted.now.state c.args.dir [] ≡ None =
     sym c.loop-left.invariant.way
     ∙ climb_gone c.args.self.now.mounted.now.state c.loop-left.left c.loop-left.here _ c.loop-left-test.true (sym c.is_directory.ensures ∙ c.if-not-is_directory.true) in
-    ap path_length (sym none)
+    ap (option_map (λ (path : List (List ℕ)). length path)) (sym none)
 
-pub returns-then-here-eq-ROOT-clause-depth : goal.returns-then-here-eq-ROOT-clause-depth
-returns-then-here-eq-ROOT-clause-depth c =
+pub returns-then-here-eq-ROOT-clause-way : goal.returns-then-here-eq-ROOT-clause-way
+returns-then-here-eq-ROOT-clause-way c =
     let found : path_below c.args.self.now.mounted.now.state c.args.dir [] ≡ Some c.loop-left.invariant.names =
     sym c.loop-left.invariant.way
     ∙ climb_root c.args.self.now.mounted.now.state c.loop-left.left c.loop-left.here _ c.loop-left-test.true (sym c.is_directory.ensures ∙ c.if-not-is_directory.false) c.if-here-eq-ROOT.true in
-    omega (arith, ap path_length found, c.loop-left.invariant.count)
+    ap Some (omega (arith, c.loop-left.invariant.count)) ∙ ap (option_map (λ (path : List (List ℕ)). length path)) (sym found)
 
-pub returns-in_default-clause-depth : goal.returns-in_default-clause-depth
-returns-in_default-clause-depth c =
+pub returns-in_default-clause-way : goal.returns-in_default-clause-way
+returns-in_default-clause-way c =
     let s = c.args.self.now.mounted.now.state in
     let nameless : first_name s c.loop-left.here ≡ None = sym c.in_default.ensures in
     let none : path_below s c.args.dir [] ≡ None =
     sym c.loop-left.invariant.way
     ∙ climb_nameless s c.loop-left.left c.loop-left.here _ c.loop-left-test.true (sym c.is_directory.ensures ∙ c.if-not-is_directory.false) c.if-here-eq-ROOT.false nameless in
-    ap path_length (sym none)
+    ap (option_map (λ (path : List (List ℕ)). length path)) (sym none)
 
 pub loop-left-preserved : goal.loop-left-preserved
 loop-left-preserved c =
@@ -39,8 +40,8 @@ loop-left-preserved c =
           ∙ c.loop-left.invariant.way;
     }
 
-pub returns-clause-depth : goal.returns-clause-depth
-returns-clause-depth c =
+pub returns-clause-way : goal.returns-clause-way
+returns-clause-way c =
     let none : path_below c.args.self.now.mounted.now.state c.args.dir [] ≡ None =
     sym c.loop-left.invariant.way ∙ climb_none c.args.self.now.mounted.now.state c.loop-left.left c.loop-left.here _ (omega (arith, c.loop-left-test.false)) in
-    ap path_length (sym none)
+    ap (option_map (λ (path : List (List ℕ)). length path)) (sym none)

@@ -1,6 +1,6 @@
 use Rattle.std.proofs.Common.{◌≡◌, ◌≤◌, ◌+◌, ℕ, List, [], length}
 use Rattle.jdamage.specs.Ways.{climbed, path_below}
-use Rattle.jdamage.proofs.ways.Ways.depth.Given as goal
+use Rattle.jdamage.proofs.ways_up.WaysUp.way_len.Given as goal
 
 abbrev pub invariant-loop-left : goal.invariant-loop-left
 invariant-loop-left l = record {

@@ -1,7 +1,7 @@
 use Rattle.std.proofs.Common.{◌≡◌, ◌+◌, ◌≤◌, ◌^◌, length}
 use Rattle.std.specs.Prelude.{min}
 use Rattle.jmount.specs.Tree.{all_entries}
-use Rattle.jdamage.proofs.ways.most_steps.Given as goal
+use Rattle.jdamage.proofs.ways_up.most_steps.Given as goal
 
 abbrev pub invariant-loop-name : goal.invariant-loop-name
 invariant-loop-name l = record {
