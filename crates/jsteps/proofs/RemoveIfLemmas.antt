@@ -1,6 +1,6 @@
 -- The plan of a name that is removed where it is there.
-use Rattle.std.proofs.Common.{◌≡◌, ℕ, ◌+◌, ◌≤◌, Bool, true, false, cond, List, [], ◌∷◌, Option, Result, refl, ap, sym, ◌∙◌}
-use Rattle.std.specs.Prelude.{◌||◌, not, is_some, nat_lt}
+use Rattle.std.proofs.Common.{◌≡◌, ℕ, ◌+◌, ◌≤◌, Bool, true, false, cond, List, [], ◌∷◌, Option, refl, ap, sym, ◌∙◌}
+use Rattle.std.specs.Prelude.{not, is_some, nat_lt}
 use Rattle.std.specs.List.{list_any}
 use Rattle.jmount.specs.Shown.{top_at}
 use Rattle.jmount.specs.Tree.{Outline}
