@@ -1,6 +1,6 @@
 -- The plan of a name that is removed where it is there.
-use Rattle.std.proofs.Common.{◌≡◌, ℕ, ◌+◌, ◌≤◌, Bool, true, false, cond, List, [], ◌∷◌, Option, Result, refl, ap, sym, ◌∙◌}
-use Rattle.std.specs.Prelude.{◌||◌, not, is_some, nat_lt}
+use Rattle.std.proofs.Common.{◌≡◌, ℕ, ◌+◌, ◌≤◌, Bool, true, false, cond, List, [], ◌∷◌, Option, refl, ap, sym, ◌∙◌}
+use Rattle.std.specs.Prelude.{not, is_some, nat_lt}
 use Rattle.std.specs.List.{list_any}
 use Rattle.jmount.specs.Shown.{top_at}
 use Rattle.jmount.specs.Tree.{Outline}
@@ -27,18 +27,21 @@ removed_if_same t path site time has =
     first : tests_of t (op.RemoveIf time path) ≡ removed_if_tests t (is_long path) (above t path) (number_there t path)
     first = simp (or_none) refl
 
--- a name that is missing
-turned : (here : Bool) (steps : List Step) → cond here steps [] ≡ cond (not here) [] steps
+pub twice : (b : Bool) → b ≡ not (not b)
+twice true = refl
+twice false = refl
+
+turned : (none : Bool) (steps : List Step) → cond (not none) steps [] ≡ cond none [] steps
 turned true steps = refl
 turned false steps = refl
 
--- needs no version
+-- a name that is missing needs no version
 unless_missing : (x : Indexed) (time dir : ℕ) (last : List ℕ) (none : Bool) → dir ≤ 0xFFFFFFFF
     → list_any is_past (nodes_of x (cond none [] (step.ClearName time dir last ∷ []))) ≡ cond none false (nat_lt 0xFFFFFFFF (top_at x.tops dir + 1))
 unless_missing x time dir last true le = refl
 unless_missing x time dir last false le = past_one (top_at x.tops dir + 1) dir le
 
-pub removed_if_from : (page : ℕ) (x : Indexed) (time : ℕ) (path : List ℕ) (site : Site) (none : Bool) (dir : ℕ) → IsSiteOf x.tree path site → none ≡ not (is_some site.number) → dir ≡ end_or_zero site.above → dir ≤ 0xFFFFFFFF
+pub removed_if_from : (page : ℕ) (x : Indexed) (time : ℕ) (path : List ℕ) (site : Site) (none : Bool) (dir : ℕ) → IsSiteOf x.tree path site → is_some site.number ≡ not none → dir ≡ end_or_zero site.above → dir ≤ 0xFFFFFFFF
     → IsFrom (planned_by page x (op.RemoveIf time path)) (removed_if_tests x.tree site.is_long site.above site.number) (cond none false (nat_lt 0xFFFFFFFF (top_at x.tops dir + 1)))
     (cond none [] (step.ClearName time dir site.last.now ∷ []))
 removed_if_from page x time path site none dir has none_is e le =
@@ -46,9 +49,9 @@ removed_if_from page x time path site none dir has none_is e le =
     let clear : List Step = step.ClearName time dir site.last.now ∷ [] in
     let same : parent x.tree path ≡ dir = ap end_or_zero (sym has.above) ∙ sym e in
     let steps : steps_of page x.tree o ≡ cond none [] clear =
-    turned (is_some (number_there x.tree path)) (step.ClearName time (parent x.tree path) (last_name path) ∷ [])
-    ∙ ap (λ (n : Option ℕ). cond (not (is_some n)) [] (step.ClearName time (parent x.tree path) (last_name path) ∷ [])) (sym has.number)
-    ∙ ap (λ b. cond b [] (step.ClearName time (parent x.tree path) (last_name path) ∷ [])) (sym none_is)
+    ap (λ (n : Option ℕ). cond (is_some n) (step.ClearName time (parent x.tree path) (last_name path) ∷ []) []) (sym has.number)
+    ∙ ap (λ b. cond b (step.ClearName time (parent x.tree path) (last_name path) ∷ []) []) none_is
+    ∙ turned none (step.ClearName time (parent x.tree path) (last_name path) ∷ [])
     ∙ ap (λ p. cond none [] (step.ClearName time p (last_name path) ∷ [])) same
     ∙ ap (λ l. cond none [] (step.ClearName time dir l ∷ [])) (sym has.last) in
     record {

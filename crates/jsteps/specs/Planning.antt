@@ -1,5 +1,5 @@
 -- The steps of an operation that is not refused.
-use Rattle.std.specs.Prelude.{ℕ, ◌+◌, ◌-◌, ◌*◌, ◌/◌, ◌==◌, ◌≤◌, is_some, max, min, nat_lt, List, [], ◌∷◌, ◌++◌, length, take, drop, slice_range, flat_map, option_map, unwrap_or, if◌then◌else◌}
+use Rattle.std.specs.Prelude.{ℕ, ◌+◌, ◌-◌, ◌*◌, ◌/◌, ◌==◌, is_some, max, min, nat_lt, List, [], ◌∷◌, ◌++◌, length, take, drop, slice_range, flat_map, option_map, unwrap_or, if◌then◌else◌}
 use Rattle.flashbase.specs.Lists.{below}
 use Rattle.jmount.specs.Tree.{Outline}
 use Rattle.jsteps.specs.Device.{device_mode}

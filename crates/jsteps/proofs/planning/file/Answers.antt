@@ -31,7 +31,7 @@ returns-in-Some-first c = λ h.
     let large = nat_lt greatest_size (length c.as_slice-bytes.result.now) in
     let bad = nat_lt 0o7777 c.args.origin.mode in
     of_same c.args.page c.args.index.now c.args.is_over c.args.origin.time c.args.origin.mode c.args.origin.uid c.args.origin.gid c.as_slice.result.now c.args.path.now c.as_slice-bytes.result.now c.args.bytes.now _ c.as_slice.ensures c.as_slice-bytes.ensures
-    (answer_refused (new_file_from c.args.page c.args.index.now c.args.is_over c.args.origin.time c.as_slice.result.now c.args.origin.mode c.args.origin.uid c.args.origin.gid c.as_slice-bytes.result.now c.in-Some.site c.is_taken.result large bad (good_of c.args.index.now.tree c.as_slice.result.now c.in_ok-site.field-0 c.in-Some.site c.in_ok-site.ensures c.in-Some.is) c.is_taken.ensures refl refl) c.tests_of_new_file.result c.first.result c.in-Some-first.fault c.tests_of_new_file.ensures c.first.ensures c.in-Some-first.is)
+    (answer_refused (new_file_from c.args.page c.args.index.now c.args.is_over c.args.origin.time c.as_slice.result.now c.args.origin.mode c.args.origin.uid c.args.origin.gid c.as_slice-bytes.result.now c.in-Some.site c.is_taken-is_taken.result large bad (good_of c.args.index.now.tree c.as_slice.result.now c.in_ok-site.field-0 c.in-Some.site c.in_ok-site.ensures c.in-Some.is) c.is_taken-is_taken.ensures refl refl) c.tests_of_new_file.result c.first.result c.in-Some-first.fault c.tests_of_new_file.ensures c.first.ensures c.in-Some-first.is)
 
 pub returns-then-is_full : goal.returns-then-is_full
 returns-then-is_full c = λ h.
@@ -42,7 +42,7 @@ returns-then-is_full c = λ h.
     let site : IsSiteOf c.args.index.now.tree c.as_slice.result.now c.in-Some.site = good_of c.args.index.now.tree c.as_slice.result.now c.in_ok-site.field-0 c.in-Some.site c.in_ok-site.ensures c.in-Some.is in
     let within = not_large c.tests_of_new_file.result c.first.result c.as_slice-bytes.result.now (ap (λ (t : Tests). t.is_too_large) c.tests_of_new_file.ensures) c.first.ensures c.in_default-first.is in
     of_same c.args.page c.args.index.now c.args.is_over c.args.origin.time c.args.origin.mode c.args.origin.uid c.args.origin.gid c.as_slice.result.now c.args.path.now c.as_slice-bytes.result.now c.args.bytes.now _ c.as_slice.ensures c.as_slice-bytes.ensures
-    (answer_spent (new_file_from c.args.page c.args.index.now c.args.is_over c.args.origin.time c.as_slice.result.now c.args.origin.mode c.args.origin.uid c.args.origin.gid c.as_slice-bytes.result.now c.in-Some.site c.is_taken.result large bad site c.is_taken.ensures refl refl) c.tests_of_new_file.result c.first.result c.is_full.result c.tests_of_new_file.ensures c.first.ensures c.in_default-first.is
+    (answer_spent (new_file_from c.args.page c.args.index.now c.args.is_over c.args.origin.time c.as_slice.result.now c.args.origin.mode c.args.origin.uid c.args.origin.gid c.as_slice-bytes.result.now c.in-Some.site c.is_taken-is_taken.result large bad site c.is_taken-is_taken.ensures refl refl) c.tests_of_new_file.result c.first.result c.is_full.result c.tests_of_new_file.ensures c.first.ensures c.in_default-first.is
     (c.is_full.ensures ∙ new_file_spent c.args.page c.args.index.now c.args.is_over c.args.origin.time c.as_slice.result.now c.args.origin.mode c.args.origin.uid c.args.origin.gid c.as_slice-bytes.result.now c.in-Some.site c.end_of-directory.result page site c.end_of-directory.ensures le within) c.if-is_full.true)
 
 pub returns : goal.returns
@@ -55,7 +55,7 @@ returns c =
     let within = not_large c.tests_of_new_file.result c.first.result c.as_slice-bytes.result.now (ap (λ (t : Tests). t.is_too_large) c.tests_of_new_file.ensures) c.first.ensures c.in_default-first.is in
     let made : ℕ → List Step = λ n. bytes_steps c.args.page n c.args.origin.time (0o100000 + c.args.origin.mode) c.args.origin.uid c.args.origin.gid c.as_slice-bytes.result.now in
     of_same c.args.page c.args.index.now c.args.is_over c.args.origin.time c.args.origin.mode c.args.origin.uid c.args.origin.gid c.as_slice.result.now c.args.path.now c.as_slice-bytes.result.now c.args.bytes.now _ c.as_slice.ensures c.as_slice-bytes.ensures
-    (answer_none (new_file_from c.args.page c.args.index.now c.args.is_over c.args.origin.time c.as_slice.result.now c.args.origin.mode c.args.origin.uid c.args.origin.gid c.as_slice-bytes.result.now c.in-Some.site c.is_taken.result large bad site c.is_taken.ensures refl refl) c.tests_of_new_file.result c.first.result c.is_full.result c.in_ok-make_named.field-0.items c.tests_of_new_file.ensures c.first.ensures c.in_default-first.is
+    (answer_none (new_file_from c.args.page c.args.index.now c.args.is_over c.args.origin.time c.as_slice.result.now c.args.origin.mode c.args.origin.uid c.args.origin.gid c.as_slice-bytes.result.now c.in-Some.site c.is_taken-is_taken.result large bad site c.is_taken-is_taken.ensures refl refl) c.tests_of_new_file.result c.first.result c.is_full.result c.in_ok-make_named.field-0.items c.tests_of_new_file.ensures c.first.ensures c.in_default-first.is
     (c.is_full.ensures ∙ new_file_spent c.args.page c.args.index.now c.args.is_over c.args.origin.time c.as_slice.result.now c.args.origin.mode c.args.origin.uid c.args.origin.gid c.as_slice-bytes.result.now c.in-Some.site c.end_of-directory.result page site c.end_of-directory.ensures le within) c.if-is_full.false
     (c.in_ok-make_named.ensures
     ∙ ap (λ s. made c.next-next.result ++ s ∷ []) c.set_name-set.ensures

@@ -4,7 +4,7 @@ use Rattle.jsteps.specs.Site.{IsSiteOf}
 use Rattle.jsteps.specs.declared.op.Op.TheVariants as op
 use Rattle.jsteps.proofs.PlannedLemmas.{bad_of, good_of, or_none, bad_plan, answer_refused, answer_spent, answer_none}
 use Rattle.jsteps.proofs.ReplaceLemmas.{from_one, from_two}
-use Rattle.jsteps.proofs.RemoveIfLemmas.{removed_if_from}
+use Rattle.jsteps.proofs.RemoveIfLemmas.{twice, removed_if_from}
 use Rattle.jsteps.proofs.planning.remove_if.Goals as goal
 
 pub returns-in_default : goal.returns-in_default
@@ -16,7 +16,7 @@ pub returns-in-Some-first : goal.returns-in-Some-first
 returns-in-Some-first c = λ page h.
     let site : IsSiteOf c.args.index.now.tree c.args.path.now c.in-Some.site = good_of c.args.index.now.tree c.args.path.now c.in_ok-site.field-0 c.in-Some.site c.in_ok-site.ensures c.in-Some.is in
     let le : c.end_of-directory.result ≤ 0xFFFFFFFF = omega arith in
-    answer_refused (removed_if_from page c.args.index.now c.args.time c.args.path.now c.in-Some.site (not (is_some c.in-Some.site.number)) c.end_of-directory.result site refl c.end_of-directory.ensures le)
+    answer_refused (removed_if_from page c.args.index.now c.args.time c.args.path.now c.in-Some.site (not (is_some c.in-Some.site.number)) c.end_of-directory.result site (twice (is_some c.in-Some.site.number)) c.end_of-directory.ensures le)
     c.tests_of_removed_if.result c.first.result c.in-Some-first.fault c.tests_of_removed_if.ensures c.first.ensures c.in-Some-first.is
 
 pub returns-then-is_none : goal.returns-then-is_none
