@@ -1,0 +1,5 @@
+pub mod BlockLemmas
+pub mod GlimpseLemmas
+pub mod MergeLemmas
+pub mod OrderLemmas
+pub mod SideLemmas

@@ -1,0 +1,97 @@
+-- The blocks and bytes of a row.
+use Rattle.std.proofs.Common.{◌≡◌, ℕ, zero, suc, ◌+◌, ◌-◌, ◌*◌, ◌/◌, ◌%◌, ◌<◌, ◌≤◌, List, [], ◌∷◌, ◌++◌, length, map, take, drop, get_or, refl, sym, ap, subst, ◌∙◌, arith, length-append, ap₂, Contains, inl, inr}
+use Rattle.std.specs.Prelude.{flat_map}
+use Rattle.std.proofs.lemmas.List.{get_or-map, get_or-append-add, get_or_append_left, get_or-take, ext_get_or, length-take, length-replicate, length-map, get_or-drop, get_or_past, get_or-append_right, get_or-replicate}
+use Rattle.std.proofs.lemmas.List.Folds.{flat_map-map}
+use Rattle.flashbase.specs.Bytes.{erased}
+use Rattle.flashbase.specs.Lists.{below}
+use Rattle.flashbase.proofs.MemberLemmas.{Contains-here, Contains-there, Contains-below_from}
+use Rattle.std.proofs.lemmas.Bool.{cases_lt}
+use Rattle.flashbase.proofs.ListLemmas.{length-below, get_or-below}
+use Rattle.jscan.specs.Image.{block_of}
+use Rattle.jscan.proofs.PartLemmas.{block_length}
+use Rattle.jrow.specs.Row.{side_by_side, address_in}
+use Rattle.jrow.specs.RowLaws.{IsSideBySide, RowIsSideBySide}
+
+-- ---- blocks
+
+erased_byte : (n i : ℕ) → get_or (erased n) i 0xFF ≡ 0xFF
+erased_byte n i = elim (cases_lt i n) [
+  | inl inside ↦ get_or-replicate n i 0xFF 0xFF inside
+  | inr past ↦ get_or_past (erased n) i 0xFF (omega (arith, length-replicate {A = ℕ} n 0xFF))
+]
+
+erased_end : (xs : List ℕ) (n i : ℕ) → get_or (xs ++ erased n) i 0xFF ≡ get_or xs i 0xFF
+erased_end xs n i = elim (cases_lt i (length xs)) [
+  | inl inside ↦ get_or_append_left xs (erased n) 0xFF i inside
+  | inr past ↦ get_or-append_right xs (erased n) (length xs) i 0xFF refl past ∙ erased_byte n (i - length xs) ∙ sym (get_or_past xs i 0xFF past)
+]
+
+block_byte : (size : ℕ) (image : List ℕ) (d i : ℕ) → i < size → get_or (block_of size image d) i 0xFF ≡ get_or image (d * size + i) 0xFF
+block_byte size image d i inside =
+    get_or-take size (drop (d * size) image ++ erased size) i 0xFF inside ∙ erased_end (drop (d * size) image) size i ∙ get_or-drop (d * size) image i 0xFF
+
+-- ---- bytes
+
+pub side_long : (size : ℕ) (row image : List ℕ) → length (side_by_side size row image) ≡ length row * size
+side_long size [] image = omega arith
+side_long size (b ∷ bs) image =
+    omega (arith, length-append (block_of size image b) (side_by_side size bs image), block_length size image b, side_long size bs image)
+
+side_byte : (size : ℕ) (row image : List ℕ) (index i : ℕ) → index < length row → i < size
+    → get_or (side_by_side size row image) (index * size + i) 0xFF ≡ get_or (block_of size image (get_or row index 0)) i 0xFF
+side_byte size [] image index i within inside = absurd (omega arith)
+side_byte size (b ∷ bs) image zero i within inside =
+    let near : zero * size + i ≡ i = omega arith in
+    ap (λ (n : ℕ). get_or (block_of size image b ++ side_by_side size bs image) n 0xFF) near
+    ∙ get_or_append_left (block_of size image b) (side_by_side size bs image) 0xFF i (omega (arith, inside, block_length size image b))
+side_byte size (b ∷ bs) image (suc index) i within inside =
+    let far : suc index * size + i ≡ length (block_of size image b) + (index * size + i) = omega (arith, block_length size image b) in
+    ap (λ (n : ℕ). get_or (block_of size image b ++ side_by_side size bs image) n 0xFF) far
+    ∙ (get_or-append-add (block_of size image b) (side_by_side size bs image) (index * size + i) 0xFF
+    ∙ side_byte size bs image index i (omega arith) inside)
+
+pub side_block : (size : ℕ) (row image : List ℕ) (index : ℕ) → index < length row → block_of size (side_by_side size row image) index ≡ block_of size image (get_or row index 0)
+side_block size row image index within =
+    ext_get_or 0xFF (block_of size (side_by_side size row image) index) (block_of size image (get_or row index 0))
+    (block_length size (side_by_side size row image) index ∙ sym (block_length size image (get_or row index 0))) (λ i inside.
+    let small : i < size = omega (arith, inside, block_length size (side_by_side size row image) index) in
+    block_byte size (side_by_side size row image) index i small ∙ side_byte size row image index i within small)
+
+pub row_is_side_by_side : RowIsSideBySide
+row_is_side_by_side size row image some = record {
+  long = side_long size row image;
+  each = λ index within. side_block size row image index within;
+  bytes = λ at inside.
+      let index : ℕ = at / size in
+      let i : ℕ = at % size in
+      let small : i < size = grind (arith) in
+      let split : at ≡ index * size + i = grind (arith) in
+      let within : index < length row = grind (arith) in
+      ap (λ (n : ℕ). get_or (side_by_side size row image) n 0xFF) split
+      ∙ (side_byte size row image index i within small ∙ block_byte size image (get_or row index 0) i small);
+}
+
+-- ---- what is made of each block of a row
+
+indices_are : (row : List ℕ) → map (λ j. get_or row j 0) (below (length row)) ≡ row
+indices_are row =
+    let n : ℕ = length row in
+    let long : length (map (λ j. get_or row j 0) (below n)) ≡ n = length-map (below n) (λ j. get_or row j 0) ∙ length-below n in
+    ext_get_or 0 (map (λ j. get_or row j 0) (below n)) row long (λ i inside.
+    let small : i < n = omega (arith, inside, long) in
+    get_or-map (λ j. get_or row j 0) (below n) i 0 0 (omega (arith, small, length-below n)) ∙ ap (λ (j : ℕ). get_or row j 0) (get_or-below n i small))
+
+flat_map_same : {X Y : Type 0} (f g : X → List Y) (xs : List X) → ((x : X) → Contains xs x → f x ≡ g x) → flat_map f xs ≡ flat_map g xs
+flat_map_same f g [] same = refl
+flat_map_same {Y = Y} f g (x ∷ xs) same =
+    ap₂ (λ (a b : List Y). a ++ b) (same x (Contains-here x xs)) (flat_map_same f g xs (λ y has. same y (Contains-there x xs y has)))
+
+pub side_blocks : {Y : Type 0} (f : List ℕ → List Y) (size : ℕ) (row image : List ℕ)
+    → flat_map (λ j. f (block_of size (side_by_side size row image) j)) (below (length row)) ≡ flat_map (λ b. f (block_of size image b)) row
+side_blocks {Y} f size row image =
+    let n : ℕ = length row in
+    flat_map_same (λ j. f (block_of size (side_by_side size row image) j)) (λ j. f (block_of size image (get_or row j 0))) (below n)
+    (λ j has. ap f (side_block size row image j (Contains-below_from n j has)))
+    ∙ (sym (flat_map-map (λ b. f (block_of size image b)) (λ j. get_or row j 0) (below n))
+    ∙ ap (flat_map (λ b. f (block_of size image b))) (indices_are row))

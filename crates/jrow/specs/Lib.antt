@@ -1,0 +1,4 @@
+pub mod Merging
+pub mod OrderLaws
+pub mod Row
+pub mod RowLaws
