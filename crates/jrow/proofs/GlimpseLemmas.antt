@@ -31,13 +31,13 @@ use Rattle.jview.specs.Through.{node_by, content_by, fault_by, through_fault_amo
 abbrev pub Glimpse : Type 0
 Glimpse = Seen × CompressedNode
 
-abbrev glimpse_of : Endian → List ℕ → ℕ → List ℕ → TileKind → Option Glimpse
+abbrev pub glimpse_of : Endian → List ℕ → ℕ → List ℕ → TileKind → Option Glimpse
 glimpse_of e block place bytes (Node header) = Some (seen_of e bytes, compressed_of e (tile_of e (drop place block)))
 glimpse_of e block place bytes Word = None
 glimpse_of e block place bytes Rest = None
 
 -- those of the tiles of a block
-abbrev glimpses_among : Endian → List ℕ → List Tile → List Glimpse
+abbrev pub glimpses_among : Endian → List ℕ → List Tile → List Glimpse
 glimpses_among e block tiles = filter_map (λ tile. glimpse_of e block tile.place tile.bytes tile.kind) tiles
 
 -- all but markers

@@ -1,5 +1,9 @@
+pub mod BlankLemmas
 pub mod BlockLemmas
 pub mod GlimpseLemmas
+pub mod HeadlineLemmas
 pub mod MergeLemmas
+pub mod MergedLemmas
 pub mod OrderLemmas
+pub mod RowLemmas
 pub mod SideLemmas

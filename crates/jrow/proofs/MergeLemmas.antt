@@ -27,11 +27,11 @@ merged_by_test {X} p f g (k ∷ ks) none same =
   where
     by_case : (b : Bool) → p k ≡ b → Interleaves (flat_map g ks) (flat_map f (filter p ks)) (flat_map f ks)
         → Interleaves (g k ++ flat_map g ks) (flat_map f (cond b (k ∷ filter p ks) (filter p ks))) (f k ++ flat_map f ks)
-    by_case true yes later =
-        subst (λ (l : List X). Interleaves (l ++ flat_map g ks) (f k ++ flat_map f (filter p ks)) (f k ++ flat_map f ks)) (sym (none k (Contains-here k ks) yes))
+    by_case true passes later =
+        subst (λ (l : List X). Interleaves (l ++ flat_map g ks) (f k ++ flat_map f (filter p ks)) (f k ++ flat_map f ks)) (sym (none k (Contains-here k ks) passes))
         (merged_right (f k) (flat_map g ks) (flat_map f (filter p ks)) (flat_map f ks) later)
-    by_case false no later =
-        subst (λ (l : List X). Interleaves (g k ++ flat_map g ks) (flat_map f (filter p ks)) (l ++ flat_map f ks)) (sym (same k (Contains-here k ks) no))
+    by_case false fails later =
+        subst (λ (l : List X). Interleaves (g k ++ flat_map g ks) (flat_map f (filter p ks)) (l ++ flat_map f ks)) (sym (same k (Contains-here k ks) fails))
         (merged_left (g k) (flat_map g ks) (flat_map f (filter p ks)) (flat_map f ks) later)
 
 -- ---- what is taken of each element

@@ -1,7 +1,10 @@
 //! Laws of a row. Each function's contract is a law, and its body is empty.
 
+ghost use Rattle.jrow.specs.HeadlineInRow.{FormsSurviveInRow};
+ghost use Rattle.jrow.specs.MergedLaws.{RowIsMerged};
 ghost use Rattle.jrow.specs.OrderLaws.{OrderDoesNotMatter, MergedMakeSame};
 ghost use Rattle.jrow.specs.RowLaws.{RowIsSideBySide, ImageIsOfBlocks, RowIsOfBlocks};
+ghost use Rattle.jrow.specs.RowLeft.{OtherBlocksStay, LeftInRowExpands, WholeInRowExpands};
 
 /// Nodes of which no two clash make the same file system in whatever order they come.
 pub fn order_does_not_matter()
@@ -19,4 +22,29 @@ pub fn row_is_side_by_side()
 pub fn nodes_are_of_blocks()
     ensures image { ImageIsOfBlocks }
     ensures row { RowIsOfBlocks }
+{}
+
+/// Where only blank blocks of an image are written, it has the nodes of its base and those of the
+/// row.
+pub fn row_is_merged()
+    ensures { RowIsMerged }
+{}
+
+/// Of what a write to the row leaves, all other blocks are the base's.
+pub fn other_blocks_stay()
+    ensures { OtherBlocksStay }
+{}
+
+/// After a cut there stands what was in the base, and the forms in the row that are intact; without
+/// a cut all of them.
+pub fn left_in_row_expands()
+    ensures cut { LeftInRowExpands }
+    ensures whole { WholeInRowExpands }
+{}
+
+/// Whatever the base that mounts through, wherever its blank blocks lie, whatever the accepted
+/// operations, the forms that their nodes are put in and the byte where writing stops: what is left
+/// mounts through as the file system after the steps whose forms stand whole.
+pub fn forms_survive_in_row()
+    ensures { FormsSurviveInRow }
 {}
