@@ -1,5 +1,6 @@
 pub mod BlankLemmas
 pub mod BlockLemmas
+pub mod ExampleLemmas
 pub mod GlimpseLemmas
 pub mod HeadlineLemmas
 pub mod MergeLemmas

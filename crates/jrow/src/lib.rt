@@ -2,4 +2,5 @@
 //! by side.
 #![tactic(auto)]
 
+pub mod examples;
 pub mod laws;
