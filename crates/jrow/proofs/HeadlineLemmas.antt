@@ -77,11 +77,11 @@ fewer_contents f (suc m) (x ∷ xs) = omega (arith, length-append (f x) (flat_ma
 
 -- ---- the base, and forms for its blank blocks
 
-record Goes (page : ℕ) (e : Endian) (size blocks : ℕ) (base : List ℕ) (steps : List Step) (forms : List (List ℕ)) : Type 0 where
-  is_base : IsBaseThrough e size blocks base
-  on : AreFormsInRow e size blocks base steps forms
-  go : GoesOn page (expanded_nodes e size base) steps
-  carry : AllCarry e size (nodes_through e size base steps) forms
+pub record Goes (page : ℕ) (e : Endian) (size blocks : ℕ) (base : List ℕ) (steps : List Step) (forms : List (List ℕ)) : Type 0 where
+  pub is_base : IsBaseThrough e size blocks base
+  pub on : AreFormsInRow e size blocks base steps forms
+  pub go : GoesOn page (expanded_nodes e size base) steps
+  pub carry : AllCarry e size (nodes_through e size base steps) forms
 
 stored : (page : ℕ) (e : Endian) (size blocks : ℕ) (base : List ℕ) (steps : List Step) (forms : List (List ℕ)) → Goes page e size blocks base steps forms
     → AreStoredInRow e size blocks base forms
@@ -119,7 +119,7 @@ mounts_after page e size blocks m base image steps forms it within has =
       same = same;
     }
 
-cut_mounts : (page : ℕ) (e : Endian) (size blocks k : ℕ) (base image : List ℕ) (steps : List Step) (forms : List (List ℕ)) → Goes page e size blocks base steps forms
+pub cut_mounts : (page : ℕ) (e : Endian) (size blocks k : ℕ) (base image : List ℕ) (steps : List Step) (forms : List (List ℕ)) → Goes page e size blocks base steps forms
     → Sure e size 0 k forms → IsLeftOfForms e size blocks base forms k image
     → MountsThroughAs e size image (after bytes (state_through e size base) (take (count_whole 0 (output e size 0 forms) k (places size 0 forms)) steps))
 cut_mounts page e size blocks k base image steps forms it sure left =
@@ -143,19 +143,22 @@ whole_mounts page e size blocks base image steps forms it left =
     (mounts_after page e size blocks m base image steps forms it left.no_longer
     (subst (ExpandsInRow e size base image) all (sure_in_row e size blocks k base image forms are (none_cut e size 0 k forms (omega arith)) left)))
 
+pub forms_goes : (page : ℕ) (e : Endian) (size blocks : ℕ) (base : List ℕ) (steps : List Step) (forms : List (List ℕ)) → IsPage page → page + 80 ≤ size → IsBaseThrough e size blocks base
+    → AreFormsInRow e size blocks base steps forms → GoesOn page (expanded_nodes e size base) steps → Goes page e size blocks base steps forms
+forms_goes page e size blocks base steps forms is_page room is_base on go = record {
+  is_base = is_base;
+  on = on;
+  go = go;
+  carry = forms_carry e size (nodes_through e size base steps) forms (planned_loggable page e size (nodes_through e size base steps) is_page room (go.written e)) on.are;
+}
+
 pub forms_survive_in_row : FormsSurviveInRow
 forms_survive_in_row page e size blocks n base ops forms is_page room is_base are_bytes fit_ops accepted =
     let ns : List NodeRef = expanded_nodes e size base in
     let steps : List Step = steps_of_first page (index_through e size base) ops n in
-    let new : List NodeRef = nodes_through e size base steps in
     let go : GoesOn page ns steps =
     planned_goes_on page ns ops n is_page (all_fit_through e size base (through_size e size blocks base is_base) are_bytes) is_base.mounts.root fit_ops in
-    let it : Goes page e size blocks base steps forms = record {
-      is_base = is_base;
-      on = accepted.forms_in;
-      go = go;
-      carry = forms_carry e size new forms (planned_loggable page e size new is_page room (go.written e)) accepted.forms_in.are;
-    } in
+    let it : Goes page e size blocks base steps forms = forms_goes page e size blocks base steps forms is_page room is_base accepted.forms_in go in
     record {
       cuts = λ none k image within left. cut_mounts page e size blocks k base image steps forms it (none_weak e size 0 k forms it.carry.loggable none) left;
       whole = λ image left. whole_mounts page e size blocks base image steps forms it left;

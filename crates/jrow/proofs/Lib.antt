@@ -1,5 +1,6 @@
 pub mod BlankLemmas
 pub mod BlockLemmas
+pub mod DoneLemmas
 pub mod ExampleLemmas
 pub mod GlimpseLemmas
 pub mod HeadlineLemmas

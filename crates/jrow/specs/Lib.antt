@@ -1,3 +1,4 @@
+pub mod DoneInRow
 pub mod Examples
 pub mod HeadlineInRow
 pub mod MergedLaws

@@ -1,5 +1,6 @@
 //! Laws of a row. Each function's contract is a law, and its body is empty.
 
+ghost use Rattle.jrow.specs.DoneInRow.{RowBegins, DoneSurvivesInRow, DoneGoesOnInRow};
 ghost use Rattle.jrow.specs.HeadlineInRow.{FormsSurviveInRow};
 ghost use Rattle.jrow.specs.MergedLaws.{RowIsMerged};
 ghost use Rattle.jrow.specs.OrderLaws.{OrderDoesNotMatter, MergedMakeSame};
@@ -47,4 +48,12 @@ pub fn left_in_row_expands()
 /// mounts through as the file system after the steps whose forms stand whole.
 pub fn forms_survive_in_row()
     ensures { FormsSurviveInRow }
+{}
+
+/// A log goes on in the blank blocks of an image that mounts through. What it has done, in whatever
+/// forms, survives while more is written, and it goes on after that.
+pub fn done_survives_in_row()
+    ensures begins { RowBegins }
+    ensures survives { DoneSurvivesInRow }
+    ensures goes_on { DoneGoesOnInRow }
 {}
