@@ -187,7 +187,7 @@ done_goes_on_in_row flash from n base done ops before forms x on widths here =
 
 -- ---- a log that begins
 
-index_is : (e : Endian) (size : ℕ) (m : Mount) → IsMountThroughOf e size m → indexed m ≡ index_through e size m.image
+pub index_is : (e : Endian) (size : ℕ) (m : Mount) → IsMountThroughOf e size m → indexed m ≡ index_through e size m.image
 index_is e size m is = λ j.
     index_by (sym is.mounts.same j) (λ i. (ap (λ tops. top_at tops i) is.tops ∙ top_at-tops_of (expanded_nodes e size m.image) i) j)
 

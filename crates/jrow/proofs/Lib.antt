@@ -1,3 +1,4 @@
+pub mod ArrangedLemmas
 pub mod BlankLemmas
 pub mod BlockLemmas
 pub mod DoneLemmas
@@ -9,3 +10,4 @@ pub mod MergedLemmas
 pub mod OrderLemmas
 pub mod RowLemmas
 pub mod SideLemmas
+pub mod TailLemmas

@@ -8,11 +8,11 @@ use Rattle.jrow.specs.Merging.{Interleaves}
 
 -- ---- what stands in front
 
-merged_left : {X : Type 0} (fs xs ys zs : List X) → Interleaves xs ys zs → Interleaves (fs ++ xs) ys (fs ++ zs)
+pub merged_left : {X : Type 0} (fs xs ys zs : List X) → Interleaves xs ys zs → Interleaves (fs ++ xs) ys (fs ++ zs)
 merged_left [] xs ys zs h = h
 merged_left (f ∷ fs) xs ys zs h = inl (fs ++ xs, refl, merged_left fs xs ys zs h)
 
-merged_right : {X : Type 0} (fs xs ys zs : List X) → Interleaves xs ys zs → Interleaves xs (fs ++ ys) (fs ++ zs)
+pub merged_right : {X : Type 0} (fs xs ys zs : List X) → Interleaves xs ys zs → Interleaves xs (fs ++ ys) (fs ++ zs)
 merged_right [] xs ys zs h = h
 merged_right (f ∷ fs) xs ys zs h = inr (fs ++ ys, refl, merged_right fs xs ys zs h)
 

@@ -1,3 +1,4 @@
+pub mod Arranged
 pub mod DoneInRow
 pub mod Examples
 pub mod HeadlineInRow

@@ -13,7 +13,8 @@ use Rattle.jrow.specs.Row.{blank_blocks, side_by_side}
 -- the blocks that are not blank stay as they are
 abbrev pub OthersStay : Endian → ℕ → ℕ → List ℕ → List ℕ → Type 0
 OthersStay e size blocks base image = (b : ℕ) → b < blocks
-    → IsFalse (is_blank e size (block_of size base b)) → block_of size image b ≡ block_of size base b
+    → IsFalse (is_blank e size (block_of size base b))
+    → block_of size image b ≡ block_of size base b
 
 -- An image has the nodes of a base and those of a row, each in their order, and the contents of
 -- both. Where neither is refused it is not, and it may be written after where both may.

@@ -1,5 +1,6 @@
 //! Laws of a row. Each function's contract is a law, and its body is empty.
 
+ghost use Rattle.jrow.specs.Arranged.{BaseIsArranged, ArrangedMounts, RowIsTail, ArrangedBegins, ArrangedSurvives};
 ghost use Rattle.jrow.specs.DoneInRow.{RowBegins, DoneSurvivesInRow, DoneGoesOnInRow};
 ghost use Rattle.jrow.specs.HeadlineInRow.{FormsSurviveInRow};
 ghost use Rattle.jrow.specs.MergedLaws.{RowIsMerged};
@@ -56,4 +57,14 @@ pub fn done_survives_in_row()
     ensures begins { RowBegins }
     ensures survives { DoneSurvivesInRow }
     ensures goes_on { DoneGoesOnInRow }
+{}
+
+/// An image with its blank blocks last is seen as the same, and what is written to its blank blocks
+/// is then written to its tail: so what is known of a log in a tail is known of one in a row.
+pub fn row_is_tail()
+    ensures base { BaseIsArranged }
+    ensures mounts { ArrangedMounts }
+    ensures tail { RowIsTail }
+    ensures begins { ArrangedBegins }
+    ensures survives { ArrangedSurvives }
 {}
