@@ -1,7 +1,6 @@
 pub mod ArrangedLemmas
 pub mod BlankLemmas
 pub mod BlockLemmas
-pub mod DoneLemmas
 pub mod ExampleLemmas
 pub mod GlimpseLemmas
 pub mod HeadlineLemmas
@@ -11,3 +10,4 @@ pub mod OrderLemmas
 pub mod RowLemmas
 pub mod SideLemmas
 pub mod TailLemmas
+pub mod WithRowLemmas

@@ -10,46 +10,45 @@ use Rattle.std.proofs.lemmas.Bool.{cases_lt}
 use Rattle.flashbase.proofs.ListLemmas.{length-below, get_or-below}
 use Rattle.jscan.specs.Image.{block_of}
 use Rattle.jscan.proofs.PartLemmas.{block_length}
+use Rattle.jlog.proofs.ByteLemmas.{block_byte}
 use Rattle.jrow.specs.Row.{side_by_side, address_in}
 use Rattle.jrow.specs.RowLaws.{IsSideBySide, RowIsSideBySide}
 
--- ---- blocks
+-- ---- an address, as a block and a place in it
 
-erased_byte : (n i : ℕ) → get_or (erased n) i 0xFF ≡ 0xFF
-erased_byte n i = elim (cases_lt i n) [
-  | inl inside ↦ get_or-replicate n i 0xFF 0xFF inside
-  | inr past ↦ get_or_past (erased n) i 0xFF (omega (arith, length-replicate {A = ℕ} n 0xFF))
-]
+pub div_within : (at n size : ℕ) → 0 < size → at < n * size → at / size < n
+div_within at n size some less = grind (arith)
 
-erased_end : (xs : List ℕ) (n i : ℕ) → get_or (xs ++ erased n) i 0xFF ≡ get_or xs i 0xFF
-erased_end xs n i = elim (cases_lt i (length xs)) [
-  | inl inside ↦ get_or_append_left xs (erased n) 0xFF i inside
-  | inr past ↦ get_or-append_right xs (erased n) (length xs) i 0xFF refl past ∙ erased_byte n (i - length xs) ∙ sym (get_or_past xs i 0xFF past)
-]
+pub div_parts : (at size : ℕ) → 0 < size → at ≡ at / size * size + at % size
+div_parts at size some = grind (arith)
 
-block_byte : (size : ℕ) (image : List ℕ) (d i : ℕ) → i < size → get_or (block_of size image d) i 0xFF ≡ get_or image (d * size + i) 0xFF
-block_byte size image d i inside =
-    get_or-take size (drop (d * size) image ++ erased size) i 0xFF inside ∙ erased_end (drop (d * size) image) size i ∙ get_or-drop (d * size) image i 0xFF
+pub mod_small : (at size : ℕ) → 0 < size → at % size < size
+mod_small at size some = grind (arith)
 
 -- ---- bytes
 
-pub side_long : (size : ℕ) (row image : List ℕ) → length (side_by_side size row image) ≡ length row * size
-side_long size [] image = omega arith
-side_long size (b ∷ bs) image =
-    omega (arith, length-append (block_of size image b) (side_by_side size bs image), block_length size image b, side_long size bs image)
+-- lists of one length, one after the other
+pub made_long : (size : ℕ) (f : ℕ → List ℕ) → ((b : ℕ) → length (f b) ≡ size) → (bs : List ℕ) → length (flat_map f bs) ≡ length bs * size
+made_long size f long [] = omega arith
+made_long size f long (b ∷ bs) = omega (arith, length-append (f b) (flat_map f bs), long b, made_long size f long bs)
 
-side_byte : (size : ℕ) (row image : List ℕ) (index i : ℕ) → index < length row → i < size
-    → get_or (side_by_side size row image) (index * size + i) 0xFF ≡ get_or (block_of size image (get_or row index 0)) i 0xFF
-side_byte size [] image index i within inside = absurd (omega arith)
-side_byte size (b ∷ bs) image zero i within inside =
+pub made_byte : (size : ℕ) (f : ℕ → List ℕ) → ((b : ℕ) → length (f b) ≡ size) → (bs : List ℕ) (index i : ℕ) → index < length bs → i < size
+    → get_or (flat_map f bs) (index * size + i) 0xFF ≡ get_or (f (get_or bs index 0)) i 0xFF
+made_byte size f long [] index i within inside = absurd (omega arith)
+made_byte size f long (b ∷ bs) zero i within inside =
     let near : zero * size + i ≡ i = omega arith in
-    ap (λ (n : ℕ). get_or (block_of size image b ++ side_by_side size bs image) n 0xFF) near
-    ∙ get_or_append_left (block_of size image b) (side_by_side size bs image) 0xFF i (omega (arith, inside, block_length size image b))
-side_byte size (b ∷ bs) image (suc index) i within inside =
-    let far : suc index * size + i ≡ length (block_of size image b) + (index * size + i) = omega (arith, block_length size image b) in
-    ap (λ (n : ℕ). get_or (block_of size image b ++ side_by_side size bs image) n 0xFF) far
-    ∙ (get_or-append-add (block_of size image b) (side_by_side size bs image) (index * size + i) 0xFF
-    ∙ side_byte size bs image index i (omega arith) inside)
+    ap (λ (n : ℕ). get_or (f b ++ flat_map f bs) n 0xFF) near ∙ get_or_append_left (f b) (flat_map f bs) 0xFF i (omega (arith, inside, long b))
+made_byte size f long (b ∷ bs) (suc index) i within inside =
+    let far : suc index * size + i ≡ length (f b) + (index * size + i) = omega (arith, long b) in
+    ap (λ (n : ℕ). get_or (f b ++ flat_map f bs) n 0xFF) far
+    ∙ (get_or-append-add (f b) (flat_map f bs) (index * size + i) 0xFF ∙ made_byte size f long bs index i (omega arith) inside)
+
+pub side_long : (size : ℕ) (row image : List ℕ) → length (side_by_side size row image) ≡ length row * size
+side_long size row image = made_long size (block_of size image) (block_length size image) row
+
+pub side_byte : (size : ℕ) (row image : List ℕ) (index i : ℕ) → index < length row → i < size
+    → get_or (side_by_side size row image) (index * size + i) 0xFF ≡ get_or (block_of size image (get_or row index 0)) i 0xFF
+side_byte size row image index i within inside = made_byte size (block_of size image) (block_length size image) row index i within inside
 
 pub side_block : (size : ℕ) (row image : List ℕ) (index : ℕ) → index < length row → block_of size (side_by_side size row image) index ≡ block_of size image (get_or row index 0)
 side_block size row image index within =
@@ -65,9 +64,9 @@ row_is_side_by_side size row image some = record {
   bytes = λ at inside.
       let index : ℕ = at / size in
       let i : ℕ = at % size in
-      let small : i < size = grind (arith) in
-      let split : at ≡ index * size + i = grind (arith) in
-      let within : index < length row = grind (arith) in
+      let small : i < size = mod_small at size some in
+      let split : at ≡ index * size + i = div_parts at size some in
+      let within : index < length row = div_within at (length row) size some inside in
       ap (λ (n : ℕ). get_or (side_by_side size row image) n 0xFF) split
       ∙ (side_byte size row image index i within small ∙ block_byte size image (get_or row index 0) i small);
 }

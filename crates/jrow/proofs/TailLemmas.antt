@@ -16,6 +16,8 @@ use Rattle.jmount.specs.Laws.{SameElements}
 use Rattle.jmount.specs.Mount.{Mount}
 use Rattle.jmount.specs.StateOf.{state_of}
 use Rattle.jmount.specs.Tree.{State, is_directory}
+use Rattle.jmount.specs.Shown.{top_at}
+use Rattle.jmount.proofs.NumbersLemmas.{top_at-tops_of}
 use Rattle.jmount.proofs.SameLemmas.{same_sym}
 use Rattle.jmount.proofs.StateLemmas.{top-same}
 use Rattle.jsteps.specs.Laws.{IsConsistent}
@@ -25,7 +27,7 @@ use Rattle.jsteps.specs.declared.step.Step.{Step}
 use Rattle.jsteps.proofs.ConsistentLemmas.{index_is_consistent}
 use Rattle.jexpand.specs.Expanded.{expanded_nodes}
 use Rattle.jexpand.proofs.SightedLemmas.{size_some, size_words}
-use Rattle.jview.specs.Through.{MountsThroughAs, first_fault}
+use Rattle.jview.specs.Through.{MountsThroughAs, IsMountThroughOf, first_fault}
 use Rattle.jlog.specs.Places.{places, is_writable_flash}
 use Rattle.jlog.specs.Output.{output}
 use Rattle.jlog.specs.Left.{IsLeft, HoldsWritten, HoldsMarker, count_whole}
@@ -40,11 +42,10 @@ use Rattle.jrow.specs.Arranged.{taken_blocks, blank_last, arranged, row_start, B
 use Rattle.jrow.specs.Row.{blank_blocks, side_by_side}
 use Rattle.jrow.specs.RowLeft.{IsLeftInRow}
 use Rattle.jrow.proofs.ArrangedLemmas.{AreSeenSame, arranged_seen, arranged_long, arranged_blank_from, blocks_parted, block_in_front, block_behind, taken_is_not_blank, row_is_blank}
-use Rattle.jrow.proofs.DoneLemmas.{index_is}
 use Rattle.jrow.proofs.MergedLemmas.{none_of}
 use Rattle.jrow.proofs.OrderLemmas.{order_does_not_matter}
 use Rattle.jrow.proofs.RowLemmas.{other_blocks_stay}
-use Rattle.jrow.proofs.SideLemmas.{side_block}
+use Rattle.jrow.proofs.SideLemmas.{side_block, div_within, div_parts, mod_small}
 
 -- ---- where the same is seen, the same mounts
 
@@ -128,15 +129,6 @@ base_is_arranged e size blocks base ok =
 
 -- ---- what is left
 
-div_within : (at n size : ℕ) → 0 < size → at < n * size → at / size < n
-div_within at n size some less = grind (arith)
-
-div_parts : (at size : ℕ) → 0 < size → at ≡ at / size * size + at % size
-div_parts at size some = grind (arith)
-
-mod_small : (at size : ℕ) → 0 < size → at % size < size
-mod_small at size some = grind (arith)
-
 tail_byte : (e : Endian) (size blocks : ℕ) (base image : List ℕ) (j i : ℕ) → j < length (blank_blocks e size blocks base) → i < size
     → get_or (arranged e size blocks base image) ((length (taken_blocks e size blocks base) + j) * size + i) 0xFF
     ≡ get_or (side_by_side size (blank_blocks e size blocks base) image) (j * size + i) 0xFF
@@ -203,6 +195,10 @@ row_is_tail e size blocks k base out image some left =
     }
 
 -- ---- a log
+
+index_is : (e : Endian) (size : ℕ) (m : Mount) → IsMountThroughOf e size m → indexed m ≡ index_through e size m.image
+index_is e size m is = λ j.
+    index_by (sym is.mounts.same j) (λ i. (ap (λ tops. top_at tops i) is.tops ∙ top_at-tops_of (expanded_nodes e size m.image) i) j)
 
 pub arranged_begins : ArrangedBegins
 arranged_begins flash at m is are_bytes resumes =

@@ -1,5 +1,4 @@
 pub mod Arranged
-pub mod DoneInRow
 pub mod Examples
 pub mod HeadlineInRow
 pub mod MergedLaws

@@ -1,11 +1,24 @@
 -- Laws of rows. Each is a statement: it holds since a public function's contract names it.
-use Rattle.std.specs.Prelude.{◌≡◌, ℕ, ◌*◌, ◌<◌, ◌≤◌, IsTrue, List, length, flat_map, slice_index, slice_index_or}
+use Rattle.std.specs.Prelude.{◌≡◌, ℕ, ◌*◌, ◌<◌, ◌≤◌, IsTrue, List, length, flat_map, slice_index, slice_index_or, Contains, AllPairs, ◌↔◌}
 use Rattle.flashbase.specs.Lists.{below}
 use Rattle.jnode.specs.declared.node.NodeRef.{NodeRef}
 use Rattle.jnode.specs.declared.order.Endian.{Endian}
+use Rattle.jscan.specs.Blank.{is_blank}
 use Rattle.jscan.specs.Image.{is_block_size, block_of}
 use Rattle.jexpand.specs.Expanded.{expanded_nodes, unpacked_bytes}
-use Rattle.jrow.specs.Row.{side_by_side, address_in}
+use Rattle.jrow.specs.Row.{blank_blocks, side_by_side, address_in}
+
+-- ---- which blocks are in it
+
+-- They are the blank ones, all of them, upwards.
+pub record AreBlankBlocks (e : Endian) (size blocks : ℕ) (image row : List ℕ) : Type 0 where
+  pub ascending : AllPairs (λ a b. a < b) row
+  pub each : (b : ℕ) → Contains row b
+      ↔ ((b < blocks) × IsTrue (is_blank e size (block_of size image b)))
+
+abbrev pub RowIsOfBlankBlocks : Type 0
+RowIsOfBlankBlocks = (e : Endian) (size blocks : ℕ) (image : List ℕ)
+    → AreBlankBlocks e size blocks image (blank_blocks e size blocks image)
 
 -- ---- the bytes of a row
 

@@ -1,6 +1,7 @@
 -- What a write to the blank blocks of an image that stopped leaves.
-use Rattle.std.specs.Prelude.{◌≡◌, ℕ, ◌*◌, ◌+◌, ◌<◌, ◌≤◌, IsTrue, List, length, take, filter_map, flat_map, Contains, None}
+use Rattle.std.specs.Prelude.{◌≡◌, ℕ, ◌*◌, ◌+◌, ◌<◌, ◌≤◌, ◌==◌, IsTrue, List, [], ◌∷◌, length, take, filter_map, flat_map, Contains, Option, None, Some, option_map, unwrap_or, if◌then◌else◌}
 use Rattle.std.specs.List.{AllByRecursion}
+use Rattle.flashbase.specs.Lists.{below}
 use Rattle.jnode.specs.declared.order.Endian.{Endian}
 use Rattle.jscan.specs.Image.{is_block_size, block_of}
 use Rattle.jscan.specs.Scans.{is_read_only}
@@ -34,6 +35,28 @@ abbrev pub OtherBlocksStay : Type 0
 OtherBlocksStay = (e : Endian) (size blocks k b : ℕ) (base row out image : List ℕ) → 0 < size
     → IsLeftInRow e size blocks base row out k image → (Contains row b → ⊥)
     → block_of size image b ≡ block_of size base b
+
+-- ---- some image is left
+
+-- where a block stands in a row
+abbrev pub index_in : List ℕ → ℕ → Option ℕ
+index_in [] b = None
+index_in (c ∷ row) b = if c == b then Some 0 else option_map (λ index. index + 1) (index_in row b)
+
+-- a block of the base, or where it is of the row what was written there
+abbrev pub block_with : ℕ → List ℕ → List ℕ → List ℕ → ℕ → List ℕ
+block_with size base row written b =
+    unwrap_or (option_map (block_of size written) (index_in row b)) (block_of size base b)
+
+-- the flash of a base after these bytes were written to its row
+abbrev pub with_row : ℕ → ℕ → List ℕ → List ℕ → List ℕ → List ℕ
+with_row size blocks base row written = flat_map (block_with size base row written) (below blocks)
+
+-- What went out may always be left.
+abbrev pub WrittenIsLeftInRow : Type 0
+WrittenIsLeftInRow = (e : Endian) (size blocks k : ℕ) (base row out : List ℕ) → 0 < size
+    → length base ≤ blocks * size → row ≡ blank_blocks e size blocks base
+    → IsLeftInRow e size blocks base row out k (with_row size blocks base row (take k out))
 
 -- ---- what stands there
 

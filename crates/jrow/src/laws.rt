@@ -1,12 +1,11 @@
 //! Laws of a row. Each function's contract is a law, and its body is empty.
 
 ghost use Rattle.jrow.specs.Arranged.{BaseIsArranged, ArrangedMounts, RowIsTail, ArrangedBegins, ArrangedSurvives};
-ghost use Rattle.jrow.specs.DoneInRow.{RowBegins, DoneSurvivesInRow, DoneGoesOnInRow};
 ghost use Rattle.jrow.specs.HeadlineInRow.{FormsSurviveInRow};
 ghost use Rattle.jrow.specs.MergedLaws.{RowIsMerged};
 ghost use Rattle.jrow.specs.OrderLaws.{OrderDoesNotMatter, MergedMakeSame};
-ghost use Rattle.jrow.specs.RowLaws.{RowIsSideBySide, ImageIsOfBlocks, RowIsOfBlocks};
-ghost use Rattle.jrow.specs.RowLeft.{OtherBlocksStay, LeftInRowExpands, WholeInRowExpands};
+ghost use Rattle.jrow.specs.RowLaws.{RowIsSideBySide, RowIsOfBlankBlocks, ImageIsOfBlocks, RowIsOfBlocks};
+ghost use Rattle.jrow.specs.RowLeft.{OtherBlocksStay, WrittenIsLeftInRow, LeftInRowExpands, WholeInRowExpands};
 
 /// Nodes of which no two clash make the same file system in whatever order they come.
 pub fn order_does_not_matter()
@@ -32,6 +31,16 @@ pub fn row_is_merged()
     ensures { RowIsMerged }
 {}
 
+/// The row is the blank blocks, all of them, upwards.
+pub fn row_is_of_blank_blocks()
+    ensures { RowIsOfBlankBlocks }
+{}
+
+/// What went out to the row may always be left.
+pub fn some_are_left_in_row()
+    ensures { WrittenIsLeftInRow }
+{}
+
 /// Of what a write to the row leaves, all other blocks are the base's.
 pub fn other_blocks_stay()
     ensures { OtherBlocksStay }
@@ -49,14 +58,6 @@ pub fn left_in_row_expands()
 /// mounts through as the file system after the steps whose forms stand whole.
 pub fn forms_survive_in_row()
     ensures { FormsSurviveInRow }
-{}
-
-/// A log goes on in the blank blocks of an image that mounts through. What it has done, in whatever
-/// forms, survives while more is written, and it goes on after that.
-pub fn done_survives_in_row()
-    ensures begins { RowBegins }
-    ensures survives { DoneSurvivesInRow }
-    ensures goes_on { DoneGoesOnInRow }
 {}
 
 /// An image with its blank blocks last is seen as the same, and what is written to its blank blocks
