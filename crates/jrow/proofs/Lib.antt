@@ -6,6 +6,7 @@ pub mod GlimpseLemmas
 pub mod HeadlineLemmas
 pub mod MergeLemmas
 pub mod MergedLemmas
+pub mod MovedLemmas
 pub mod OrderLemmas
 pub mod RowLemmas
 pub mod SideLemmas

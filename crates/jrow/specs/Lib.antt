@@ -3,6 +3,7 @@ pub mod Examples
 pub mod HeadlineInRow
 pub mod MergedLaws
 pub mod Merging
+pub mod Moved
 pub mod OrderLaws
 pub mod Row
 pub mod RowLaws

@@ -3,6 +3,7 @@
 ghost use Rattle.jrow.specs.Arranged.{BaseIsArranged, ArrangedMounts, RowIsTail, ArrangedBegins, ArrangedSurvives};
 ghost use Rattle.jrow.specs.HeadlineInRow.{FormsSurviveInRow};
 ghost use Rattle.jrow.specs.MergedLaws.{RowIsMerged};
+ghost use Rattle.jrow.specs.Moved.{LogIsMoved};
 ghost use Rattle.jrow.specs.OrderLaws.{OrderDoesNotMatter, MergedMakeSame};
 ghost use Rattle.jrow.specs.RowLaws.{RowIsSideBySide, RowIsOfBlankBlocks, ImageIsOfBlocks, RowIsOfBlocks};
 ghost use Rattle.jrow.specs.RowLeft.{OtherBlocksStay, WrittenIsLeftInRow, LeftInRowExpands, WholeInRowExpands};
@@ -68,4 +69,10 @@ pub fn row_is_tail()
     ensures tail { RowIsTail }
     ensures begins { ArrangedBegins }
     ensures survives { ArrangedSurvives }
+{}
+
+/// A log that begins so many blocks further on has the same bytes, each form so many blocks further
+/// on: so what goes out to the row goes out to the tail that the row then is.
+pub fn log_is_moved()
+    ensures { LogIsMoved }
 {}
