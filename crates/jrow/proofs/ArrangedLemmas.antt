@@ -1,30 +1,26 @@
 -- A flash with its blank blocks last: what it holds, and where writing goes on.
-use Rattle.std.proofs.Common.{◌≡◌, ℕ, zero, suc, ◌+◌, ◌-◌, ◌*◌, ◌/◌, ◌%◌, ◌<◌, ◌≤◌, Bool, true, false, cond, List, [], ◌∷◌, ◌++◌, length, take, drop, get_or, filter_map, refl, sym, ap, ap₂, subst, ◌∙◌, arith, inl, inr, Option, None, Some, Contains, is_some, length-append, ⊎_elim}
-use Rattle.std.specs.Prelude.{filter, flat_map, not, IsTrue, ◌||◌, ◌&&◌, nat_le, nat_lt, ◌⊎◌, ◌↔◌}
+use Rattle.std.proofs.Common.{◌≡◌, ℕ, suc, ◌+◌, ◌-◌, ◌*◌, ◌<◌, ◌≤◌, Bool, true, false, cond, List, [], ◌∷◌, ◌++◌, length, get_or, filter_map, refl, sym, ap, subst, ◌∙◌, arith, inl, inr, Contains, is_some, length-append}
+use Rattle.std.specs.Prelude.{filter, flat_map, not, IsTrue}
 use Rattle.std.specs.List.{list_any}
-use Rattle.std.proofs.Math.Nat.{mul-le-mul_right}
-use Rattle.std.proofs.lemmas.Bool.{cases_Bool, cases_lt, and_parts, and_from, leb-true, true≢false}
+use Rattle.std.proofs.lemmas.Bool.{cases_lt, true≢false}
 use Rattle.std.proofs.lemmas.Grind.{flat_map-append}
 use Rattle.std.proofs.lemmas.List.{get_or-append-add, get_or_append_left}
 use Rattle.std.proofs.lemmas.List.Elements.{filter_map-append, Contains-get_or}
 use Rattle.std.proofs.lemmas.List.Folds.{list_any-append}
-use Rattle.flashbase.specs.Bytes.{erased}
 use Rattle.flashbase.specs.Lists.{below}
-use Rattle.flashbase.specs.Ranges.{AreBytes}
 use Rattle.flashbase.proofs.ListLemmas.{length-below}
-use Rattle.flashbase.proofs.MemberLemmas.{Contains-here, Contains-there, Contains-filter_from}
+use Rattle.flashbase.proofs.MemberLemmas.{Contains-filter_from}
 use Rattle.jnode.specs.declared.node.NodeRef.{NodeRef}
 use Rattle.jnode.specs.declared.order.Endian.{Endian}
 use Rattle.jscan.specs.Blank.{is_blank, blank_from, AreBlankFrom}
-use Rattle.jscan.specs.Image.{is_block_size, greatest_image, block_of}
+use Rattle.jscan.specs.Image.{is_block_size, block_of}
 use Rattle.jscan.proofs.BlankLemmas.{blank_from_is_least}
 use Rattle.jmount.specs.Laws.{SameElements}
 use Rattle.jexpand.specs.Expanded.{expanded_nodes, unpacked_bytes}
 use Rattle.jview.specs.Through.{first_fault}
-use Rattle.jlog.specs.Headline.{resume_address}
 use Rattle.jrow.specs.Arranged.{taken_blocks, blank_last, arranged}
 use Rattle.jrow.specs.Merging.{Interleaves}
-use Rattle.jrow.specs.Row.{blank_blocks, side_by_side}
+use Rattle.jrow.specs.Row.{blank_blocks}
 use Rattle.jrow.proofs.BlockLemmas.{glimpses_of, image_glimpsed, row_glimpsed}
 use Rattle.jrow.proofs.GlimpseLemmas.{Glimpse, block_glimpses, node_glimpsed, content_glimpsed, is_refused}
 use Rattle.jrow.proofs.MergeLemmas.{merged_left, merged_right, merged_taken, merged_length, merged_any}

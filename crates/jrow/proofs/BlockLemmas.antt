@@ -1,7 +1,6 @@
 -- The nodes of an image are those of its blocks.
-use Rattle.std.proofs.Common.{◌≡◌, ℕ, zero, suc, ◌+◌, ◌-◌, ◌*◌, ◌%◌, ◌<◌, ◌≤◌, Bool, true, false, List, [], ◌∷◌, ◌++◌, length, filter_map, take, drop, refl, sym, ap, ap₂, subst, ◌∙◌, arith, Option, None, Some, is_some, append-nil, append_assoc}
-use Rattle.std.specs.Prelude.{filter, flat_map, IsTrue, ◌||◌}
-use Rattle.std.specs.List.{list_any}
+use Rattle.std.proofs.Common.{◌≡◌, ℕ, ◌+◌, ◌-◌, ◌*◌, ◌%◌, ◌<◌, ◌≤◌, Bool, true, false, List, [], ◌∷◌, ◌++◌, length, filter_map, take, drop, refl, sym, ap, ap₂, subst, ◌∙◌, arith, Option, None, Some, is_some, append-nil}
+use Rattle.std.specs.Prelude.{flat_map, IsTrue, ◌||◌}
 use Rattle.std.specs.Option.{option_or}
 use Rattle.std.proofs.lemmas.List.Elements.{filter_map-append}
 use Rattle.std.proofs.lemmas.List.Folds.{list_any-append}
@@ -14,16 +13,16 @@ use Rattle.jnode.specs.declared.node.NodeRef.{NodeRef}
 use Rattle.jnode.specs.declared.node.Seen.{Seen}
 use Rattle.jnode.specs.declared.order.Endian.{Endian}
 use Rattle.jscan.specs.Image.{is_block_size, block_of, block_count, sightings_in, sightings}
-use Rattle.jscan.specs.Scans.{forbids_writing, is_read_only}
+use Rattle.jscan.specs.Scans.{forbids_writing}
 use Rattle.jscan.proofs.BlockLemmas.{filter_map-flat_map, block_past, past_count, count_within}
 use Rattle.jscan.proofs.HeaderlessLemmas.{erased_has_no_nodes}
 use Rattle.jscan.proofs.PartLemmas.{block_length}
 use Rattle.jexpand.specs.Expanded.{expanded_node, expanded_nodes, tile_content, unpacked_bytes}
 use Rattle.jexpand.specs.declared.fault.ConvertFault.{ConvertFault}
 use Rattle.jexpand.proofs.SightedLemmas.{size_words, size_some}
-use Rattle.jview.specs.Through.{through_fault, through_fault_among, first_fault}
+use Rattle.jview.specs.Through.{through_fault, through_fault_among}
 use Rattle.jrow.specs.Row.{side_by_side}
-use Rattle.jrow.specs.RowLaws.{nodes_of_blocks, contents_of_blocks, AreOfBlocks, ImageIsOfBlocks, RowIsOfBlocks}
+use Rattle.jrow.specs.RowLaws.{nodes_of_blocks, contents_of_blocks, ImageIsOfBlocks, RowIsOfBlocks}
 use Rattle.jrow.proofs.SideLemmas.{side_long, side_blocks}
 use Rattle.jrow.proofs.GlimpseLemmas.{Glimpse, block_glimpses, node_glimpsed, content_glimpsed, is_refused, is_ban, AreGlimpsed, block_glimpsed}
 

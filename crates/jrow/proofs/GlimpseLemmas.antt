@@ -1,6 +1,6 @@
 -- What is seen of an image through its compression, block by block and without addresses.
-use Rattle.std.proofs.Common.{◌≡◌, ℕ, zero, suc, ◌+◌, ◌-◌, ◌*◌, ◌/◌, ◌%◌, ◌<◌, ◌≤◌, Bool, true, false, cond, List, [], ◌∷◌, ◌++◌, length, map, filter_map, take, drop, refl, sym, ap, ap₂, subst, ◌∙◌, arith, inl, inr, Option, None, Some, Contains, is_some, is_none, length-append, length-drop}
-use Rattle.std.specs.Prelude.{filter, flat_map, IsTrue, ◌||◌, nat_le}
+use Rattle.std.proofs.Common.{◌≡◌, ℕ, ◌+◌, ◌*◌, ◌%◌, ◌<◌, Bool, true, false, cond, List, [], ◌∷◌, ◌++◌, length, filter_map, drop, refl, sym, ap, ap₂, ◌∙◌, arith, inl, inr, Option, None, Some, Contains, is_some, is_none, length-append}
+use Rattle.std.specs.Prelude.{filter, flat_map, ◌||◌, nat_le}
 use Rattle.std.specs.List.{cons_option, list_any}
 use Rattle.std.specs.Option.{option_or}
 use Rattle.std.proofs.lemmas.Bool.{cases_Bool}
@@ -21,7 +21,6 @@ use Rattle.jscan.specs.declared.tiles.TileKind.TheVariants.{Node, Word, Rest}
 use Rattle.jscan.proofs.TilingLaws.{exists}
 use Rattle.jcompr.specs.Content.{method_of}
 use Rattle.jexpand.specs.Expanded.{compressed_node_at, node_content, expanded_node, tile_content}
-use Rattle.jexpand.specs.Refused.{compressed_fault}
 use Rattle.jexpand.specs.declared.fault.ConvertFault.{ConvertFault}
 use Rattle.jexpand.specs.declared.fault.ConvertFault.TheVariants as fault
 use Rattle.jview.specs.Through.{node_by, content_by, fault_by, through_fault_among}

@@ -1,5 +1,5 @@
 -- The steps of accepted operations survive a cut at any byte, in whatever blocks their nodes are put.
-use Rattle.std.proofs.Common.{◌≡◌, ℕ, zero, suc, ◌+◌, ◌*◌, ◌≤◌, List, [], ◌∷◌, ◌++◌, length, take, filter_map, refl, sym, ap, subst, ◌∙◌, arith, length-append}
+use Rattle.std.proofs.Common.{◌≡◌, ℕ, zero, suc, ◌+◌, ◌*◌, ◌≤◌, List, [], ◌∷◌, length, take, sym, subst, ◌∙◌, arith, length-append}
 use Rattle.std.specs.Prelude.{IsTrue, nat_le, nat_lt, ◌&&◌, flat_map}
 use Rattle.std.specs.List.{AllByRecursion}
 use Rattle.std.proofs.lemmas.Bool.{and_parts, leb-true}
@@ -15,7 +15,7 @@ use Rattle.jsteps.specs.Refusals.{steps_of_first}
 use Rattle.jsteps.specs.Laws.{IsPlanned, GoesOn}
 use Rattle.jsteps.specs.declared.step.Step.{Step}
 use Rattle.jsteps.proofs.GoesOnLemmas.{planned_goes_on}
-use Rattle.jexpand.specs.Expanded.{expanded_nodes, unpacked_bytes}
+use Rattle.jexpand.specs.Expanded.{expanded_nodes}
 use Rattle.jexpand.proofs.SightedLemmas.{size_words}
 use Rattle.jview.specs.Through.{MountsThroughAs}
 use Rattle.jlog.specs.Places.{places, is_writable_flash}
@@ -25,7 +25,7 @@ use Rattle.jlog.specs.LeftLaws.{IsLoggable}
 use Rattle.jlog.specs.Forms.{IsStorableForm, IsLoggableForm}
 use Rattle.jlog.specs.Headline.{is_flash_of}
 use Rattle.jlog.specs.HeadlineThrough.{state_through, IsBaseThrough, index_through, nodes_through}
-use Rattle.jlog.specs.Through.{form_node, form_content}
+use Rattle.jlog.specs.Through.{form_content}
 use Rattle.jlog.proofs.HereLemmas.{Sure, none_weak, none_cut}
 use Rattle.jlog.proofs.HeadlineThroughLemmas.{through_size, all_fit_through}
 use Rattle.jlog.proofs.IntactLemmas.{intact_is_counted, all_is_intact}

@@ -1,8 +1,7 @@
 -- Lists that are merged into one.
-use Rattle.std.proofs.Common.{◌≡◌, ℕ, ◌+◌, Bool, true, false, cond, List, [], ◌∷◌, ◌++◌, length, map, filter_map, refl, sym, ap, ap₂, subst, ◌∙◌, arith, inl, inr, Option, None, Some, Contains, ⊎_elim, length-append}
+use Rattle.std.proofs.Common.{◌≡◌, ℕ, ◌+◌, Bool, true, false, cond, List, [], ◌∷◌, ◌++◌, length, filter_map, refl, sym, ap, ap₂, subst, ◌∙◌, arith, inl, inr, Option, None, Some, Contains, length-append}
 use Rattle.std.specs.Prelude.{filter, flat_map, ◌||◌}
 use Rattle.std.specs.List.{cons_option, list_any}
-use Rattle.std.proofs.lemmas.Bool.{cases_Bool}
 use Rattle.flashbase.proofs.MemberLemmas.{Contains-here, Contains-there}
 use Rattle.jrow.specs.Merging.{Interleaves}
 

@@ -1,7 +1,6 @@
 -- An image whose blank blocks were written has the nodes of the base, and those of the row.
-use Rattle.std.proofs.Common.{◌≡◌, ℕ, ◌+◌, ◌*◌, ◌<◌, ◌≤◌, Bool, true, false, List, [], ◌∷◌, ◌++◌, length, filter_map, refl, sym, ap, ap₂, subst, ◌∙◌, arith, Option, None, Some, is_some}
-use Rattle.std.specs.Prelude.{filter, flat_map, IsTrue, ◌||◌}
-use Rattle.std.specs.List.{list_any}
+use Rattle.std.proofs.Common.{◌≡◌, ℕ, ◌+◌, ◌≤◌, Bool, false, List, length, filter_map, refl, sym, ap, ap₂, subst, ◌∙◌, arith, Option, None, Some, is_some}
+use Rattle.std.specs.Prelude.{◌||◌}
 use Rattle.flashbase.specs.Lists.{below}
 use Rattle.flashbase.proofs.MemberLemmas.{Contains-below_from}
 use Rattle.jnode.specs.declared.node.NodeRef.{NodeRef}

@@ -1,6 +1,6 @@
 -- A log that begins so many blocks further on.
-use Rattle.std.proofs.Common.{◌≡◌, ℕ, ◌+◌, ◌-◌, ◌*◌, ◌/◌, ◌%◌, ◌<◌, ◌≤◌, Bool, true, false, cond, leb, List, [], ◌∷◌, ◌++◌, length, map, take, drop, refl, sym, ap, ap₂, ◌∙◌, arith, inl, inr, max}
-use Rattle.std.specs.Prelude.{bytes_eq, count_by, ◌&&◌}
+use Rattle.std.proofs.Common.{◌≡◌, ℕ, ◌+◌, ◌-◌, ◌*◌, ◌/◌, ◌%◌, ◌<◌, Bool, cond, leb, List, [], ◌∷◌, ◌++◌, length, map, take, drop, refl, sym, ap, ap₂, ◌∙◌, arith, inl, inr, max}
+use Rattle.std.specs.Prelude.{bytes_eq, ◌&&◌}
 use Rattle.std.specs.List.{list_all}
 use Rattle.std.proofs.lemmas.Bool.{cases_lt, cond-true, cond-false, le-leb, lt-leb}
 use Rattle.std.proofs.lemmas.List.Sums.{sum_by-cons}
@@ -9,11 +9,11 @@ use Rattle.flashbase.specs.Bytes.{pad4_of, erased}
 use Rattle.jnode.specs.Weak.{torn}
 use Rattle.jnode.specs.Writing.{clean_marker, filled}
 use Rattle.jnode.specs.declared.order.Endian.{Endian}
-use Rattle.jlog.specs.Places.{place_after, end_after, places, end_of_all, fit}
+use Rattle.jlog.specs.Places.{place_after, end_after, places, end_of_all}
 use Rattle.jlog.specs.Output.{gap, output}
 use Rattle.jlog.specs.Left.{is_whole, count_whole}
 use Rattle.jlog.proofs.PlaceLemmas.{pad4_behind, times_words}
-use Rattle.jrow.specs.Moved.{IsMoved, LogIsMoved}
+use Rattle.jrow.specs.Moved.{LogIsMoved}
 use Rattle.jrow.proofs.SideLemmas.{div_parts, mod_small}
 
 -- ---- numbers

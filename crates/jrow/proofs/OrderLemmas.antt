@@ -1,5 +1,5 @@
 -- What nodes make in whatever order they come.
-use Rattle.std.proofs.Common.{◌≡◌, ℕ, List, [], ◌∷◌, ◌++◌, filter_map, refl, sym, ap, subst, ◌∙◌, inl, inr, Some, None, Contains, ⊎_elim}
+use Rattle.std.proofs.Common.{◌≡◌, List, [], ◌∷◌, ◌++◌, sym, subst, inl, inr, Some, Contains, ⊎_elim}
 use Rattle.std.proofs.lemmas.List.Elements.{Contains-append_left, Contains-append_right, Contains-append_cases}
 use Rattle.flashbase.proofs.MemberLemmas.{Contains-none, Contains-here, Contains-there, Contains-cases, Contains-filter_map_from}
 use Rattle.jname.specs.Clash as names
@@ -12,7 +12,7 @@ use Rattle.jmount.specs.Laws.{SameElements}
 use Rattle.jmount.specs.StateOf.{inodes, entries, inode_in, entry_in}
 use Rattle.jmount.proofs.StateLemmas.{state-same, tops-same}
 use Rattle.jrow.specs.Merging.{Interleaves}
-use Rattle.jrow.specs.OrderLaws.{MakeSame, OrderDoesNotMatter, MergedMakeSame}
+use Rattle.jrow.specs.OrderLaws.{OrderDoesNotMatter, MergedMakeSame}
 
 -- ---- the two kinds of nodes that do not clash
 

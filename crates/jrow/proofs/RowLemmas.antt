@@ -1,8 +1,7 @@
 -- What is left in the blank blocks of an image.
-use Rattle.std.proofs.Common.{◌≡◌, ℕ, zero, suc, ◌+◌, ◌-◌, ◌*◌, ◌/◌, ◌%◌, ◌<◌, ◌≤◌, Bool, true, false, List, [], ◌∷◌, ◌++◌, length, take, get_or, filter_map, refl, sym, ap, ap₂, subst, ◌∙◌, arith, Option, None, Some, Contains, is_some, length-append}
-use Rattle.std.specs.Prelude.{filter, flat_map, IsTrue, IsFalse, ◌||◌}
-use Rattle.std.specs.List.{AllByRecursion, list_any}
-use Rattle.std.proofs.lemmas.Bool.{false≢true, true≢false}
+use Rattle.std.proofs.Common.{◌≡◌, ℕ, ◌+◌, ◌*◌, ◌/◌, ◌<◌, ◌≤◌, Bool, true, false, List, [], ◌∷◌, ◌++◌, length, take, get_or, filter_map, refl, sym, ap, ap₂, subst, ◌∙◌, arith, None, Contains}
+use Rattle.std.specs.Prelude.{flat_map, IsTrue, ◌||◌}
+use Rattle.std.proofs.lemmas.Bool.{true≢false}
 use Rattle.std.proofs.lemmas.List.{ext_get_or, take_all}
 use Rattle.std.proofs.lemmas.List.Elements.{Contains-get_or}
 use Rattle.std.proofs.lemmas.Nat.{div-mul-add}
@@ -15,13 +14,12 @@ use Rattle.jscan.specs.Image.{is_block_size, block_of, sightings}
 use Rattle.jscan.specs.Scans.{is_read_only}
 use Rattle.jscan.proofs.PartLemmas.{block_length}
 use Rattle.jexpand.specs.Expanded.{expanded_nodes, unpacked_bytes}
-use Rattle.jexpand.specs.declared.fault.ConvertFault.{ConvertFault}
 use Rattle.jexpand.proofs.SightedLemmas.{size_some, size_words}
 use Rattle.jview.specs.Through.{first_fault}
 use Rattle.jlog.specs.Places.{fit}
 use Rattle.jlog.specs.Output.{output}
 use Rattle.jlog.specs.Left.{IsLeft, intact}
-use Rattle.jlog.specs.Forms.{IsStorableForm, IsLoggableForm, AreStoredForms}
+use Rattle.jlog.specs.Forms.{AreStoredForms}
 use Rattle.jlog.specs.Through.{form_node, form_content, Expands}
 use Rattle.jlog.proofs.ByteLemmas.{block_byte}
 use Rattle.jlog.proofs.HereLemmas.{Sure, none_weak, none_cut}
@@ -34,7 +32,7 @@ use Rattle.jrow.specs.Row.{blank_blocks, side_by_side}
 use Rattle.jrow.specs.RowLeft.{IsLeftInRow, IsLeftOfForms, OtherBlocksStay, AreStoredInRow, ExpandsInRow, LeftInRowExpands, WholeInRowExpands}
 use Rattle.jrow.proofs.BlankLemmas.{blank_untold}
 use Rattle.jrow.proofs.BlockLemmas.{glimpses_of, row_glimpsed}
-use Rattle.jrow.proofs.GlimpseLemmas.{Glimpse, block_glimpses, node_glimpsed, content_glimpsed, is_refused, is_ban, AreGlimpsed}
+use Rattle.jrow.proofs.GlimpseLemmas.{block_glimpses, AreGlimpsed}
 use Rattle.jrow.proofs.MergedLemmas.{none_of, row_is_merged}
 use Rattle.jrow.proofs.SideLemmas.{side_long, side_block}
 

@@ -1,18 +1,16 @@
 -- The blocks and bytes of a row.
-use Rattle.std.proofs.Common.{◌≡◌, ℕ, zero, suc, ◌+◌, ◌-◌, ◌*◌, ◌/◌, ◌%◌, ◌<◌, ◌≤◌, List, [], ◌∷◌, ◌++◌, length, map, take, drop, get_or, refl, sym, ap, subst, ◌∙◌, arith, length-append, ap₂, Contains, inl, inr}
+use Rattle.std.proofs.Common.{◌≡◌, ℕ, zero, suc, ◌+◌, ◌*◌, ◌/◌, ◌%◌, ◌<◌, List, [], ◌∷◌, ◌++◌, length, map, get_or, refl, sym, ap, ◌∙◌, arith, length-append, ap₂, Contains}
 use Rattle.std.specs.Prelude.{flat_map}
-use Rattle.std.proofs.lemmas.List.{get_or-map, get_or-append-add, get_or_append_left, get_or-take, ext_get_or, length-take, length-replicate, length-map, get_or-drop, get_or_past, get_or-append_right, get_or-replicate}
+use Rattle.std.proofs.lemmas.List.{get_or-map, get_or-append-add, get_or_append_left, ext_get_or, length-map}
 use Rattle.std.proofs.lemmas.List.Folds.{flat_map-map}
-use Rattle.flashbase.specs.Bytes.{erased}
 use Rattle.flashbase.specs.Lists.{below}
 use Rattle.flashbase.proofs.MemberLemmas.{Contains-here, Contains-there, Contains-below_from}
-use Rattle.std.proofs.lemmas.Bool.{cases_lt}
 use Rattle.flashbase.proofs.ListLemmas.{length-below, get_or-below}
 use Rattle.jscan.specs.Image.{block_of}
 use Rattle.jscan.proofs.PartLemmas.{block_length}
 use Rattle.jlog.proofs.ByteLemmas.{block_byte}
-use Rattle.jrow.specs.Row.{side_by_side, address_in}
-use Rattle.jrow.specs.RowLaws.{IsSideBySide, RowIsSideBySide}
+use Rattle.jrow.specs.Row.{side_by_side}
+use Rattle.jrow.specs.RowLaws.{RowIsSideBySide}
 
 -- ---- an address, as a block and a place in it
 

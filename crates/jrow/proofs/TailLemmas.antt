@@ -1,18 +1,15 @@
 -- A row is the tail of a flash whose blank blocks are last.
-use Rattle.std.proofs.Common.{◌≡◌, ℕ, zero, suc, ◌+◌, ◌-◌, ◌*◌, ◌/◌, ◌%◌, ◌<◌, ◌≤◌, Bool, true, false, List, [], ◌∷◌, ◌++◌, length, take, drop, get_or, refl, sym, ap, ap₂, subst, ◌∙◌, arith, inl, inr, Contains, is_some}
-use Rattle.std.specs.Prelude.{IsTrue, ◌&&◌, nat_le, nat_lt, ◌⊎◌, ◌↔◌}
+use Rattle.std.proofs.Common.{◌≡◌, ℕ, zero, suc, ◌+◌, ◌-◌, ◌*◌, ◌/◌, ◌%◌, ◌<◌, ◌≤◌, List, [], ◌∷◌, ◌++◌, length, take, drop, get_or, refl, sym, ap, subst, ◌∙◌, arith, inl, inr, Contains, is_some}
+use Rattle.std.specs.Prelude.{IsTrue, ◌&&◌, nat_le, nat_lt}
 use Rattle.std.proofs.Math.Nat.{mul-le-mul_right}
 use Rattle.std.proofs.lemmas.Bool.{cases_lt, and_parts, and_from, leb-true, le-leb, true≢false}
 use Rattle.std.proofs.lemmas.List.Elements.{Contains-get_or}
 use Rattle.flashbase.specs.Bytes.{erased}
 use Rattle.flashbase.specs.Ranges.{AreBytes}
-use Rattle.jnode.specs.declared.node.NodeRef.{NodeRef}
 use Rattle.jnode.specs.declared.order.Endian.{Endian}
 use Rattle.jnode.proofs.OrderLemmas.{bytes-take, bytes-drop}
 use Rattle.jscan.specs.Image.{is_block_size, greatest_image, block_of}
 use Rattle.jscan.specs.Scans.{IsScannable}
-use Rattle.jmount.specs.Clash.{NoneClash}
-use Rattle.jmount.specs.Laws.{SameElements}
 use Rattle.jmount.specs.Mount.{Mount}
 use Rattle.jmount.specs.StateOf.{state_of}
 use Rattle.jmount.specs.Tree.{State, is_directory}
@@ -30,17 +27,15 @@ use Rattle.jexpand.proofs.SightedLemmas.{size_some, size_words}
 use Rattle.jview.specs.Through.{MountsThroughAs, IsMountThroughOf, first_fault}
 use Rattle.jlog.specs.Places.{places, is_writable_flash}
 use Rattle.jlog.specs.Output.{output}
-use Rattle.jlog.specs.Left.{IsLeft, HoldsWritten, HoldsMarker, count_whole}
-use Rattle.jlog.specs.Headline.{is_flash_of, resume_address}
-use Rattle.jlog.specs.HeadlineThrough.{state_through, IsBaseThrough, index_through}
-use Rattle.jlog.specs.Session.{Flash}
+use Rattle.jlog.specs.Left.{IsLeft, count_whole}
+use Rattle.jlog.specs.Headline.{is_flash_of}
+use Rattle.jlog.specs.HeadlineThrough.{state_through, index_through}
 use Rattle.jlog.proofs.ByteLemmas.{block_byte}
-use Rattle.jlog.proofs.HeadlineThroughLemmas.{all_fit_through, through_size}
+use Rattle.jlog.proofs.HeadlineThroughLemmas.{all_fit_through}
 use Rattle.jlog.proofs.PlaceLemmas.{times_words}
-use Rattle.jlog.proofs.ResumeLemmas.{holds_parts, resumed_at}
+use Rattle.jlog.proofs.ResumeLemmas.{resumed_at}
 use Rattle.jrow.specs.Arranged.{taken_blocks, blank_last, arranged, row_start, BaseIsArranged, ArrangedMounts, RowIsTail, ArrangedBegins, ArrangedSurvives}
 use Rattle.jrow.specs.Row.{blank_blocks, side_by_side}
-use Rattle.jrow.specs.RowLeft.{IsLeftInRow}
 use Rattle.jrow.proofs.ArrangedLemmas.{AreSeenSame, arranged_seen, arranged_long, arranged_blank_from, blocks_parted, block_in_front, block_behind, taken_is_not_blank, row_is_blank}
 use Rattle.jrow.proofs.MergedLemmas.{none_of}
 use Rattle.jrow.proofs.OrderLemmas.{order_does_not_matter}

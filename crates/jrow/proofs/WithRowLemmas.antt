@@ -1,21 +1,20 @@
 -- The blank blocks of an image in order, and the flash after bytes were written to them.
-use Rattle.std.proofs.Common.{◌≡◌, ◌≢◌, ℕ, zero, suc, ◌+◌, ◌-◌, ◌*◌, ◌/◌, ◌%◌, ◌<◌, ◌≤◌, Bool, true, false, cond, List, [], ◌∷◌, ◌++◌, length, take, get_or, refl, sym, ap, ap₂, subst, ◌∙◌, arith, inl, inr, Option, None, Some, Contains, length-append}
-use Rattle.std.specs.Prelude.{filter, flat_map, ◌==◌, option_map, unwrap_or, AllPairs, ◌⊎◌, ◌↔◌}
+use Rattle.std.proofs.Common.{◌≡◌, ℕ, zero, suc, ◌+◌, ◌-◌, ◌*◌, ◌/◌, ◌%◌, ◌<◌, ◌≤◌, true, false, List, [], ◌∷◌, length, take, get_or, refl, sym, ap, subst, ◌∙◌, arith, inl, inr, Option, None, Some, Contains}
+use Rattle.std.specs.Prelude.{◌==◌, option_map, unwrap_or, AllPairs}
 use Rattle.std.proofs.Math.Nat.{mul-le-mul_right}
 use Rattle.std.proofs.lemmas.Bool.{cases_lt, cases_Bool, eqb-true, eq-eqb}
-use Rattle.std.proofs.lemmas.List.{get_or-append-add, get_or_append_left, get_or_past, length-take}
+use Rattle.std.proofs.lemmas.List.{get_or_past}
 use Rattle.std.proofs.lemmas.List.Elements.{Contains-get_or}
 use Rattle.std.proofs.lemmas.List.Kept.{AllPairs-filter}
 use Rattle.std.proofs.lemmas.List.Quantifiers.{all_pairs_push}
 use Rattle.flashbase.specs.Lists.{below}
 use Rattle.flashbase.proofs.ListLemmas.{length-below, get_or-below}
-use Rattle.flashbase.proofs.MemberLemmas.{Contains-here, Contains-there, Contains-filter, Contains-filter_from, Contains-below, Contains-below_from, Contains-none}
+use Rattle.flashbase.proofs.MemberLemmas.{Contains-here, Contains-there, Contains-filter, Contains-filter_from, Contains-below, Contains-below_from}
 use Rattle.jnode.specs.declared.order.Endian.{Endian}
 use Rattle.jscan.specs.Blank.{is_blank}
 use Rattle.jscan.specs.Image.{block_of}
 use Rattle.jscan.proofs.PartLemmas.{block_length}
 use Rattle.jlog.proofs.ByteLemmas.{block_byte}
-use Rattle.jrow.specs.Row.{blank_blocks, side_by_side}
 use Rattle.jrow.specs.RowLaws.{AreBlankBlocks, RowIsOfBlankBlocks}
 use Rattle.jrow.specs.RowLeft.{IsLeftInRow, index_in, block_with, with_row, WrittenIsLeftInRow}
 use Rattle.jrow.proofs.SideLemmas.{side_long, side_byte, made_long, made_byte, div_parts, mod_small}
@@ -32,9 +31,9 @@ pub row_is_of_blank_blocks : RowIsOfBlankBlocks
 row_is_of_blank_blocks e size blocks image = record {
   ascending = AllPairs-filter (λ a b. a < b) (λ b. is_blank e size (block_of size image b)) (below blocks) (below_ascends blocks);
   each = λ b. (
-      λ has. let it = Contains-filter_from (λ c. is_blank e size (block_of size image c)) (below blocks) b has in (Contains-below_from blocks b it.0, it.1),
-      λ it. Contains-filter (λ c. is_blank e size (block_of size image c)) (below blocks) b it.1 (Contains-below blocks b it.0),
-    );
+    λ has. let it = Contains-filter_from (λ c. is_blank e size (block_of size image c)) (below blocks) b has in (Contains-below_from blocks b it.0, it.1),
+    λ it. Contains-filter (λ c. is_blank e size (block_of size image c)) (below blocks) b it.1 (Contains-below blocks b it.0),
+  );
 }
 
 -- ---- where a block stands in it
@@ -114,14 +113,14 @@ left_with e size blocks k base row out some within are =
         no_longer = omega (arith, side_long size row flash);
         stays = λ at less. absurd (omega (arith, less));
         each = λ j inside. inl (λ i small low.
-        let b : ℕ = get_or row j 0 in
-        let there : b < blocks = ((are.each b).0 (Contains-get_or row j 0 inside)).0 in
-        let here : j * size + i ≡ j * size + i - 0 = omega arith in
-        side_byte size row flash j i inside small
-        ∙ (block_byte size flash b i small
-        ∙ (with_byte size blocks base row written b i there small
-        ∙ (ap (λ (l : List ℕ). get_or l i 0xFF) (block_written size base row written j are.ascending inside)
-        ∙ (block_byte size written j i small ∙ ap (λ (n : ℕ). get_or written n 0xFF) here)))));
+            let b : ℕ = get_or row j 0 in
+            let there : b < blocks = ((are.each b).0 (Contains-get_or row j 0 inside)).0 in
+            let here : j * size + i ≡ j * size + i - 0 = omega arith in
+            side_byte size row flash j i inside small
+            ∙ (block_byte size flash b i small
+            ∙ (with_byte size blocks base row written b i there small
+            ∙ (ap (λ (l : List ℕ). get_or l i 0xFF) (block_written size base row written j are.ascending inside)
+            ∙ (block_byte size written j i small ∙ ap (λ (n : ℕ). get_or written n 0xFF) here)))));
       };
     }
 

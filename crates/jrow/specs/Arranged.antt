@@ -1,6 +1,6 @@
 -- A flash with its blocks in another order: the blank blocks of a base last. What is written to
 -- them is then written to a tail, so that all that is known of a log there holds of it.
-use Rattle.std.specs.Prelude.{◌≡◌, ◌↔◌, ℕ, ◌+◌, ◌*◌, ◌<◌, ◌≤◌, not, IsTrue, List, [], ◌++◌, length, take, filter, Ok}
+use Rattle.std.specs.Prelude.{◌≡◌, ◌↔◌, ℕ, ◌*◌, ◌<◌, ◌≤◌, not, IsTrue, List, [], ◌++◌, length, take, filter, Ok}
 use Rattle.flashbase.specs.Lists.{below}
 use Rattle.flashbase.specs.Ranges.{AreBytes}
 use Rattle.jnode.specs.declared.order.Endian.{Endian}

@@ -1,6 +1,6 @@
 -- Laws of an image whose blank blocks were written. Each is a statement: it holds since a public
 -- function's contract names it.
-use Rattle.std.specs.Prelude.{◌≡◌, ℕ, ◌+◌, ◌*◌, ◌<◌, ◌≤◌, Bool, ◌||◌, IsTrue, IsFalse, List, length, None}
+use Rattle.std.specs.Prelude.{◌≡◌, ℕ, ◌+◌, ◌*◌, ◌<◌, ◌≤◌, ◌||◌, IsTrue, IsFalse, List, length, None}
 use Rattle.jnode.specs.declared.order.Endian.{Endian}
 use Rattle.jscan.specs.Blank.{is_blank}
 use Rattle.jscan.specs.Image.{is_block_size, block_of}

@@ -1,5 +1,16 @@
-//! A log that is written into any blank blocks of an image, wherever they lie, as if they lay side
-//! by side.
+//! A log that is written to the blank blocks of an image, wherever they lie, in the order of their
+//! addresses, as if they lay side by side.
+//!
+//! It has no code. It is built on `jlog` (what a log is, and what a write to the tail of an image
+//! leaves) and `jview` (what an image shows through its compression), and says the same of a row of
+//! blocks: after a cut at any byte the image mounts through as the file system after the steps whose
+//! nodes stand whole, and every block that is not of the row is as it was.
+//!
+//! `specs/Row.antt` says what the row is, `specs/RowLeft.antt` what may be left of a write to it, and
+//! `specs/HeadlineInRow.antt` what survives. That holds since nodes make the same file system in
+//! whatever order they come (`specs/OrderLaws.antt`), and since the nodes of an image are those of
+//! its blocks (`specs/RowLaws.antt`). `specs/Arranged.antt` leads a row back to a tail: a session over
+//! the row is one over the flash with its blank blocks last.
 #![tactic(auto)]
 
 pub mod examples;
