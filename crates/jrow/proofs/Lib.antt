@@ -3,7 +3,6 @@ pub mod BlankLemmas
 pub mod BlockLemmas
 pub mod ExampleLemmas
 pub mod GlimpseLemmas
-pub mod HeadlineLemmas
 pub mod MergeLemmas
 pub mod MergedLemmas
 pub mod MovedLemmas

@@ -1,5 +1,5 @@
 -- A row is the tail of a flash whose blank blocks are last.
-use Rattle.std.proofs.Common.{◌≡◌, ℕ, zero, suc, ◌+◌, ◌-◌, ◌*◌, ◌/◌, ◌%◌, ◌<◌, ◌≤◌, List, [], ◌∷◌, ◌++◌, length, take, drop, get_or, refl, sym, ap, subst, ◌∙◌, arith, inl, inr, Contains, is_some}
+use Rattle.std.proofs.Common.{◌≡◌, ℕ, zero, suc, ◌+◌, ◌-◌, ◌*◌, ◌/◌, ◌%◌, ◌<◌, ◌≤◌, List, [], ◌∷◌, ◌++◌, length, take, drop, get_or, refl, sym, ap, ap₂, subst, ◌∙◌, arith, inl, inr, Contains, is_some}
 use Rattle.std.specs.Prelude.{IsTrue, ◌&&◌, nat_le, nat_lt}
 use Rattle.std.proofs.Math.Nat.{mul-le-mul_right}
 use Rattle.std.proofs.lemmas.Bool.{cases_lt, and_parts, and_from, leb-true, le-leb, true≢false}
@@ -18,26 +18,32 @@ use Rattle.jmount.proofs.NumbersLemmas.{top_at-tops_of}
 use Rattle.jmount.proofs.SameLemmas.{same_sym}
 use Rattle.jmount.proofs.StateLemmas.{top-same}
 use Rattle.jsteps.specs.Laws.{IsConsistent}
-use Rattle.jsteps.specs.Nodes.{indexed, index_by}
+use Rattle.jsteps.specs.Nodes.{Indexed, indexed, index_by, nodes_of}
+use Rattle.jsteps.specs.Refusals.{plans_of, steps_of_first}
+use Rattle.jsteps.specs.declared.op.Op.{Op}
 use Rattle.jsteps.specs.Steps.{bytes, after}
 use Rattle.jsteps.specs.declared.step.Step.{Step}
 use Rattle.jsteps.proofs.ConsistentLemmas.{index_is_consistent}
 use Rattle.jexpand.specs.Expanded.{expanded_nodes}
 use Rattle.jexpand.proofs.SightedLemmas.{size_some, size_words}
 use Rattle.jview.specs.Through.{MountsThroughAs, IsMountThroughOf, first_fault}
-use Rattle.jlog.specs.Places.{places, is_writable_flash}
+use Rattle.jlog.specs.Places.{places, fit, is_writable_flash}
 use Rattle.jlog.specs.Output.{output}
 use Rattle.jlog.specs.Left.{IsLeft, count_whole}
-use Rattle.jlog.specs.Headline.{is_flash_of}
-use Rattle.jlog.specs.HeadlineThrough.{state_through, index_through}
+use Rattle.jlog.specs.Headline.{is_flash_of, resume_address}
+use Rattle.jlog.specs.HeadlineThrough.{state_through, IsBaseThrough, index_through, AreAcceptedAs, SurvivesAs}
+use Rattle.jlog.specs.Packed.{AreNodeForms}
 use Rattle.jlog.proofs.ByteLemmas.{block_byte}
-use Rattle.jlog.proofs.HeadlineThroughLemmas.{all_fit_through}
+use Rattle.jlog.proofs.HeadlineThroughLemmas.{all_fit_through, forms_survive}
 use Rattle.jlog.proofs.PlaceLemmas.{times_words}
 use Rattle.jlog.proofs.ResumeLemmas.{resumed_at}
 use Rattle.jrow.specs.Arranged.{taken_blocks, blank_last, arranged, row_start, BaseIsArranged, ArrangedMounts, RowIsTail, ArrangedBegins, ArrangedSurvives}
+use Rattle.jrow.specs.HeadlineInRow.{AreAcceptedInRow, FormsSurviveInRow}
+use Rattle.jrow.specs.RowLeft.{IsLeftInRow}
 use Rattle.jrow.specs.Row.{blank_blocks, side_by_side}
 use Rattle.jrow.proofs.ArrangedLemmas.{AreSeenSame, arranged_seen, arranged_long, arranged_blank_from, blocks_parted, block_in_front, block_behind, taken_is_not_blank, row_is_blank}
 use Rattle.jrow.proofs.MergedLemmas.{none_of}
+use Rattle.jrow.proofs.MovedLemmas.{log_is_moved}
 use Rattle.jrow.proofs.OrderLemmas.{order_does_not_matter}
 use Rattle.jrow.proofs.RowLemmas.{other_blocks_stay}
 use Rattle.jrow.proofs.SideLemmas.{side_block, div_within, div_parts, mod_small}
@@ -222,23 +228,119 @@ arranged_begins flash at m is are_bytes resumes =
       };
     }
 
-pub arranged_survives : ArrangedSurvives
-arranged_survives e size blocks base steps forms is_base survive none k image within left =
+-- what an arranged image mounts through as, the image does, from the base's file system on
+mounts_back : (e : Endian) (size blocks : ℕ) (base image : List ℕ) (steps : List Step) → IsBaseThrough e size blocks base → length image ≤ blocks * size
+    → MountsThroughAs e size (arranged e size blocks base image) (after bytes (state_through e size (arranged e size blocks base base)) steps)
+    → MountsThroughAs e size image (after bytes (state_through e size base) steps)
+mounts_back e size blocks base image steps is_base within mounts =
     let limits = limits_of size blocks base is_base.flash in
-    let some : 0 < size = omega (arith, size_some size limits.size_is) in
     let was : List ℕ = arranged e size blocks base base in
     let flash : List ℕ = arranged e size blocks base image in
-    let from : ℕ = row_start e size blocks base in
-    let arranged_is = base_is_arranged e size blocks base is_base.flash in
     let seen : AreSeenSame e size was base = arranged_seen e size blocks base base limits.size_is limits.within in
     let state : state_through e size was ≡ state_through e size base =
     sym (order_does_not_matter (expanded_nodes e size base) (expanded_nodes e size was) (same_sym (expanded_nodes e size was) (expanded_nodes e size base) seen.nodes) is_base.mounts.sound.apart).state in
+    (arranged_mounts e size blocks base image (after bytes (state_through e size base) steps) limits.size_is limits.small within).1
+    (subst (λ (s : State). MountsThroughAs e size flash (after bytes s steps)) state mounts)
+
+pub arranged_survives : ArrangedSurvives
+arranged_survives e size blocks base steps forms is_base survive none k image within left =
+    let some : 0 < size = omega (arith, size_some size (limits_of size blocks base is_base.flash).size_is) in
+    let was : List ℕ = arranged e size blocks base base in
+    let from : ℕ = row_start e size blocks base in
     let cuts = subst
     (λ (c : ℕ). (i : ℕ) (other : List ℕ) → i ≤ length (output e size c forms) → IsLeft e size blocks was c (output e size c forms) i other
     → MountsThroughAs e size other (after bytes (state_through e size was) (take (count_whole c (output e size c forms) i (places size c forms)) steps)))
-    arranged_is.resumes (survive.cuts none) in
-    let kept : List Step = take (count_whole from (output e size from forms) k (places size from forms)) steps in
-    let mounts : MountsThroughAs e size flash (after bytes (state_through e size was) kept) =
-    cuts k flash within (row_is_tail e size blocks k base (output e size from forms) image some left) in
-    (arranged_mounts e size blocks base image (after bytes (state_through e size base) kept) limits.size_is limits.small left.no_longer).1
-    (subst (λ (s : State). MountsThroughAs e size flash (after bytes s kept)) state mounts)
+    (base_is_arranged e size blocks base is_base.flash).resumes (survive.cuts none) in
+    mounts_back e size blocks base image (take (count_whole from (output e size from forms) k (places size from forms)) steps) is_base left.no_longer
+    (cuts k (arranged e size blocks base image) within (row_is_tail e size blocks k base (output e size from forms) image some left))
+
+whole_survives : (e : Endian) (size blocks : ℕ) (base : List ℕ) (steps : List Step) (forms : List (List ℕ)) → IsBaseThrough e size blocks base
+    → SurvivesAs e size blocks (arranged e size blocks base base) steps forms
+    → let out = output e size (row_start e size blocks base) forms in
+    (image : List ℕ) → IsLeftInRow e size blocks base (blank_blocks e size blocks base) out (length out) image
+    → MountsThroughAs e size image (after bytes (state_through e size base) steps)
+whole_survives e size blocks base steps forms is_base survive image left =
+    let some : 0 < size = omega (arith, size_some size (limits_of size blocks base is_base.flash).size_is) in
+    let was : List ℕ = arranged e size blocks base base in
+    let out : List ℕ = output e size (row_start e size blocks base) forms in
+    let whole = subst
+    (λ (c : ℕ). (other : List ℕ) → IsLeft e size blocks was c (output e size c forms) (length (output e size c forms)) other
+    → MountsThroughAs e size other (after bytes (state_through e size was) steps))
+    (base_is_arranged e size blocks base is_base.flash).resumes survive.whole in
+    mounts_back e size blocks base image steps is_base left.no_longer (whole (arranged e size blocks base image) (row_is_tail e size blocks (length out) base out image some left))
+
+-- ---- accepted operations
+
+-- a log that begins where the row does
+record BeginsAt (e : Endian) (size n : ℕ) (forms : List (List ℕ)) : Type 0 where
+  goes_out : output e size (n * size) forms ≡ output e size 0 forms
+  whole : (out : List ℕ) (k : ℕ) → count_whole (n * size) out k (places size (n * size) forms) ≡ count_whole 0 out k (places size 0 forms)
+  fits : (blocks : ℕ) → fit size (n + blocks) (n * size) forms ≡ fit size blocks 0 forms
+
+begins_at : (e : Endian) (size n : ℕ) (forms : List (List ℕ)) → 0 < size → size % 4 ≡ 0 → BeginsAt e size n forms
+begins_at e size n forms some words =
+    let moved = log_is_moved e size 0 n forms some words in
+    let here : n * size + 0 ≡ n * size = omega arith in
+    record {
+      goes_out = subst (λ (c : ℕ). output e size c forms ≡ output e size 0 forms) here moved.goes_out;
+      whole = λ out k. subst (λ (c : ℕ). count_whole c out k (places size c forms) ≡ count_whole 0 out k (places size 0 forms)) here (moved.whole out k);
+      fits = λ blocks. subst (λ (c : ℕ). fit size (n + blocks) c forms ≡ fit size blocks 0 forms) here (moved.fits blocks);
+    }
+
+arranged_base : (e : Endian) (size blocks : ℕ) (base : List ℕ) → IsBaseThrough e size blocks base → IsBaseThrough e size blocks (arranged e size blocks base base)
+arranged_base e size blocks base is_base =
+    let limits = limits_of size blocks base is_base.flash in
+    let mounts = (arranged_mounts e size blocks base base (state_through e size base) limits.size_is limits.small limits.within).0 is_base.mounts in
+    record {
+      flash = (base_is_arranged e size blocks base is_base.flash).flash;
+      mounts = record { sound = mounts.sound; root = mounts.root; same = refl };
+    }
+
+arranged_accepted : (page : ℕ) (e : Endian) (size blocks : ℕ) (base : List ℕ) (ops : List Op) (n : ℕ) (forms : List (List ℕ)) → IsBaseThrough e size blocks base
+    → AreAcceptedInRow page e size blocks base ops n forms → AreAcceptedAs page e size blocks (arranged e size blocks base base) ops n forms
+arranged_accepted page e size blocks base ops n forms is_base accepted =
+    let limits = limits_of size blocks base is_base.flash in
+    let some : 0 < size = omega (arith, size_some size limits.size_is) in
+    let was : List ℕ = arranged e size blocks base base in
+    let t : ℕ = length (taken_blocks e size blocks base) in
+    let m : ℕ = length (blank_blocks e size blocks base) in
+    let arranged_is = base_is_arranged e size blocks base is_base.flash in
+    let leads : index_through e size base ≡ index_through e size was = sym (arranged_is.leads is_base.mounts.sound.apart) in
+    let seen : AreSeenSame e size was base = arranged_seen e size blocks base base limits.size_is limits.within in
+    let fits : fit size blocks (resume_address e size blocks was) forms ≡ fit size m 0 forms =
+    ap₂ (λ (i c : ℕ). fit size i c forms) (sym (blocks_parted e size blocks base)) arranged_is.resumes ∙ (begins_at e size t forms some (size_words size limits.size_is)).fits m in
+    record {
+      planned = subst (λ (x : Indexed). n ≤ length (plans_of page x ops)) leads accepted.planned;
+      forms_on = record {
+        are = subst (λ (x : Indexed). AreNodeForms e (nodes_of x (steps_of_first page x ops n)) forms) leads accepted.forms_in.are;
+        fits = subst IsTrue (sym fits) accepted.forms_in.fits;
+        contents = omega (arith, seen.contents, accepted.forms_in.contents);
+      };
+    }
+
+pub forms_survive_in_row : FormsSurviveInRow
+forms_survive_in_row page e size blocks n base ops forms is_page room is_base are_bytes fit_ops accepted =
+    let limits = limits_of size blocks base is_base.flash in
+    let some : 0 < size = omega (arith, size_some size limits.size_is) in
+    let was : List ℕ = arranged e size blocks base base in
+    let row : List ℕ = blank_blocks e size blocks base in
+    let from : ℕ = row_start e size blocks base in
+    let arranged_is = base_is_arranged e size blocks base is_base.flash in
+    let steps : List Step = steps_of_first page (index_through e size base) ops n in
+    let survive : SurvivesAs e size blocks was steps forms =
+    subst (λ (x : Indexed). SurvivesAs e size blocks was (steps_of_first page x ops n) forms) (arranged_is.leads is_base.mounts.sound.apart)
+    (forms_survive page e size blocks n was ops forms is_page room (arranged_base e size blocks base is_base) (arranged_is.are_bytes are_bytes) fit_ops
+    (arranged_accepted page e size blocks base ops n forms is_base accepted)) in
+    let at = begins_at e size (length (taken_blocks e size blocks base)) forms some (size_words size limits.size_is) in
+    let same : output e size 0 forms ≡ output e size from forms = sym at.goes_out in
+    record {
+      cuts = λ none k image within left.
+          let count : count_whole from (output e size from forms) k (places size from forms) ≡ count_whole 0 (output e size 0 forms) k (places size 0 forms) =
+          ap (λ (o : List ℕ). count_whole from o k (places size from forms)) at.goes_out ∙ at.whole (output e size 0 forms) k in
+          subst (λ (i : ℕ). MountsThroughAs e size image (after bytes (state_through e size base) (take i steps))) count
+          (arranged_survives e size blocks base steps forms is_base survive none k image (subst (λ (o : List ℕ). k ≤ length o) same within)
+          (subst (λ (o : List ℕ). IsLeftInRow e size blocks base row o k image) same left));
+      whole = λ image left.
+          whole_survives e size blocks base steps forms is_base survive image
+          (subst (λ (o : List ℕ). IsLeftInRow e size blocks base row o (length o) image) same left);
+    }

@@ -8,9 +8,9 @@
 //!
 //! `specs/Row.antt` says what the row is, `specs/RowLeft.antt` what may be left of a write to it, and
 //! `specs/HeadlineInRow.antt` what survives. That holds since nodes make the same file system in
-//! whatever order they come (`specs/OrderLaws.antt`), and since the nodes of an image are those of
-//! its blocks (`specs/RowLaws.antt`). `specs/Arranged.antt` leads a row back to a tail: a session over
-//! the row is one over the flash with its blank blocks last.
+//! whatever order they come (`specs/OrderLaws.antt`), and the nodes of an image are those of its
+//! blocks (`specs/RowLaws.antt`): so a log in the row is one in the tail of the flash with its blank
+//! blocks last (`specs/Arranged.antt`), of which `jlog` knows what survives.
 #![tactic(auto)]
 
 pub mod examples;

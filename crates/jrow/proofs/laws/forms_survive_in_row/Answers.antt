@@ -1,4 +1,4 @@
-use Rattle.jrow.proofs.HeadlineLemmas.{forms_survive_in_row}
+use Rattle.jrow.proofs.TailLemmas.{forms_survive_in_row}
 use Rattle.jrow.proofs.laws.forms_survive_in_row.Goals as goal
 
 pub returns : goal.returns
