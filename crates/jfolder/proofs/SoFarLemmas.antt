@@ -181,6 +181,12 @@ leads_past known options items pending path told why lefts is these right before
   },
 )
 
+-- the same where the reason is given in other words
+pub leads_past_as : (known : Known) (options : Options) (items : List Item) (pending : Paths) (path told : List ℕ) (why other : Reason) (lefts : List LeftOut) → told ≡ path → lefts ≡ (told, other) ∷ []
+    → other ≡ why → IsRight known options items (path, why) → LeadsOn known options items (pending ++ path ∷ []) lefts
+leads_past_as known options items pending path told why other lefts is these same right =
+    leads_past known options items pending path told why lefts is (these ∙ ap (λ (w : Reason). (told, w) ∷ []) same) right
+
 -- what lies there is added, with some of the names in it
 pub leads_into : (known : Known) (options : Options) (items : List Item) (path : String Global) (found : Found) (pending : Paths) (lefts : List LeftOut)
     → NamesFit (known.names (inside (string_bytes path))) found.what found.names → IsToldAt known.looked options (inside (string_bytes path)) found.attributes

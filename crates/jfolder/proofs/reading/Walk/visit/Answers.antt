@@ -16,7 +16,7 @@ use Rattle.jfolder.proofs.LinkLemmas.{links_go_on, links_stay}
 use Rattle.jfolder.specs.SoFar.{LeadsOn, SomeUnlistedIn}
 use Rattle.jfolder.specs.declared.fault.ReadFault.TheVariants as ReadFault
 use Rattle.jfolder.proofs.NoteLemmas.{tells_as, tells_no_more}
-use Rattle.jfolder.proofs.SoFarLemmas.{leads_into, leads_past, stays}
+use Rattle.jfolder.proofs.SoFarLemmas.{leads_into, leads_past_as, stays}
 use Rattle.jfolder.proofs.ReasonLemmas.{all_unlisted_right, grown, left_as, not_grown}
 use Rattle.jfolder.proofs.WalkLemmas.{walk_goes_on}
 use Rattle.jfolder.proofs.WalkOrderLemmas.{next_in_turn, order_left}
@@ -80,8 +80,8 @@ returns-in-Err-LeftOut-clause-told g c =
       left_as known c.args.options.now old.items.items (string_bytes c.args.path) c.as_bytes.result.now c.in-Err-LeftOut.reason _ lefts these c.as_bytes.ensures.value (cc)
           (subst (λ (l : List ℕ). IsRight known c.args.options.now old.items.items (l, c.in-Err-LeftOut.reason)) c.as_str.ensures.value right),
     ))
-    (λ lefts these. leads_past known c.args.options.now old.items.items (texts old.pending.items) (string_bytes c.args.path) c.as_bytes.result.now c.in-Err-LeftOut.reason lefts c.as_bytes.ensures.value these
-    (subst (λ (l : List ℕ). IsRight known c.args.options.now old.items.items (l, c.in-Err-LeftOut.reason)) c.as_str.ensures.value right))
+    (λ lefts these. leads_past_as known c.args.options.now old.items.items (texts old.pending.items) (string_bytes c.args.path) c.as_bytes.result.now c.in-Err-LeftOut.reason _ lefts c.as_bytes.ensures.value these
+    (cc) (subst (λ (l : List ℕ). IsRight known c.args.options.now old.items.items (l, c.in-Err-LeftOut.reason)) c.as_str.ensures.value right))
     c.leave_out.ensures
 
 pub returns-clause-told : goal.returns-clause-told
@@ -89,7 +89,7 @@ returns-clause-told g c =
     let old = c.args.self.now in
     let known = g.F.HostFolder.known c.args.folder.now in
     let pending = texts old.pending.items ++ string_bytes c.args.path ∷ [] in
-    tells_no_more (Unit {0}) _ (LeadsOn known c.args.options.now old.items.items pending) (g.N.Sink.taken c.args.notes.now) (g.N.Sink.failures c.args.notes.now) old.left_out old.left_out
+    tells_no_more (Unit {0}) (λ _ _. Unit {0}) (LeadsOn known c.args.options.now old.items.items pending) (g.N.Sink.taken c.args.notes.now) (g.N.Sink.failures c.args.notes.now) old.left_out old.left_out
     (Err ReadFault.OutOfMemory) refl (stays known c.args.options.now old.items.items pending)
 
 pub returns-in-Ok-clause-more : goal.returns-in-Ok-clause-more
