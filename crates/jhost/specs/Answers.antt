@@ -1,5 +1,5 @@
 -- What an answer of the system comes to.
-use Rattle.std.specs.Prelude.{◌≡◌, Result, Ok, Err, ⊤}
+use Rattle.std.specs.Prelude.{Result, Ok, Err}
 use Rattle.std.specs.IoError.{error_kind}
 use Rattle.std.specs.declared.io.Error.{Error}
 use Rattle.std.specs.declared.io.ErrorKind.{ErrorKind}
@@ -12,14 +12,6 @@ abbrev pub fault_of_kind : ErrorKind → FolderFault
 fault_of_kind kind.OutOfMemory = folder.OutOfMemory
 fault_of_kind kind.InvalidFilename = folder.NoText
 fault_of_kind _ = folder.Refused
-
--- The kind that was noted with a fault comes to it. Memory may also run out before the host is
--- asked, and that it is the file of the listing is no error of the host.
-abbrev pub IsNoted : ErrorKind → FolderFault → Type 0
-IsNoted kind folder.Refused = fault_of_kind kind ≡ folder.Refused
-IsNoted kind folder.NoText = fault_of_kind kind ≡ folder.NoText
-IsNoted kind folder.Output = ⊤
-IsNoted kind folder.OutOfMemory = ⊤
 
 abbrev pub answer_of : {T : Type 0} → Result T Error → Result T FolderFault
 answer_of (Ok answer) = Ok answer

@@ -1,10 +1,9 @@
 //! A file of the system that is filled, holes among its bytes.
 
-ghost use Rattle.std.specs.Option.{option_map};
 ghost use Rattle.std.specs.Prelude.{◌≡◌, None};
+ghost use Rattle.std.specs.IoError.{error_kind};
 ghost use Rattle.jextract.specs.Cells.{Fails};
 ghost use Rattle.jhost.specs.FilledFaults.{filling_fault};
-ghost use Rattle.jhost.specs.FilledFolders.{file_kind};
 
 use jextract::{FilledFile, FolderFault};
 use std::fs::OpenFile;
@@ -20,15 +19,14 @@ pub struct HostFile<F: Write + Seek + OpenFile + Drop> {
     length: u64,
     /// Whether the last of them are in a hole. The system does not know of these yet.
     ends_in_hole: bool,
-    /// The kind of the host's last error, if there was one.
-    kind: Option<ErrorKind>,
+    fault: Option<FolderFault>,
 }
 
 /// What an error of the host is to a folder that is filled.
-pub(crate) fn fault_of(kind: ErrorKind) -> FolderFault
-    ensures { result ≡ filling_fault kind }
+pub(crate) fn fault_of(error: &io::Error) -> FolderFault
+    ensures { result ≡ filling_fault (error_kind error.now) }
 {
-    match kind {
+    match error.kind() {
         ErrorKind::OutOfMemory => FolderFault::OutOfMemory,
         ErrorKind::StorageFull | ErrorKind::QuotaExceeded => FolderFault::NoSpace,
         _ => FolderFault::Refused,
@@ -44,7 +42,7 @@ impl<F: Write + Seek + OpenFile + Drop> HostFile<F> {
             file,
             length: 0,
             ends_in_hole: false,
-            kind: None,
+            fault: None,
         }
     }
 
@@ -52,16 +50,15 @@ impl<F: Write + Seek + OpenFile + Drop> HostFile<F> {
         &self.file
     }
 
-    /// The kind of the host's last error, if there was one.
-    pub(crate) fn kind(&self) -> Option<ErrorKind>
-        ensures { result ≡ file_kind self.now }
+    pub(crate) fn fault(&self) -> Option<FolderFault>
+        ensures { result ≡ ⟦<HostFile<F> as FilledFile>⟧.fault self.now }
     {
-        self.kind
+        self.fault
     }
 
     /// Goes behind a hole, and writes all bytes.
     fn write_there(&mut self, bytes: &[u8]) -> io::Result<()>
-        ensures { self.new.kind ≡ self.old.kind }
+        ensures { self.new.fault ≡ self.old.fault }
     {
         if self.ends_in_hole {
             self.file.seek(SeekFrom::Start(self.length))?;
@@ -85,15 +82,15 @@ impl<F: Write + Seek + OpenFile + Drop> FilledFile for HostFile<F> {
     // What the system holds is not known.
     ghost cells = { λ _. None };
 
-    ghost fault = { λ s. option_map filling_fault (file_kind s) };
+    ghost fault = { λ s. s.fault };
 
     fn write(&mut self, bytes: &[u8]) -> Result<(), FolderFault> {
         match self.write_there(bytes) {
             Ok(()) => Ok(()),
             Err(error) => {
-                let kind = error.kind();
-                self.kind = Some(kind);
-                Err(fault_of(kind))
+                let fault = fault_of(&error);
+                self.fault = Some(fault);
+                Err(fault)
             }
         }
     }

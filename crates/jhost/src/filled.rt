@@ -5,7 +5,7 @@ ghost use Rattle.std.specs.Fs.{new_options, permissions_mode, with_create_new, w
 ghost use Rattle.std.specs.IoError.{error_kind};
 ghost use Rattle.jextract.specs.Folders.{Counts, counted_fault};
 ghost use Rattle.jhost.specs.FilledFaults.{filling_fault};
-ghost use Rattle.jhost.specs.FilledFolders.{file_kind, filled_kind, filled_root, kind_after};
+ghost use Rattle.jhost.specs.FilledFolders.{filled_kind, filled_root};
 ghost use Rattle.jhost.specs.Silence.{FillsInSilence, HidesFilling};
 
 use crate::file::{HostFile, fault_of};
@@ -124,20 +124,6 @@ impl<'r, R: Files + AllocGlobal + Clock + Eprint> FilledFolder<'r, R> {
         }
     }
 
-    /// Notes an error of this kind, and counts its fault. Answers that.
-    fn noted(&mut self, kind: ErrorKind) -> FolderFault
-        ensures fault { result ≡ filling_fault kind }
-        ensures counts { ⟦<FilledFolder<'r, R> as Folder>⟧.failures self.new
-            ≡ counted_fault (filling_fault kind)
-            (⟦<FilledFolder<'r, R> as Folder>⟧.failures self.old) }
-        ensures kind { filled_kind self.new ≡ kind }
-    {
-        let fault = fault_of(kind);
-        self.kind = kind;
-        self.count(fault);
-        fault
-    }
-
     /// What a call comes to, counted where the host is to blame.
     fn counted<T: Drop>(&mut self, done: io::Result<T>) -> Result<T, FolderFault>
         ensures counts { Counts (⟦<FilledFolder<'r, R> as Folder>⟧.failures self.old)
@@ -149,7 +135,12 @@ impl<'r, R: Files + AllocGlobal + Clock + Eprint> FilledFolder<'r, R> {
     {
         match done {
             Ok(made) => Ok(made),
-            Err(error) => Err(self.noted(error.kind())),
+            Err(error) => {
+                let fault = fault_of(&error);
+                self.kind = error.kind();
+                self.count(fault);
+                Err(fault)
+            }
         }
     }
 
@@ -221,19 +212,13 @@ impl<'r, R: Files + AllocGlobal + Clock + Eprint> Folder for FilledFolder<'r, R>
 
     ghost failures = { λ s. record { refused = s.failures; full = s.full } };
 
-    fn make_directory(&mut self, path: &str) -> Result<(), FolderFault>
-        ensures noted { IfErr result (λ fault. filling_fault (filled_kind self.new) ≡ fault) }
-        ensures same { OnOk result (filled_kind self.new ≡ filled_kind self.old) }
-    {
+    fn make_directory(&mut self, path: &str) -> Result<(), FolderFault> {
         self.progress.step();
         let done = self.make_directory_at(path);
         self.counted(done)
     }
 
-    fn make_file(&mut self, path: &str) -> Result<HostFile<R::File>, FolderFault>
-        ensures noted { IfErr result (λ fault. filling_fault (filled_kind self.new) ≡ fault) }
-        ensures same { OnOk result (filled_kind self.new ≡ filled_kind self.old) }
-    {
+    fn make_file(&mut self, path: &str) -> Result<HostFile<R::File>, FolderFault> {
         self.progress.step();
         let done = self.make_file_at(path);
         Ok(HostFile::new(self.counted(done)?))
@@ -244,19 +229,14 @@ impl<'r, R: Files + AllocGlobal + Clock + Eprint> Folder for FilledFolder<'r, R>
         path: &str,
         file: HostFile<R::File>,
         attributes: Attributes,
-    ) -> Result<(), FolderFault>
-        ensures noted { IfErr result (λ fault. filling_fault (filled_kind self.new) ≡ fault) }
-        ensures same { OnOk result (filled_kind self.new ≡ filled_kind self.old) }
-    {
+    ) -> Result<(), FolderFault> {
         let done = self.finish_file_at(path, &file, &attributes);
         self.counted(done)
     }
 
-    fn give_up_file(&mut self, _path: &str, file: HostFile<R::File>)
-        ensures noted { filled_kind self.new ≡ kind_after (file_kind file) (filled_kind self.old) }
-    {
-        if let Some(kind) = file.kind() {
-            self.noted(kind);
+    fn give_up_file(&mut self, _path: &str, file: HostFile<R::File>) {
+        if let Some(fault) = file.fault() {
+            self.count(fault);
         }
     }
 
@@ -265,28 +245,19 @@ impl<'r, R: Files + AllocGlobal + Clock + Eprint> Folder for FilledFolder<'r, R>
         path: &str,
         target: &str,
         attributes: Attributes,
-    ) -> Result<(), FolderFault>
-        ensures noted { IfErr result (λ fault. filling_fault (filled_kind self.new) ≡ fault) }
-        ensures same { OnOk result (filled_kind self.new ≡ filled_kind self.old) }
-    {
+    ) -> Result<(), FolderFault> {
         self.progress.step();
         let done = self.make_symlink_at(path, target, &attributes);
         self.counted(done)
     }
 
-    fn make_link(&mut self, path: &str, first: &str) -> Result<(), FolderFault>
-        ensures noted { IfErr result (λ fault. filling_fault (filled_kind self.new) ≡ fault) }
-        ensures same { OnOk result (filled_kind self.new ≡ filled_kind self.old) }
-    {
+    fn make_link(&mut self, path: &str, first: &str) -> Result<(), FolderFault> {
         self.progress.step();
         let done = self.make_link_at(path, first);
         self.counted(done)
     }
 
-    fn finish_directory(&mut self, path: &str, attributes: Attributes) -> Result<(), FolderFault>
-        ensures noted { IfErr result (λ fault. filling_fault (filled_kind self.new) ≡ fault) }
-        ensures same { OnOk result (filled_kind self.new ≡ filled_kind self.old) }
-    {
+    fn finish_directory(&mut self, path: &str, attributes: Attributes) -> Result<(), FolderFault> {
         let done = self.finish_directory_at(path, &attributes);
         self.counted(done)
     }

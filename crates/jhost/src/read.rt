@@ -4,7 +4,7 @@ ghost use Rattle.std.specs.Prelude.{◌≡◌, ◌++◌, ◌∷◌, [], IfErr, I
 ghost use Rattle.std.specs.Fs.{IsFile, file_type, metadata_len, metadata_mode};
 ghost use Rattle.std.specs.IoError.{error_kind};
 ghost use Rattle.jfolder.specs.Known.{named_of, nothing};
-ghost use Rattle.jhost.specs.Answers.{IsNoted, answer_of, fault_of_kind};
+ghost use Rattle.jhost.specs.Answers.{answer_of, fault_of_kind};
 ghost use Rattle.jhost.specs.NamesRead.{AddsEntry};
 ghost use Rattle.jhost.specs.JoinedPaths.{joined_path};
 ghost use Rattle.jhost.specs.ReadFolders.{last_kind, read_root, read_whole};
@@ -45,6 +45,16 @@ fn fault_of(error: &Error) -> FolderFault
         ErrorKind::OutOfMemory => FolderFault::OutOfMemory,
         ErrorKind::InvalidFilename => FolderFault::NoText,
         _ => FolderFault::Refused,
+    }
+}
+
+/// What a call of the host comes to.
+fn answered<T: Drop>(done: io::Result<T>) -> Result<T, FolderFault>
+    ensures { result ≡ answer_of done }
+{
+    match done {
+        Ok(answer) => Ok(answer),
+        Err(error) => Err(fault_of(&error)),
     }
 }
 
@@ -191,13 +201,10 @@ impl<'r, R: Files + AllocGlobal + Clock + Eprint> ReadFolder<'r, R> {
         ensures same { OnOk done (last_kind self.new ≡ last_kind self.old) }
         ensures root { read_root self.new ≡ read_root self.old }
     {
-        match done {
-            Ok(answer) => Ok(answer),
-            Err(error) => {
-                self.kind = error.kind();
-                Err(fault_of(&error))
-            }
+        if let Err(error) = &done {
+            self.kind = error.kind();
         }
+        answered(done)
     }
 
     /// The kind of the last error of the host; `Other` where there was none.
@@ -221,10 +228,7 @@ impl<'r, R: Files + AllocGlobal + Clock + Eprint> HostFolder for ReadFolder<'r, 
     // What the system tells is not known.
     ghost known = { λ _. nothing };
 
-    fn look(&mut self, path: &str) -> Result<Looked, FolderFault>
-        ensures noted { IfErr result (IsNoted (last_kind self.new)) }
-        ensures same { OnOk result (last_kind self.new ≡ last_kind self.old) }
-    {
+    fn look(&mut self, path: &str) -> Result<Looked, FolderFault> {
         self.progress.step();
         self.put_whole(path)?;
         let done = fs::symlink_metadata(self.rt, self.whole.as_str());
@@ -232,36 +236,24 @@ impl<'r, R: Files + AllocGlobal + Clock + Eprint> HostFolder for ReadFolder<'r, 
         self.told(&metadata)
     }
 
-    fn names(&mut self, path: &str) -> Result<Names, FolderFault>
-        ensures noted { IfErr result (IsNoted (last_kind self.new)) }
-        ensures same { OnOk result (last_kind self.new ≡ last_kind self.old) }
-    {
+    fn names(&mut self, path: &str) -> Result<Names, FolderFault> {
         self.put_whole(path)?;
         let done = names_in(self.rt, self.whole.as_str());
         self.answered(done)
     }
 
-    fn target(&mut self, path: &str) -> Result<String, FolderFault>
-        ensures noted { IfErr result (IsNoted (last_kind self.new)) }
-        ensures same { OnOk result (last_kind self.new ≡ last_kind self.old) }
-    {
+    fn target(&mut self, path: &str) -> Result<String, FolderFault> {
         self.put_whole(path)?;
         let done = fs::read_link(self.rt, self.whole.as_str());
         let target = self.answered(done)?;
         Ok(target.into_string())
     }
 
-    fn host_path(&mut self, path: &str) -> Result<String, FolderFault>
-        ensures noted { IfErr result (IsNoted (last_kind self.new)) }
-        ensures same { OnOk result (last_kind self.new ≡ last_kind self.old) }
-    {
+    fn host_path(&mut self, path: &str) -> Result<String, FolderFault> {
         Ok(self.joined(path)?)
     }
 
-    fn open(&mut self, path: &str) -> Result<(), FolderFault>
-        ensures noted { IfErr result (IsNoted (last_kind self.new)) }
-        ensures same { OnOk result (last_kind self.new ≡ last_kind self.old) }
-    {
+    fn open(&mut self, path: &str) -> Result<(), FolderFault> {
         self.put_whole(path)?;
         let done = fs::open(self.rt, self.whole.as_str());
         let _file = self.answered(done)?;
