@@ -1,9 +1,10 @@
 //! A file of the system that is filled, holes among its bytes.
 
+ghost use Rattle.std.specs.Option.{option_map};
 ghost use Rattle.std.specs.Prelude.{◌≡◌, None};
-ghost use Rattle.std.specs.IoError.{error_kind};
 ghost use Rattle.jextract.specs.Cells.{Fails};
 ghost use Rattle.jhost.specs.FilledFaults.{filling_fault};
+ghost use Rattle.jhost.specs.FilledFolders.{file_kind};
 
 use jextract::{FilledFile, FolderFault};
 use std::fs::OpenFile;
@@ -19,14 +20,15 @@ pub struct HostFile<F: Write + Seek + OpenFile + Drop> {
     length: u64,
     /// Whether the last of them are in a hole. The system does not know of these yet.
     ends_in_hole: bool,
-    fault: Option<FolderFault>,
+    /// The kind of the host's last error, if there was one.
+    kind: Option<ErrorKind>,
 }
 
 /// What an error of the host is to a folder that is filled.
-pub(crate) fn fault_of(error: &io::Error) -> FolderFault
-    ensures { result ≡ filling_fault (error_kind error.now) }
+pub(crate) fn fault_of(kind: ErrorKind) -> FolderFault
+    ensures { result ≡ filling_fault kind }
 {
-    match error.kind() {
+    match kind {
         ErrorKind::OutOfMemory => FolderFault::OutOfMemory,
         ErrorKind::StorageFull | ErrorKind::QuotaExceeded => FolderFault::NoSpace,
         _ => FolderFault::Refused,
@@ -42,7 +44,7 @@ impl<F: Write + Seek + OpenFile + Drop> HostFile<F> {
             file,
             length: 0,
             ends_in_hole: false,
-            fault: None,
+            kind: None,
         }
     }
 
@@ -50,15 +52,16 @@ impl<F: Write + Seek + OpenFile + Drop> HostFile<F> {
         &self.file
     }
 
-    pub(crate) fn fault(&self) -> Option<FolderFault>
-        ensures { result ≡ ⟦<HostFile<F> as FilledFile>⟧.fault self.now }
+    /// The kind of the host's last error, if there was one.
+    pub(crate) fn kind(&self) -> Option<ErrorKind>
+        ensures { result ≡ file_kind self.now }
     {
-        self.fault
+        self.kind
     }
 
     /// Goes behind a hole, and writes all bytes.
     fn write_there(&mut self, bytes: &[u8]) -> io::Result<()>
-        ensures { self.new.fault ≡ self.old.fault }
+        ensures { self.new.kind ≡ self.old.kind }
     {
         if self.ends_in_hole {
             self.file.seek(SeekFrom::Start(self.length))?;
@@ -82,15 +85,15 @@ impl<F: Write + Seek + OpenFile + Drop> FilledFile for HostFile<F> {
     // What the system holds is not known.
     ghost cells = { λ _. None };
 
-    ghost fault = { λ s. s.fault };
+    ghost fault = { λ s. option_map filling_fault (file_kind s) };
 
     fn write(&mut self, bytes: &[u8]) -> Result<(), FolderFault> {
         match self.write_there(bytes) {
             Ok(()) => Ok(()),
             Err(error) => {
-                let fault = fault_of(&error);
-                self.fault = Some(fault);
-                Err(fault)
+                let kind = error.kind();
+                self.kind = Some(kind);
+                Err(fault_of(kind))
             }
         }
     }

@@ -124,6 +124,20 @@ impl<'r, R: Files + AllocGlobal + Clock + Eprint> FilledFolder<'r, R> {
         }
     }
 
+    /// Notes an error of this kind, and counts its fault. Answers that.
+    fn noted(&mut self, kind: ErrorKind) -> FolderFault
+        ensures fault { result ≡ filling_fault kind }
+        ensures counts { ⟦<FilledFolder<'r, R> as Folder>⟧.failures self.new
+            ≡ counted_fault (filling_fault kind)
+            (⟦<FilledFolder<'r, R> as Folder>⟧.failures self.old) }
+        ensures kind { filled_kind self.new ≡ kind }
+    {
+        let fault = fault_of(kind);
+        self.kind = kind;
+        self.count(fault);
+        fault
+    }
+
     /// What a call comes to, counted where the host is to blame.
     fn counted<T: Drop>(&mut self, done: io::Result<T>) -> Result<T, FolderFault>
         ensures counts { Counts (⟦<FilledFolder<'r, R> as Folder>⟧.failures self.old)
@@ -135,12 +149,7 @@ impl<'r, R: Files + AllocGlobal + Clock + Eprint> FilledFolder<'r, R> {
     {
         match done {
             Ok(made) => Ok(made),
-            Err(error) => {
-                let fault = fault_of(&error);
-                self.kind = error.kind();
-                self.count(fault);
-                Err(fault)
-            }
+            Err(error) => Err(self.noted(error.kind())),
         }
     }
 
@@ -235,8 +244,8 @@ impl<'r, R: Files + AllocGlobal + Clock + Eprint> Folder for FilledFolder<'r, R>
     }
 
     fn give_up_file(&mut self, _path: &str, file: HostFile<R::File>) {
-        if let Some(fault) = file.fault() {
-            self.count(fault);
+        if let Some(kind) = file.kind() {
+            self.noted(kind);
         }
     }
 
