@@ -126,11 +126,11 @@ for order in little big; do
     run decompress "${flash[@]}" small.img again.img
     want 0 "decompressed 1 nodes 2 bytes 144" ""; same again.img plain_$order
     run ls --decompress "${flash[@]}" small.img; want 0 "$root"$'\n- 0644 11 12 20 14 2 /a' ""
-    # In the other order nothing is a node, and a note tells so.
+    # In the other order nothing is a node, and a fault tells so.
     other=big; [[ $order == little ]] || other=little
-    run decompress "${small[@]}" --endian $other packed_$order out.img
-    want 3 "decompressed 0 nodes 0 bytes 0" "$(noted "[1-9]*")"
-    line="no byte of nodes in the other order"; [[ ! -s out.img ]]; count $?
+    run decompress "${small[@]}" --endian $other packed_$order none.img
+    want 1 "" $'jffs2_image: I1 NoNodes\njffs2_image: note: the other byte order has 3 nodes, see --endian and info'
+    unmade none.img
     run ls --decompress "${small[@]}" --endian $other packed_$order
     want 0 "$root" "$(noted "[1-9]*")"
 done
