@@ -112,13 +112,7 @@ fn compare_files<'a, E: Order, L: Loader, T: Output>(
         Ok(image) => image,
         Err(fault) => return Err(fault),
     };
-    let answer = compare::<E, T>(
-        alloc,
-        asked,
-        first.as_slice(),
-        second.as_slice(),
-        output,
-    );
+    let answer = compare::<E, T>(alloc, asked, first.as_slice(), second.as_slice(), output);
     finished(answer, output)
 }
 

@@ -229,9 +229,7 @@ fn run_in_order<'a, E: Order, L: Loader, M: Maker, T: Sink>(
             force,
             image,
             output,
-        } => {
-            decompress::<E, _, _, _>(alloc, loader, maker, options, force, image, output, sink)
-        }
+        } => { decompress::<E, _, _, _>(alloc, loader, maker, options, force, image, output, sink) }
     }
 }
 

@@ -10,15 +10,9 @@ use jline::LineBuffer;
 pub enum ImageFault<'a> {
     /// No node is found in it, though it is not blank; in the other byte order there are `others`.
     /// Where several images are read, it is the one of this name.
-    NoNodes {
-        name: Option<&'a str>,
-        others: u64,
-    },
+    NoNodes { name: Option<&'a str>, others: u64 },
     /// It has so many findings, and is the file of this name, which the command would write over.
-    Findings {
-        name: &'a str,
-        findings: u64,
-    },
+    Findings { name: &'a str, findings: u64 },
 }
 
 /// What comes before the name in the fault's text, and the name.
@@ -32,7 +26,10 @@ pub(crate) fn push_image_fault<'a>(line: &mut LineBuffer, fault: ImageFault<'a>)
             line.push_text(b"I1 NoNodes");
             ""
         }
-        ImageFault::NoNodes { name: Some(name), .. } => {
+        ImageFault::NoNodes {
+            name: Some(name),
+            ..
+        } => {
             line.push_text(b"I1 NoNodes ");
             name
         }

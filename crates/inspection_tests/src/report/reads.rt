@@ -347,7 +347,11 @@ fn images_that_are_refused(rt: HostRuntime) -> Result<(), Fail> {
     let refused = refuse_no_nodes::<BigEndian>(&image, GEOMETRY, Some("a")).err();
     equal(&rt, refused, Some(no_nodes(1)));
     let small = Geometry { block: 4097 };
-    equal(&rt, refuse_no_nodes::<BigEndian>(&image, small, None), Ok(()));
+    equal(
+        &rt,
+        refuse_no_nodes::<BigEndian>(&image, small, None),
+        Ok(()),
+    );
     Ok(())
 }
 

@@ -184,9 +184,7 @@ fn shown_task(alloc: Global, task: Task<'_>) -> Result<String, AllocError> {
             shown_copy(alloc, "compress", it.options, it.force, it.image, it.output)
         }
         Task::Diff(asked) => shown_comparison(alloc, asked),
-        Task::Apart(it) => {
-            shown_copy(alloc, "apart", it.options, it.force, it.image, it.output)
-        }
+        Task::Apart(it) => { shown_copy(alloc, "apart", it.options, it.force, it.image, it.output) }
         Task::Damage(asked) => shown_examination(alloc, asked),
         Task::Pack(asked) => shown_packing(alloc, asked),
     }
