@@ -9,8 +9,8 @@ _jffs2_image_options() {
         ls | cat) echo "$plain --decompress $help" ;;
         build) echo "$plain $write --weak $place $help" ;;
         append) echo "$plain $write --weak $place --decompress $help" ;;
-        decompress) echo "$plain --clashes --atomic $help" ;;
-        compress) echo "$plain --atomic $help" ;;
+        decompress) echo "$plain --clashes --atomic --force $help" ;;
+        compress) echo "$plain --atomic --force $help" ;;
         extract) echo "$plain --decompress --owners --quiet $help" ;;
         listing) echo "--owner --time --quiet $help" ;;
         info) echo "$help" ;;

@@ -43,6 +43,8 @@ complete -c jffs2_image -n '__jffs2_image_in build append pack' -l weak -d 'Note
 complete -c jffs2_image -n '__jffs2_image_in build append pack' -l pad -d 'Fill OUT with 0xFF'
 complete -c jffs2_image -n '__jffs2_image_in build append decompress compress pack' -l atomic \
     -d 'Leave an old OUT unless all goes well'
+complete -c jffs2_image -n '__jffs2_image_in decompress compress' -l force \
+    -d 'Write over an IMAGE that is OUT'
 complete -c jffs2_image -n '__jffs2_image_in extract listing pack' -l quiet -d 'Tell no progress'
 complete -c jffs2_image -n '__jffs2_image_in listing pack' -l owner -x -d 'Owner and group'
 complete -c jffs2_image -n '__jffs2_image_in listing pack' -l time -x -d 'Time of everything'

@@ -45,7 +45,7 @@ def options_in(body, bodies):
     """The options that a function makes, and those of the functions that it begins with."""
     made = r'\bmake_(?:option|required_option|optional|optional_two|flag)\(\s*alloc,\s*"(\w+)"'
     options = {f"--{name}" for name in re.findall(made, body)}
-    makers = "make_plain|make_writer|make_noting|add_atomic|add_placing|add_settings"
+    makers = "make_plain|make_writer|make_noting|add_atomic|add_replacing|add_placing|add_settings"
     for below in re.findall(rf"\b({makers})\(", body):
         options |= options_in(bodies[below], bodies)
     return options

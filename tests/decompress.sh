@@ -126,11 +126,11 @@ for order in little big; do
     run decompress "${flash[@]}" small.img again.img
     want 0 "decompressed 1 nodes 2 bytes 144" ""; same again.img plain_$order
     run ls --decompress "${flash[@]}" small.img; want 0 "$root"$'\n- 0644 11 12 20 14 2 /a' ""
-    # In the other order nothing is a node, and a note tells so.
+    # In the other order nothing is a node, and a fault tells so.
     other=big; [[ $order == little ]] || other=little
-    run decompress "${small[@]}" --endian $other packed_$order out.img
-    want 3 "decompressed 0 nodes 0 bytes 0" "$(noted "[1-9]*")"
-    line="no byte of nodes in the other order"; [[ ! -s out.img ]]; count $?
+    run decompress "${small[@]}" --endian $other packed_$order none.img
+    want 1 "" $'jffs2_image: I1 NoNodes\njffs2_image: note: the other byte order has 3 nodes, see --endian and info'
+    unmade none.img
     run ls --decompress "${small[@]}" --endian $other packed_$order
     want 0 "$root" "$(noted "[1-9]*")"
 done
@@ -372,7 +372,7 @@ run ls --decompress root_file; want 1 "" "jffs2_image: M6 RootKind"
 # Of damage there is a note, as without --decompress. The status is 3 if an image or a folder is made of it, and else
 # stays 0.
 run decompress damaged out.img; want 3 "decompressed 1 nodes 2 bytes 144" "$(noted 1)"
-cp damaged image; run decompress --atomic image image; want 3 "decompressed 1 nodes 2 bytes 144" "$(noted 1)"; same image out.img
+cp damaged image; run decompress --atomic --force image image; want 3 "decompressed 1 nodes 2 bytes 144" "$(noted 1)"; same image out.img
 run check out.img; want 0 "*findings 0"$'\nmount ok' ""
 run ls --decompress damaged; want 0 "$root"$'\n- 0644 11 12 18 14 2 /a' "$(noted 1)"
 run cat --decompress damaged /a; want 0 "abcabcabcabcabcabc" "$(noted 1)"
@@ -398,6 +398,60 @@ run decompress damaged plain.img; head -c 3 /dev/zero | cat plain.img - > dirty.
 run compress dirty.img out.img; want 3 "compressed 1 nodes 2 bytes *" "$(noted 1)"
 run compress --atomic dirty.img again.img; want 3 "compressed 1 nodes 2 bytes *" "$(noted 1)"; same again.img out.img
 run compress dirty.img /dev/full; want 1 "" "jffs2_image: S4 Sink$no_space"
+# An image in which no node is found is refused before anything is made, unless it is blank.
+others=$'jffs2_image: I1 NoNodes\njffs2_image: note: the other byte order has [1-9]* nodes, see --endian and info'
+no_node="note: no node is found in either byte order, see info"
+bare=$'jffs2_image: I1 NoNodes\njffs2_image: '"$no_node"
+head -c 70000 /dev/zero | tr '\0' U > dirt
+{ erased 65532; bytes 0 0 0 0; } > zeros
+marker > marked
+for words in decompress "decompress --clashes higher" compress; do
+    for option in "" --atomic --force; do
+        cp good image; run $words $option --endian big image image; want 1 "" "$others"; same image good
+        run $words $option --endian big good none.img; want 1 "" "$others"; unmade none.img
+        run $words $option dirt none.img; want 1 "" "$bare"; unmade none.img
+        cp blank there.img; run $words $option zeros there.img; want 1 "" "$bare"; same there.img blank
+    done
+    run $words --block 4097 dirt none.img; want 1 "" "jffs2_image: M1 BlockSize$block_note"; unmade none.img
+    run $words marked out.img; want 0 "* 0 nodes 0 bytes 0" ""
+    run $words empty out.img; want 0 "* 0 nodes 0 bytes 0" ""
+done
+for words in "extract dirt none.img" "extract --decompress zeros none.img" "extract dirt none.img /a" "damage dirt"; do
+    run $words; want 1 "" "$bare"; unmade none.img
+done
+run extract --endian big good none.img; want 1 "" "$others"; unmade none.img
+for words in "dirt /dev/null" "/dev/null dirt" "dirt dirt" "blank dirt" "good dirt"; do
+    run diff $words; want 1 "" $'jffs2_image: I1 NoNodes dirt\njffs2_image: '"$no_node"
+done
+run diff --endian big blank good
+want 1 "" $'jffs2_image: I1 NoNodes good\njffs2_image: note: the other byte order has [1-9]* nodes, see --endian and info'
+for name in blank empty marked; do
+    run diff $name /dev/null; want 0 "" ""
+    run damage $name; want 0 "total damaged 0 paths 0 missing 0" ""
+    run extract $name made; want 0 "" ""; rm -rf made
+done
+# One with findings is not written over without --force, whatever its names are.
+spared() {
+    printf 'jffs2_image: I2 Findings\njffs2_image: note: %s would be replaced, and has 1 finding, ' "$1"
+    printf 'see check --scan; --force does it all the same'
+}
+ln -s image soft; rm -f image; cp damaged image; ln image hard
+for words in decompress "decompress --clashes higher"; do
+    for option in "" --atomic; do
+        for names in "image image" "image hard" "hard image" "soft image" "image soft" "./image image"; do
+            run $words $option $names; want 1 "" "$(spared "${names% *}")"; same image damaged; same hard damaged
+        done
+    done
+    run $words damaged out.img; want 3 "decompressed 1 nodes 2 bytes 144" "$(noted 1)"
+    run $words --force image soft; want 3 "decompressed 1 nodes 2 bytes 144" "$(noted 1)"; same image out.img
+    cat damaged > image
+done
+cat dirty.img > image
+run compress image hard; want 1 "" "$(spared image)"; same image dirty.img
+run compress --force --atomic dirty.img out.img; want 3 "compressed 1 nodes 2 bytes *" "$(noted 1)"
+run compress --force image image; want 3 "compressed 1 nodes 2 bytes *" "$(noted 1)"; same image out.img
+run ls --force image; want 2 "" "error: unexpected argument '--force' found*"
+rm -f image hard soft
 # OUT that cannot be made
 run compress plain_little nowhere/out.img; want 1 "" "$(unopened nowhere/out.img)"
 run decompress good nowhere/out.img; want 1 "" "$(unopened nowhere/out.img)"

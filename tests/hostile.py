@@ -716,15 +716,19 @@ def on_converted(about, image, size, order):
     write("any.img", image)
     about, sign = f"{about}, {order}, blocks of {size}", packed.ORDERS[order]
     words = ["--block", str(size), "--endian", order]
-    result, why = opened.decompress(image, size, sign)
+    result, _ = opened.decompress(image, size, sign)
+    made_of, why = opened.command(image, size, sign)
     _, found, _, count = model.report(image, size, sign)
     note = findings_note(count)
     done, made = tried(["decompress", *words, "any.img", "out.img"])
-    if why:
+    if why == "I1 NoNodes":
+        wanted = Done(1, b"", f"jffs2_image: {why}\n{opened.others_note(image, size, sign)}".encode())
+        verdict(f"decompress of {about}", (done, made) == (wanted, None), done)
+    elif why:
         verdict(f"decompress of {about}", (done, made) == (fault(why), None), done)
     else:
-        wanted = Done(3 if count else 0, text([opened.line_of(result)]), note)
-        verdict(f"decompress of {about}", (done, made) == (wanted, result.image), done)
+        wanted = Done(3 if count else 0, text([opened.line_of(made_of)]), note)
+        verdict(f"decompress of {about}", (done, made) == (wanted, made_of.image), done)
     plain = model.refusal(found)
     done = run(["ls", *words, "any.img"])
     verdict(f"ls of {about}", done == refusal(plain) or not plain and done.status == 0, done)

@@ -354,7 +354,14 @@ run diff one.img flipped; want 3 "*- d 0755 0 0 0 /d*" "$(named flipped 1)"
 run diff flipped one.img; want 3 "*+ d 0755 0 0 0 /d*" "$(named flipped 1)"
 cp flipped $'a\nb'; run diff one.img $'a\nb'; want 3 "*" "$(named 'a\\\\x0ab' 1)"
 run damage one.img; want 0 "total damaged 0 paths 0 missing 0" ""
-run damage other; want 3 "total damaged 0 paths 0 missing 0" "$(noted 1)"
+run damage flipped; want 3 "*total damaged 1 *" "$(noted 1)"
+# Where no node is found that is a fault, of diff with the name of the image.
+no_node="note: no node is found in either byte order, see info"
+run damage other; want 1 "" $'jffs2_image: I1 NoNodes\njffs2_image: '"$no_node"
+for words in "other flipped" "one.img other" "empty other" "other other"; do
+    run diff $words; want 1 "" $'jffs2_image: I1 NoNodes other\njffs2_image: '"$no_node"
+done
+cp other $'a\nb'; run diff one.img $'a\nb'; want 1 "" $'jffs2_image: I1 NoNodes a\\\\x0ab\njffs2_image: '"$no_node"
 line="diff of images with findings, and standard error closed"
 "$program" diff flipped flipped > out 2>&-; got=$?; : > err; want 3 "" ""
 line="diff of images with findings, and standard output full"

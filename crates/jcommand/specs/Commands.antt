@@ -92,17 +92,21 @@ append_app = with_rule
     (word (codes "LISTING")))
     (word (codes "OUT"))
 
--- `decompress [--clashes RULE] [--atomic] [--block N] [--endian ORDER] IMAGE OUT`
+-- the output may be the image, also where that has findings
+abbrev pub replacing : App → App
+replacing app = with_rule (atomic app) (flag (codes "force"))
+
+-- `decompress [--clashes RULE] [--atomic] [--force] [--block N] [--endian ORDER] IMAGE OUT`
 abbrev pub decompress_app : App
 decompress_app = with_rule
     (with_rule
-    (atomic (with_rule (plain_command (codes "decompress")) (option_of (codes "clashes"))))
+    (replacing (with_rule (plain_command (codes "decompress")) (option_of (codes "clashes"))))
     (word (codes "IMAGE"))) (word (codes "OUT"))
 
--- `compress [--atomic] [--block N] [--endian ORDER] IMAGE OUT`
+-- `compress [--atomic] [--force] [--block N] [--endian ORDER] IMAGE OUT`
 abbrev pub compress_app : App
 compress_app =
-    with_rule (with_rule (atomic (plain_command (codes "compress"))) (word (codes "IMAGE")))
+    with_rule (with_rule (replacing (plain_command (codes "compress"))) (word (codes "IMAGE")))
     (word (codes "OUT"))
 
 -- an owner and a time for all that a folder holds, and whether its reading tells no progress

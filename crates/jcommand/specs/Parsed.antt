@@ -70,7 +70,7 @@ pub data Parsed : Type 0 where
   CatParsed : Options → Bool → Text → Text → Parsed
   BuildParsed : Options → ℕ → Page → Text → Text → Parsed
   AppendParsed : Options → ℕ → Page → Bool → Text → Text → Text → Parsed
-  DecompressParsed : Options → Text → Text → Parsed
+  DecompressParsed : Options → Bool → Text → Text → Parsed
 
 abbrev pub view : Request → Parsed
 view (request.Scan options image) = ScanParsed options image.now
@@ -82,7 +82,8 @@ view (request.Build target listing) =
     BuildParsed target.options target.blocks target.page listing.now target.output.now
 view (request.Append target decompress image listing) = AppendParsed target.options target.blocks
     target.page decompress image.now listing.now target.output.now
-view (request.Decompress options image output) = DecompressParsed options image.now output.now
+view (request.Decompress options force image output) =
+    DecompressParsed options force image.now output.now
 
 -- an image of a folder of the host: of a flash of so many blocks, where they are given
 pub record PackingParsed : Type 0 where
@@ -107,9 +108,9 @@ pub data TaskParsed : Type 0 where
   ListingParsed : Option Owner → Option ℕ → Bool → Text → TaskParsed
   InfoParsed : Text → TaskParsed
   CutsParsed : Options → ℕ → Page → Option Text → Text → TaskParsed
-  CompressParsed : Options → Text → Text → TaskParsed
+  CompressParsed : Options → Bool → Text → Text → TaskParsed
   DiffParsed : Options → Bool → Text → Text → TaskParsed
-  ApartParsed : Options → Text → Text → TaskParsed
+  ApartParsed : Options → Bool → Text → Text → TaskParsed
   DamageParsed : Options → Text → TaskParsed
   PackParsed : PackingParsed → TaskParsed
 
@@ -136,9 +137,9 @@ task_view (task.Listing l) = ListingParsed l.owner l.time l.quiet l.folder.now
 task_view (task.Info image) = InfoParsed image.now
 task_view (task.Cuts x) =
     CutsParsed x.options x.blocks x.page (option_map (λ name. name.now) x.on) x.listing.now
-task_view (task.Compress c) = CompressParsed c.options c.image.now c.output.now
+task_view (task.Compress c) = CompressParsed c.options c.force c.image.now c.output.now
 task_view (task.Diff d) = DiffParsed d.options d.times d.first.now d.second.now
-task_view (task.Apart a) = ApartParsed a.options a.image.now a.output.now
+task_view (task.Apart a) = ApartParsed a.options a.force a.image.now a.output.now
 task_view (task.Damage d) = DamageParsed d.options d.image.now
 task_view (task.Pack p) = PackParsed (packing_view p)
 
@@ -149,7 +150,7 @@ options_of (request.List options decompress image path) = options
 options_of (request.Cat options decompress image path) = options
 options_of (request.Build target listing) = target.options
 options_of (request.Append target decompress image listing) = target.options
-options_of (request.Decompress options image output) = options
+options_of (request.Decompress options force image output) = options
 
 -- ---- by the rows of the subcommand's matches
 
@@ -177,6 +178,10 @@ check_in rows = image_in rows >>= λ p.
 -- whether what is read is decompressed
 abbrev pub is_decompressed : List Row → Bool
 is_decompressed rows = is_given (first_of (codes "decompress") rows)
+
+-- whether an image with findings may be written over
+abbrev pub is_forced : List Row → Bool
+is_forced rows = is_given (first_of (codes "force") rows)
 
 abbrev pub ls_in : List Row → Option Parsed
 ls_in rows = image_in rows >>= λ p.
@@ -213,8 +218,8 @@ is_apart (Some rule) = if bytes_eq rule (codes "higher") then Some true else Non
 abbrev pub decompress_in : List Row → Option TaskParsed
 decompress_in rows = image_in rows >>= λ p. first_of (codes "OUT") rows >>= λ output.
     is_apart (first_of (codes "clashes") rows) >>= λ apart.
-    Some (if apart then ApartParsed p.0 p.1 output
-    else ImageParsed (DecompressParsed p.0 p.1 output))
+    Some (if apart then ApartParsed p.0 (is_forced rows) p.1 output
+    else ImageParsed (DecompressParsed p.0 (is_forced rows) p.1 output))
 
 abbrev pub extract_in : List Row → Option TaskParsed
 extract_in rows = image_in rows >>= λ p. first_of (codes "DIR") rows >>= λ folder.
@@ -240,7 +245,7 @@ cuts_in rows = options_in rows >>= λ options. number_option (codes "blocks") ro
 
 abbrev pub compress_in : List Row → Option TaskParsed
 compress_in rows = image_in rows >>= λ p. first_of (codes "OUT") rows >>= λ output.
-    Some (CompressParsed p.0 p.1 output)
+    Some (CompressParsed p.0 (is_forced rows) p.1 output)
 
 abbrev pub diff_in : List Row → Option TaskParsed
 diff_in rows = options_in rows >>= λ options. first_of (codes "A") rows >>= λ first.
@@ -372,9 +377,9 @@ IsNoRequest (Some (ExtractParsed options decompress owners quiet image folder pa
 IsNoRequest (Some (ListingParsed owner time quiet folder)) = Unit {0}
 IsNoRequest (Some (InfoParsed image)) = Unit {0}
 IsNoRequest (Some (CutsParsed options blocks page on listing)) = Unit {0}
-IsNoRequest (Some (CompressParsed options image output)) = Unit {0}
+IsNoRequest (Some (CompressParsed options force image output)) = Unit {0}
 IsNoRequest (Some (DiffParsed options times first second)) = Unit {0}
-IsNoRequest (Some (ApartParsed options image output)) = Unit {0}
+IsNoRequest (Some (ApartParsed options force image output)) = Unit {0}
 IsNoRequest (Some (DamageParsed options image)) = Unit {0}
 IsNoRequest (Some (PackParsed packing)) = Unit {0}
 IsNoRequest _ = ⊥

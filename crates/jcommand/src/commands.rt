@@ -2,7 +2,7 @@
 //! takes.
 ghost use Rattle.std.specs.Prelude.{◌≡◌, Ok};
 ghost use Rattle.clap.specs.Words.{App, Rule, new_app, with_rule, with_subcommand};
-ghost use Rattle.jcommand.specs.Commands.{IsApp, IsRule, MakesApp, word, optional_word, option_or, required_option, option_of, option_of_two, flag, plain_command, writer, noting, check_app, ls_app, cat_app, build_app, append_app, decompress_app, compress_app, extract_app, listing_app, info_app, cuts_app, diff_app, damage_app, pack_app, atomic, placing, folder_settings, bare, program};
+ghost use Rattle.jcommand.specs.Commands.{IsApp, IsRule, MakesApp, word, optional_word, option_or, required_option, option_of, option_of_two, flag, plain_command, writer, noting, check_app, ls_app, cat_app, build_app, append_app, decompress_app, compress_app, extract_app, listing_app, info_app, cuts_app, diff_app, damage_app, pack_app, atomic, replacing, placing, folder_settings, bare, program};
 
 use crate::help;
 use clap::{Arg, ArgAction, Command};
@@ -172,7 +172,16 @@ fn add_atomic<'a>(alloc: Global, command: Made<'a>) -> Made<'a>
     add_arg(command, flag)
 }
 
-/// The same, and the output is filled up to the end of the flash where that is asked for.
+/// The same, and the output may be the image, also where that has findings, where that is asked for.
+fn add_replacing<'a>(alloc: Global, command: Made<'a>) -> Made<'a>
+    ensures { (app : App) → MakesApp command.entry app → MakesApp result (replacing app) }
+{
+    let flag = make_flag(alloc, "force", help::FORCE);
+    add_arg(add_atomic(alloc, command), flag)
+}
+
+/// The command whose output takes its name only when all is written, and is filled up to the end of
+/// the flash, where these are asked for.
 fn add_placing<'a>(alloc: Global, command: Made<'a>) -> Made<'a>
     ensures { (app : App) → MakesApp command.entry app → MakesApp result (placing app) }
 {
@@ -213,7 +222,7 @@ fn make_decompress<'a>(alloc: Global) -> Made<'a>
         help::DECOMPRESS,
         help::DECOMPRESS_EPILOGUE,
     );
-    let command = add_atomic(alloc, add_arg(command, clashes));
+    let command = add_replacing(alloc, add_arg(command, clashes));
     add_arg(add_arg(command, image), output)
 }
 
@@ -223,7 +232,7 @@ fn make_compress<'a>(alloc: Global) -> Made<'a>
     let image = make_word(alloc, "IMAGE", help::IMAGE);
     let output = make_word(alloc, "OUT", help::OUT);
     let command = make_plain(alloc, "compress", help::COMPRESS, help::COMPRESS_EPILOGUE);
-    add_arg(add_arg(add_atomic(alloc, command), image), output)
+    add_arg(add_arg(add_replacing(alloc, command), image), output)
 }
 
 fn make_extract<'a>(alloc: Global) -> Made<'a>

@@ -39,6 +39,8 @@ pub(crate) const PAD: &str = "Fill OUT with 0xFF to the end of the flash";
 
 pub(crate) const ATOMIC: &str = "Leave an old OUT as it was unless all goes well";
 
+pub(crate) const FORCE: &str = "Write over an IMAGE that is OUT, whatever is found in it";
+
 pub(crate) const BLOCK: &str = "Erase block: 4096 to 4194304 bytes";
 
 pub(crate) const ENDIAN: &str = "Byte order: little or big";
@@ -313,9 +315,10 @@ with is left out of OUT, since Linux goes by that one. Each is told on standard
 error: 'left out A: clashes with B', where A and B are addresses in IMAGE, and B
 is the highest that clashes. Then the exit status is 3.
 
-IMAGE and OUT can be one file, since IMAGE is held in memory before OUT is made.
-But if the power, the host or the disk fails while OUT is written, the old bytes
-are gone. With --atomic they are kept until all is written.
+IMAGE and OUT can be one file, since IMAGE is held in memory before OUT is made;
+one with findings is written over with --force alone (I2 Findings). If the
+power, the host or the disk fails while OUT is written, the old bytes are gone.
+With --atomic they are kept until all is written.
 
 To look only, give ls, cat or extract --decompress: they do what they do of OUT,
 which is held in memory.
@@ -346,9 +349,10 @@ the nodes are compressed. All else is judged before OUT is made. M4 Compressed:
 a node of IMAGE is compressed already; give the image to decompress first. Z2
 TooLong: a node does not fit into a block after a marker.
 
-IMAGE and OUT can be one file, since IMAGE is held in memory before OUT is made.
-But if the power, the host or the disk fails while OUT is written, the old bytes
-are gone. With --atomic they are kept until all is written.
+IMAGE and OUT can be one file, since IMAGE is held in memory before OUT is made;
+one with findings is written over with --force alone (I2 Findings). If the
+power, the host or the disk fails while OUT is written, the old bytes are gone.
+With --atomic they are kept until all is written.
 
 Examples:
   jffs2_image compress flash.img small.img

@@ -84,12 +84,12 @@ pub fn known_requests()
         ∷ [])
         ≡ Some (ImageParsed
         (DecompressParsed (record { geometry = record { block = 8192 }; endian = Little })
-        (codes "a") (codes "b"))) }
+        false (codes "a") (codes "b"))) }
     ensures apart { parsed_from
         (codes "jffs2_image" ∷ codes "decompress" ∷ codes "a" ∷ codes "--clashes" ∷ codes "higher"
         ∷ codes "b" ∷ [])
         ≡ Some (ApartParsed (record { geometry = record { block = 65536 }; endian = Little })
-        (codes "a") (codes "b")) }
+        false (codes "a") (codes "b")) }
     ensures extracted { parsed_from
         (codes "jffs2_image" ∷ codes "extract" ∷ codes "--owners" ∷ codes "a" ∷ codes "b" ∷ [])
         ≡ Some (ExtractParsed (record { geometry = record { block = 65536 }; endian = Little })
@@ -119,7 +119,11 @@ pub fn known_requests()
         (codes "jffs2_image" ∷ codes "compress" ∷ codes "a" ∷ codes "--endian=big" ∷ codes "b"
         ∷ [])
         ≡ Some (CompressParsed (record { geometry = record { block = 65536 }; endian = Big })
-        (codes "a") (codes "b")) }
+        false (codes "a") (codes "b")) }
+    ensures compressed_over { parsed_from
+        (codes "jffs2_image" ∷ codes "compress" ∷ codes "--force" ∷ codes "a" ∷ codes "a" ∷ [])
+        ≡ Some (CompressParsed (record { geometry = record { block = 65536 }; endian = Little })
+        true (codes "a") (codes "a")) }
     ensures compared { parsed_from
         (codes "jffs2_image" ∷ codes "diff" ∷ codes "a" ∷ codes "--block=8192" ∷ codes "b" ∷ [])
         ≡ Some (DiffParsed (record { geometry = record { block = 8192 }; endian = Little }) false

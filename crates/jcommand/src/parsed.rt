@@ -72,9 +72,11 @@ pub enum Request<'a> {
         image: &'a str,
         listing: &'a str,
     },
-    /// `decompress`: an image of the same nodes, whose data are not compressed.
+    /// `decompress`: an image of the same nodes, whose data are not compressed; with `--force` also
+    /// over its image where that has findings.
     Decompress {
         options: Options,
+        force: bool,
         image: &'a str,
         output: &'a str,
     },
@@ -131,19 +133,22 @@ pub struct Cuts<'a> {
     pub listing: &'a str,
 }
 
-/// An image of the same nodes, of which those of regular files are compressed.
+/// An image of the same nodes, of which those of regular files are compressed; with `--force` also
+/// over its image where that has findings.
 #[derive(Clone, Copy)]
 pub struct Compression<'a> {
     pub options: Options,
+    pub force: bool,
     pub image: &'a str,
     pub output: &'a str,
 }
 
 /// An image of the nodes of one, whose data are not compressed, without those that one of a higher
-/// address clashes with.
+/// address clashes with; with `--force` also over its image where that has findings.
 #[derive(Clone, Copy)]
 pub struct Decompression<'a> {
     pub options: Options,
+    pub force: bool,
     pub image: &'a str,
     pub output: &'a str,
 }
@@ -439,14 +444,17 @@ fn decompress_at<'a>(found: &ArgMatches<'a>) -> Option<Task<'a>>
 {
     let (options, image) = image_at(found)?;
     let output = text_at(found, "OUT")?;
+    let force = is_given(found, "force");
     match apart(text_at(found, "clashes"))? {
         true => Some(Task::Apart(Decompression {
             options,
+            force,
             image,
             output,
         })),
         false => Some(Task::Image(Request::Decompress {
             options,
+            force,
             image,
             output,
         })),
@@ -561,6 +569,7 @@ fn compress_at<'a>(found: &ArgMatches<'a>) -> Option<Task<'a>>
     match text_at(found, "OUT") {
         Some(output) => Some(Task::Compress(Compression {
             options,
+            force: is_given(found, "force"),
             image,
             output,
         })),

@@ -171,6 +171,7 @@ roots_failed times s t a b c d program.NotRegular old new before now none nothin
 roots_failed times s t a b c d (program.NoSpace folder) old new before now none nothing put = absurd put
 roots_failed times s t a b c d (program.Data addr) old new before now none nothing put = absurd put
 roots_failed times s t a b c d (program.TooLong addr) old new before now none nothing put = absurd put
+roots_failed times s t a b c d (program.Image why) old new before now none nothing put = absurd put
 roots_failed times s t a b c d (program.Clash addr other) old new before now none nothing put = absurd put
 
 -- ---- a step
@@ -302,6 +303,7 @@ pair_stopped times s t w n program.NotRegular a b c count first before now far s
 pair_stopped times s t w n (program.NoSpace folder) a b c count first before now far same put = absurd put
 pair_stopped times s t w n (program.Data addr) a b c count first before now far same put = absurd put
 pair_stopped times s t w n (program.TooLong addr) a b c count first before now far same put = absurd put
+pair_stopped times s t w n (program.Image why) a b c count first before now far same put = absurd put
 pair_stopped times s t w n (program.Clash addr other) a b c count first before now far same put = absurd put
 
 pub differences_failed : (times : Bool) (s t : State) (old new : Option (List ℕ)) (before now : ℕ) (r : Result ℕ ProgramFault) (fault : ProgramFault)

@@ -201,6 +201,7 @@ spot_failed times s t w n name i j names left right program.NotRegular old new b
 spot_failed times s t w n name i j names left right (program.NoSpace folder) old new before now read put = absurd put
 spot_failed times s t w n name i j names left right (program.Data addr) old new before now read put = absurd put
 spot_failed times s t w n name i j names left right (program.TooLong addr) old new before now read put = absurd put
+spot_failed times s t w n name i j names left right (program.Image why) old new before now read put = absurd put
 spot_failed times s t w n name i j names left right (program.Clash addr other) old new before now read put = absurd put
 
 pub pair_step_failed : (times : Bool) (s t : State) (w n : Walk) (old new : Option (List ℕ)) (before now : ℕ) (r : Result (Option ℕ) ProgramFault) (fault : ProgramFault)

@@ -128,6 +128,7 @@ apart_not_written held e size output image old n stay left program.OutOfMemory i
 apart_not_written held e size output image old n stay left (program.NoSpace folder) is parts not = absurd not
 apart_not_written held e size output image old n stay left (program.Data addr) is parts not = absurd not
 apart_not_written held e size output image old n stay left (program.TooLong addr) is parts not = absurd not
+apart_not_written held e size output image old n stay left (program.Image why) is parts not = absurd not
 apart_not_written held e size output image old n stay left (program.Clash addr other) is parts not = absurd not
 
 -- ---- as a command

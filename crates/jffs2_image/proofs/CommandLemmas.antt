@@ -19,7 +19,7 @@ for_fault T e (BuildParsed options blocks page listing output) u reading writing
 for_fault T e (AppendParsed options blocks page decompress image listing output) u reading writing f (inl w) = inl (any_blame T u (MakesFile output writing.names_old writing.names_new) reading.before reading.now writing.before writing.now f w)
 for_fault T e (AppendParsed options blocks page decompress image listing output) u reading writing f (inr w) =
     inr (refused_any T decompress e options.geometry.block (reading.told image) _ f w)
-for_fault T e (DecompressParsed options image output) u reading writing f w = decompress_any T u (MakesFile output writing.names_old writing.names_new) reading.before reading.now writing.before writing.now f w
+for_fault T e (DecompressParsed options force image output) u reading writing f w = decompress_any T u (MakesFile output writing.names_old writing.names_new) reading.before reading.now writing.before writing.now f w
 
 pub for_answer : (T : Type 0) (e : Endian) (parsed : Parsed) (u : Type 0) (reading : FileReads) (writing : FileWrites) (n : ℕ) (x : T)
     → BlamesFor {T = ℕ} e parsed u reading writing (Ok n) → BlamesFor {T = T} e parsed u reading writing (Ok x)
@@ -31,7 +31,7 @@ for_answer T e (BuildParsed options blocks page listing output) u reading writin
 for_answer T e (AppendParsed options blocks page decompress image listing output) u reading writing n x (inl w) = inl w
 for_answer T e (AppendParsed options blocks page decompress image listing output) u reading writing n x (inr w) =
     absurd (refused_none ℕ decompress e options.geometry.block (reading.told image) _ n w)
-for_answer T e (DecompressParsed options image output) u reading writing n x w = w
+for_answer T e (DecompressParsed options force image output) u reading writing n x w = w
 
 -- an output that fails in the end blames no other file
 pub for_finished : (e : Endian) (parsed : Parsed) (u : Type 0) (reading : FileReads) (writing : FileWrites) (answer : Result ℕ ProgramFault) (all : Bool)
@@ -45,5 +45,5 @@ for_finished e (BuildParsed options blocks page listing output) u reading writin
 for_finished e (AppendParsed options blocks page decompress image listing output) u reading writing (Ok n) false (inl w) = inl w.2
 for_finished e (AppendParsed options blocks page decompress image listing output) u reading writing (Ok n) false (inr w) =
     absurd (refused_none ℕ decompress e options.geometry.block (reading.told image) _ n w)
-for_finished e (DecompressParsed options image output) u reading writing (Ok n) false w = w.2
+for_finished e (DecompressParsed options force image output) u reading writing (Ok n) false w = w.2
 for_finished e parsed u reading writing (Err f) all w = w

@@ -95,6 +95,7 @@ not_packed held e size output image old n program.OutOfMemory is not = (inr (is,
 not_packed held e size output image old n (program.NoSpace folder) is not = absurd not.3
 not_packed held e size output image old n (program.Data addr) is not = absurd not.3
 not_packed held e size output image old n (program.TooLong addr) is not = absurd not.3
+not_packed held e size output image old n (program.Image why) is not = absurd not.3
 not_packed held e size output image old n (program.Clash addr other) is not = absurd not.3
 
 -- it comes before a file is made
@@ -135,6 +136,7 @@ blames_any S T u v rb rn mb mn program.OutOfMemory blames = blames
 blames_any S T u v rb rn mb mn (program.NoSpace folder) blames = blames
 blames_any S T u v rb rn mb mn (program.Data addr) blames = blames
 blames_any S T u v rb rn mb mn (program.TooLong addr) blames = blames
+blames_any S T u v rb rn mb mn (program.Image why) blames = blames
 blames_any S T u v rb rn mb mn (program.Clash addr other) blames = blames
 
 -- ---- as a command

@@ -54,6 +54,7 @@ part_due told e size base text lines program.Output read unread = absurd unread
 part_due told e size base text lines (program.NoSpace folder) read unread = absurd unread
 part_due told e size base text lines (program.Data at) read unread = absurd unread
 part_due told e size base text lines (program.TooLong at) read unread = absurd unread
+part_due told e size base text lines (program.Image why) read unread = absurd unread
 part_due told e size base text lines (program.Clash at other) read unread = absurd unread
 
 pub part_blames : (told : List ℕ → Option (List ℕ)) (lines : List Line) (before now : ℕ) (f : ProgramFault) → IsPartUnread told lines f → IsReadFault before now f → BlamesReading before now (Err f)
@@ -73,6 +74,7 @@ part_blames told lines before now program.Output unread read = absurd unread
 part_blames told lines before now (program.NoSpace folder) unread read = absurd unread
 part_blames told lines before now (program.Data at) unread read = absurd unread
 part_blames told lines before now (program.TooLong at) unread read = absurd unread
+part_blames told lines before now (program.Image why) unread read = absurd unread
 part_blames told lines before now (program.Clash at other) unread read = absurd unread
 
 pub file_blames : (name : List ℕ) (told : Option (List ℕ)) (before now : ℕ) (f : ProgramFault) → IsUnreadFile name told f → IsReadFault before now f → BlamesReading before now (Err f)
@@ -92,6 +94,7 @@ file_blames name told before now program.Output unread read = absurd unread
 file_blames name told before now (program.NoSpace folder) unread read = absurd unread
 file_blames name told before now (program.Data at) unread read = absurd unread
 file_blames name told before now (program.TooLong at) unread read = absurd unread
+file_blames name told before now (program.Image why) unread read = absurd unread
 file_blames name told before now (program.Clash at other) unread read = absurd unread
 
 -- the base does not mount

@@ -12,11 +12,14 @@ use Rattle.jcommand.specs.Parsed.{DecompressParsed}
 use Rattle.jcommand.specs.declared.parsed.Options.{Options}
 use Rattle.jreport.specs.declared.faults.ProgramFault.{ProgramFault}
 use Rattle.jreport.specs.declared.faults.ProgramFault.TheVariants as program
-use Rattle.jffs2_image.specs.Decompressing.{DecompressesFile, IsNotConverted, IsNotWritten, fault_of_conversion, with_findings}
+use Rattle.jffs2_image.specs.Decompressing.{DecompressesFile, DecompressesOf, IsNotConverted, IsNotWritten, fault_of_conversion, with_findings}
 use Rattle.jffs2_image.specs.Host.{AreLoaded, Blames, BlamesDecompress, IsReadFault, IsRefusedBefore, ReadsFile}
 use Rattle.jffs2_image.specs.Runs.{Meets}
 use Rattle.jffs2_image.specs.Writes.{Held, IsUnreadFile}
 use Rattle.jreport.proofs.SinkLemmas.{sink_change}
+use Rattle.jreport.specs.declared.image_fault.ImageFault.{ImageFault}
+use Rattle.jffs2_image.specs.Judging.{Original, original}
+use Rattle.jffs2_image.proofs.JudgingLemmas.{kept_is}
 
 -- ---- faults of a conversion
 
@@ -102,6 +105,7 @@ not_written held e size output image made old n program.OutOfMemory is not = (in
 not_written held e size output image made old n (program.NoSpace folder) is not = absurd not
 not_written held e size output image made old n (program.Data addr) is not = absurd not
 not_written held e size output image made old n (program.TooLong addr) is not = absurd not
+not_written held e size output image made old n (program.Image why) is not = absurd not
 not_written held e size output image made old n (program.Clash addr other) is not = absurd not
 
 abbrev fault_or : ProgramFault → Result ℕ ProgramFault → ProgramFault
@@ -113,9 +117,9 @@ pub one_fault : {f g : ProgramFault} → IsErrOf {T = ℕ} {E = ProgramFault} (E
 one_fault {f} is = ap (fault_or f) is
 
 -- `decompress`
-pub decompress_unread : (told : List ℕ → Option (List ℕ)) (held : Held) (e : Endian) (options : Options) (name output : List ℕ) (old : Option (List ℕ)) (n : ℕ) (f : ProgramFault)
-    → IsUnreadFile name (told name) f → Meets told held e (DecompressParsed options name output) (sink_change old old n n) (Err f)
-decompress_unread told held e options name output old n f not = record {
+pub decompress_unread : (told : List ℕ → Option (List ℕ)) (held : Held) (e : Endian) (options : Options) (force : Bool) (name output : List ℕ) (old : Option (List ℕ)) (n : ℕ) (f : ProgramFault)
+    → IsUnreadFile name (told name) f → Meets told held e (DecompressParsed options force name output) (sink_change old old n n) (Err f)
+decompress_unread told held e options force name output old n f not = record {
   block_size = λ is. absurd (subst (IsUnreadFile name (told name)) (one_fault is) not);
   told_of = λ wrong. tt;
   put = inr (f, refl, not, refl, refl);
@@ -126,12 +130,21 @@ no_scan_made : (held : Held) (e : Endian) (size : ℕ) (output image : List ℕ)
 no_scan_made held e size output image old new before now (inl not, same, still) = no_scan not.0.0 (sym not.0.1)
 no_scan_made held e size output image old new before now (inr not, same, still) = not.2
 
-pub decompress_done : (told : List ℕ → Option (List ℕ)) (held : Held) (e : Endian) (options : Options) (name output image : List ℕ) (old new : Option (List ℕ)) (before now : ℕ) (done : Result ℕ ProgramFault)
-    → AreLoaded (told name) image → DecompressesFile held e options.geometry.block output image (sink_change old new before now) done
-    → Meets told held e (DecompressParsed options name output) (sink_change old new before now) done
-decompress_done told held e options name output image old new before now done of made = record {
-  block_size = λ wrong. absurd (no_scan_made held e options.geometry.block output image old new before now
-      (subst (DecompressesFile held e options.geometry.block output image (sink_change old new before now)) wrong made));
+-- nor of an image that is not converted
+no_scan_kept : (held : Held) (of : Original) (output image : List ℕ) (old new : Option (List ℕ)) (before now : ℕ)
+    → DecompressesOf held of output image (sink_change old new before now) (Err (program.Scan scan.BlockSize)) → ⊥
+no_scan_kept held of output image old new before now (over, inl (gone, not, made)) = no_scan_made held of.endian of.size output image old new before now made
+no_scan_kept held of output image old new before now (over, inr (fault, is, kept, still)) = not_kept (one_fault is ∙ (kept_is over of image fault kept).1)
+  where
+    not_kept : {why : ImageFault} → program.Scan scan.BlockSize ≡ program.Image why → ⊥
+    not_kept same = cc
+
+pub decompress_done : (told : List ℕ → Option (List ℕ)) (held : Held) (e : Endian) (options : Options) (force : Bool) (name output image : List ℕ) (old new : Option (List ℕ)) (before now : ℕ) (done : Result ℕ ProgramFault)
+    → AreLoaded (told name) image → DecompressesOf held (original e options.geometry.block name force) output image (sink_change old new before now) done
+    → Meets told held e (DecompressParsed options force name output) (sink_change old new before now) done
+decompress_done told held e options force name output image old new before now done of made = record {
+  block_size = λ wrong. absurd (no_scan_kept held (original e options.geometry.block name force) output image old new before now
+      (subst (DecompressesOf held (original e options.geometry.block name force) output image (sink_change old new before now)) wrong made));
   told_of = λ wrong. tt;
   put = inl (image, of, made);
 }
@@ -155,6 +168,7 @@ reads_fault T told before now program.OutOfMemory reads = tt
 reads_fault T told before now (program.NoSpace folder) reads = tt
 reads_fault T told before now (program.Data addr) reads = tt
 reads_fault T told before now (program.TooLong addr) reads = tt
+reads_fault T told before now (program.Image why) reads = tt
 reads_fault T told before now (program.Clash addr other) reads = tt
 
 -- a fault is none of an answer
@@ -175,6 +189,7 @@ reads_any T told before now program.OutOfMemory reads = reads
 reads_any T told before now (program.NoSpace folder) reads = reads
 reads_any T told before now (program.Data addr) reads = reads
 reads_any T told before now (program.TooLong addr) reads = reads
+reads_any T told before now (program.Image why) reads = reads
 reads_any T told before now (program.Clash addr other) reads = reads
 
 pub decompress_any : (T u v : Type 0) (rb rn mb mn : ℕ) (f : ProgramFault) → BlamesDecompress {T = ℕ} u v rb rn mb mn (Err f) → BlamesDecompress {T = T} u v rb rn mb mn (Err f)
@@ -200,6 +215,7 @@ decompress_any T u v rb rn mb mn program.OutOfMemory blames = blames
 decompress_any T u v rb rn mb mn (program.NoSpace folder) blames = blames
 decompress_any T u v rb rn mb mn (program.Data addr) blames = blames
 decompress_any T u v rb rn mb mn (program.TooLong addr) blames = blames
+decompress_any T u v rb rn mb mn (program.Image why) blames = blames
 decompress_any T u v rb rn mb mn (program.Clash addr other) blames = blames
 
 pub refused_any : (T : Type 0) (d : Bool) (e : Endian) (size : ℕ) (told : Option (List ℕ)) (u : Type 0) (f : ProgramFault)

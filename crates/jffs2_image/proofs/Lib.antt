@@ -3,6 +3,7 @@ mod CommandLemmas
 pub mod PlacingLemmas
 mod TakenLemmas
 mod ExtractingLemmas
+mod JudgingLemmas
 pub mod DamageLemmas
 pub mod DecompressingLemmas
 pub mod DiffLemmas

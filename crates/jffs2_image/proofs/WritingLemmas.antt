@@ -69,6 +69,7 @@ not_made held page e size blocks output base text m program.NotRegular old n sam
 not_made held page e size blocks output base text m (program.NoSpace folder) old n same mounts not = absurd not
 not_made held page e size blocks output base text m (program.Data addr) old n same mounts not = absurd not
 not_made held page e size blocks output base text m (program.TooLong addr) old n same mounts not = absurd not
+not_made held page e size blocks output base text m (program.Image why) old n same mounts not = absurd not
 not_made held page e size blocks output base text m (program.Clash addr other) old n same mounts not = absurd not
 not_made held page e size blocks output base text m program.Output old n same mounts not = absurd not
 not_made held page e size blocks output base text m program.OutOfMemory old n same mounts not = (tt, refl, refl)
@@ -186,7 +187,7 @@ appends told held page e options blocks name listing output base old new before 
 abbrev pub MakesNoFile : Parsed → Type 0
 MakesNoFile (BuildParsed options blocks page listing output) = ⊥
 MakesNoFile (AppendParsed options blocks page decompress image listing output) = ⊥
-MakesNoFile (DecompressParsed options image output) = ⊥
+MakesNoFile (DecompressParsed options force image output) = ⊥
 MakesNoFile _ = Unit {0}
 
 pub met_by_any : (told : List ℕ → Option (List ℕ)) (held later : Held) (e : Endian) (parsed : Parsed) (old new : Option (List ℕ)) (before now : ℕ) (answer : Result ℕ ProgramFault) → MakesNoFile parsed
@@ -198,7 +199,7 @@ met_by_any told held later e (ListParsed options decompress image (Some word)) o
 met_by_any told held later e (CatParsed options decompress image word) old new before now answer none m = record { block_size = m.block_size; told_of = m.told_of; put = m.put }
 met_by_any told held later e (BuildParsed options blocks page listing output) old new before now answer none m = absurd none
 met_by_any told held later e (AppendParsed options blocks page decompress image listing output) old new before now answer none m = absurd none
-met_by_any told held later e (DecompressParsed options image output) old new before now answer none m = absurd none
+met_by_any told held later e (DecompressParsed options force image output) old new before now answer none m = absurd none
 
 -- a file that was empty when it was made was handed back
 pub handed_back : (before mid after : Option (List (List ℕ))) (old given : Option (List ℕ)) → IfSome before (λ files. old ≡ Some []) → mid ≡ before

@@ -23,6 +23,7 @@ use Rattle.jreport.specs.declared.faults.ProgramFault.TheVariants as program
 use Rattle.jffs2_image.specs.Compressing.{CompressionAsked}
 use Rattle.jffs2_image.specs.Decompressing.{HoldsMade, IsNotConverted, IsNotWritten, line_of_counts}
 use Rattle.jffs2_image.specs.Host.{AreLoaded, BlamesDecompress, MakesFile}
+use Rattle.jffs2_image.specs.Judging.{OfConverted, PutsNothing, original}
 use Rattle.jffs2_image.specs.Runs.{GoesOut, IsSaid, either_found}
 use Rattle.jffs2_image.specs.Writes.{Held, IsUnreadFile, FileReads, FileWrites}
 use Rattle.jffs2_image.specs.declared.clashes.ApartDone.{ApartDone}
@@ -75,13 +76,17 @@ DecompressesApartFile held e size output image told (Err fault) =
     ⊎ IsNotApart held e size output image fault) × (told.new ≡ told.old)
     × (told.now ≡ told.before)
 
--- the same of the file of a name, of which the host tells these bytes; or it can't be read to its
--- end
+-- The same of the file of a name, of which the host tells these bytes, unless no node is found in
+-- them, or they have findings and would be replaced; or it can't be read to its end.
 abbrev pub DecompressesApartNamed : Held → Endian → CompressionAsked → Option (List ℕ) → SinkChange
     → Result ApartDone ProgramFault → Type 0
 DecompressesApartNamed held e asked bytes told answer =
     ((image : List ℕ) × AreLoaded bytes image
-    × DecompressesApartFile held e asked.options.geometry.block asked.output image told answer)
+    × OfConverted (original e asked.options.geometry.block asked.image asked.force)
+    ((held.1 ≡ held.0) × PutsNothing told)
+    (λ bytes done.
+    DecompressesApartFile held e asked.options.geometry.block asked.output bytes told done)
+    image answer)
     ⊎ ((fault : ProgramFault) × (answer ≡ Err fault) × IsUnreadFile asked.image bytes fault
     × (told.new ≡ told.old) × (told.now ≡ told.before))
 
@@ -121,6 +126,7 @@ pub record EndsApart (asked : CompressionAsked) (reading : FileReads) (writing :
 pub record RunsApart (args : List (List ℕ)) (reading : FileReads) (writing : FileWrites)
     (untouched : Type 0) (output errors : SinkChange) (result : Outcome) : Type 0 where
   pub asked : CompressionAsked
-  pub parsed : parsed_from args ≡ Some (ApartParsed asked.options asked.image asked.output)
+  pub parsed : parsed_from args
+      ≡ Some (ApartParsed asked.options asked.force asked.image asked.output)
   pub faultless : IsFaultless args
   pub ends : EndsApart asked reading writing untouched output errors result

@@ -1,5 +1,5 @@
 -- What a run of the program does that compresses an image.
-use Rattle.std.specs.Prelude.{◌≡◌, ◌≢◌, ◌⊎◌, ℕ, List, length, Option, Some, None, Result, Ok, Err}
+use Rattle.std.specs.Prelude.{◌≡◌, ◌≢◌, ◌⊎◌, ℕ, Bool, List, length, Option, Some, None, Result, Ok, Err}
 use Rattle.std.specs.Io.KnownBytes.{Appends}
 use Rattle.flashbase.specs.Device.{PutsPart, next_count}
 use Rattle.flashbase.specs.Sinks.{SinkChange}
@@ -21,6 +21,7 @@ use Rattle.jreport.specs.declared.faults.ProgramFault.{ProgramFault}
 use Rattle.jreport.specs.declared.faults.ProgramFault.TheVariants as program
 use Rattle.jffs2_image.specs.Decompressing.{HoldsMade, IsNotWritten, fault_of_conversion}
 use Rattle.jffs2_image.specs.Host.{AreLoaded, BlamesDecompress, MakesFile}
+use Rattle.jffs2_image.specs.Judging.{OfConverted, PutsNothing, original}
 use Rattle.jffs2_image.specs.Runs.{GoesOut, Says, note_after}
 use Rattle.jffs2_image.specs.Writes.{GivesText, Held, IsUnreadFile, FileReads, FileWrites}
 
@@ -72,19 +73,24 @@ CompressesFile held e size output image told (Err fault) =
     ⊎ IsNotPacked held e size output image fault) × (told.new ≡ told.old)
     × (told.now ≡ told.before)
 
--- what is asked for: the options, and the names of the image and of the file that is made
+-- what is asked for: the options, whether an image with findings may be replaced, and the names of
+-- the image and of the file that is made
 pub record CompressionAsked : Type 0 where
   pub options : Options
+  pub force : Bool
   pub image : List ℕ
   pub output : List ℕ
 
--- the same of the file of a name, of which the host tells these bytes; or it can't be read to its
--- end
+-- The same of the file of a name, of which the host tells these bytes, unless no node is found in
+-- them, or they have findings and would be replaced; or it can't be read to its end.
 abbrev pub CompressesNamed : Held → Endian → CompressionAsked → Option (List ℕ) → SinkChange
     → Result ℕ ProgramFault → Type 0
 CompressesNamed held e asked bytes told answer =
     ((image : List ℕ) × AreLoaded bytes image
-    × CompressesFile held e asked.options.geometry.block asked.output image told answer)
+    × OfConverted (original e asked.options.geometry.block asked.image asked.force)
+    ((held.1 ≡ held.0) × PutsNothing told)
+    (λ bytes done. CompressesFile held e asked.options.geometry.block asked.output bytes told done)
+    image answer)
     ⊎ ((fault : ProgramFault) × (answer ≡ Err fault) × IsUnreadFile asked.image bytes fault
     × (told.new ≡ told.old) × (told.now ≡ told.before))
 
@@ -122,6 +128,7 @@ pub record EndsCompression (asked : CompressionAsked) (reading : FileReads) (wri
 pub record RunsCompress (args : List (List ℕ)) (reading : FileReads) (writing : FileWrites)
     (untouched : Type 0) (output errors : SinkChange) (result : Outcome) : Type 0 where
   pub asked : CompressionAsked
-  pub parsed : parsed_from args ≡ Some (CompressParsed asked.options asked.image asked.output)
+  pub parsed : parsed_from args
+      ≡ Some (CompressParsed asked.options asked.force asked.image asked.output)
   pub faultless : IsFaultless args
   pub ends : EndsCompression asked reading writing untouched output errors result

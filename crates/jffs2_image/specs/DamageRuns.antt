@@ -19,6 +19,7 @@ use Rattle.jcommand.specs.declared.outcome.Outcome.{Outcome}
 use Rattle.jcommand.specs.declared.outcome.Outcome.TheVariants as outcome
 use Rattle.jffs2_image.specs.DiffRuns.{IsBlamedFile}
 use Rattle.jffs2_image.specs.Host.{AreLoaded}
+use Rattle.jffs2_image.specs.Judging.{OfNodes, PutsNothing}
 use Rattle.jffs2_image.specs.Runs.{GoesOut, Says, either_found, note_after}
 use Rattle.jffs2_image.specs.Writes.{FileReads}
 use Rattle.jffs2_image.specs.declared.damage.Examined.{Examined}
@@ -51,12 +52,19 @@ TellsDamage options image output result =
     × IsRefusalTold options.endian options.geometry.block image fault
     × (output.new ≡ output.old) × (output.now ≡ output.before))
 
+-- the same of an image in which a node is found, or that is blank; any other is refused
+abbrev pub TellsDamageOfNodes : Options → List ℕ → SinkChange → Result Examined ProgramFault
+    → Type 0
+TellsDamageOfNodes options image output =
+    OfNodes options.endian options.geometry.block None (PutsNothing output)
+    (λ bytes. TellsDamage options bytes output) image
+
 -- the file was read, and what is told of its image goes out; no file failed
 pub record TellsFile (options : Options) (file : List ℕ) (reading : FileReads) (output : SinkChange)
     (result : Result Examined ProgramFault) : Type 0 where
   pub image : List ℕ
   pub of_file : AreLoaded (reading.told file) image
-  pub tells : GoesOut (TellsDamage options image) output result
+  pub tells : GoesOut (TellsDamageOfNodes options image) output result
   pub reads : reading.now ≡ reading.before
 
 -- the same; or it can't be read to its end, and `untouched` holds, the output is as it was

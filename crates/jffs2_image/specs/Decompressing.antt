@@ -20,6 +20,7 @@ use Rattle.jreport.specs.declared.cause.Limit.TheVariants as limits
 use Rattle.jreport.specs.declared.faults.ProgramFault.{ProgramFault}
 use Rattle.jreport.specs.declared.faults.ProgramFault.TheVariants as program
 use Rattle.jreport.specs.declared.reason.Reason.{Reason}
+use Rattle.jffs2_image.specs.Judging.{OfConverted, Original, PutsNothing}
 use Rattle.jffs2_image.specs.Writes.{GivesText, Held, HoldsNothing, IsFaultOfMaking, IsHanded}
 use Rattle.jffs2_image.specs.declared.decompressing.Subject.{Subject}
 use Rattle.jffs2_image.specs.declared.decompressing.Taken.{Taken}
@@ -136,3 +137,10 @@ DecompressesFile held e size output image sink (Err fault) =
     ((IsNotConverted e size image fault × (held.1 ≡ held.0))
     ⊎ ((made : List ℕ) × Converts e size image (Ok made) × IsNotWritten held output made fault))
     × (sink.new ≡ sink.old) × (sink.now ≡ sink.before)
+
+-- The same of an image, unless no node is found in it, or it has findings and would be replaced.
+abbrev pub DecompressesOf : Held → Original → List ℕ → List ℕ → SinkChange
+    → Result ℕ ProgramFault → Type 0
+DecompressesOf held of output image sink answer =
+    OfConverted of ((held.1 ≡ held.0) × PutsNothing sink)
+    (λ bytes done. DecompressesFile held of.endian of.size output bytes sink done) image answer

@@ -15,6 +15,7 @@ use Rattle.jcommand.specs.declared.parsed.Options.{Options}
 use Rattle.jcommand.specs.declared.outcome.Outcome.{Outcome}
 use Rattle.jcommand.specs.declared.outcome.Outcome.TheVariants as outcome
 use Rattle.jffs2_image.specs.Host.{AreLoaded, ReadsFile}
+use Rattle.jffs2_image.specs.Judging.{OfNodes, PutsNothing}
 use Rattle.jffs2_image.specs.Runs.{GoesOut, Says, either_found}
 use Rattle.jffs2_image.specs.Writes.{IsUnreadFile, FileReads}
 use Rattle.jffs2_image.specs.declared.diff.Compared.{Compared}
@@ -59,6 +60,15 @@ DiffersOf by first second output result =
     × IsUnmounted by first second fault
     × (output.new ≡ output.old) × (output.now ≡ output.before))
 
+-- The same of two images of these names in each of which a node is found, or that are blank; of
+-- others the first is refused.
+abbrev pub DiffersOfNodes : Comparing → List ℕ → List ℕ → List ℕ → List ℕ → SinkChange
+    → Result Compared ProgramFault → Type 0
+DiffersOfNodes by first second image other output =
+    OfNodes by.options.endian by.options.geometry.block (Some first) (PutsNothing output)
+    (λ left. OfNodes by.options.endian by.options.geometry.block (Some second) (PutsNothing output)
+    (λ right. DiffersOf by left right output) other) image
+
 -- ---- the files of two names
 
 -- a file is not read to its end, and is blamed for what it did
@@ -80,7 +90,7 @@ pub record DiffersAsFiles (by : Comparing) (first second : List ℕ) (reading : 
   pub other : List ℕ
   pub of_first : AreLoaded (reading.told first) image
   pub of_second : AreLoaded (reading.told second) other
-  pub differs : GoesOut (DiffersOf by image other) output result
+  pub differs : GoesOut (DiffersOfNodes by first second image other) output result
   pub reads : reading.now ≡ reading.before
 
 -- the same; or one of them can't be read to its end, and `untouched` holds, the output is as it was

@@ -39,6 +39,7 @@ use Rattle.jreport.specs.declared.faults.ProgramFault.{ProgramFault}
 use Rattle.jreport.specs.declared.faults.ProgramFault.TheVariants as program
 use Rattle.jffs2_image.specs.Decompressing.{IsNotConverted}
 use Rattle.jffs2_image.specs.Host.{AreOf, IsReadFault}
+use Rattle.jffs2_image.specs.Judging.{OfNodes}
 use Rattle.jffs2_image.specs.Writes.{IsUnreadFile, FileReads}
 use Rattle.jffs2_image.specs.declared.folders.Extracted.{Extracted}
 
@@ -140,14 +141,15 @@ ExtractsTaken true x image f result =
     ⊎ ((fault : ProgramFault) × (result ≡ Err fault)
     × IsNotConverted x.endian x.size image fault × FillsNothing f)
 
--- `extract` of the image of a name into the folder of a name: its bytes are extracted, or it can't
--- be read. A file that can't be opened, or failed while it was read, is blamed only where it counts
--- so.
+-- `extract` of the image of a name into the folder of a name: its bytes are extracted, unless no
+-- node is found in them, or it can't be read. A file that can't be opened, or failed while it was
+-- read, is blamed only where it counts so.
 abbrev pub ExtractsImage : Bool → Extracting → List ℕ → FileReads → Filling
     → Result Extracted ProgramFault → Type 0
 ExtractsImage decompress x image reading f result =
     ((bytes : List ℕ) × AreOf (reading.told image) bytes × (reading.now ≡ reading.before)
-    × ExtractsTaken decompress x bytes f result)
+    × OfNodes x.endian x.size None (FillsNothing f)
+    (λ image answer. ExtractsTaken decompress x image f answer) bytes result)
     ⊎ ((fault : ProgramFault) × (result ≡ Err fault) × IsUnreadFile image (reading.told image) fault
     × IsReadFault reading.before reading.now fault × FillsNothing f)
 

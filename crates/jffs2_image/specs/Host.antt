@@ -246,6 +246,7 @@ BlamesMaker untouched makes before now (Err (program.NotRead name)) = ⊥
 BlamesMaker untouched makes before now (Err (program.Load fault)) = ⊥
 BlamesMaker untouched makes before now (Err (program.Data addr)) = ⊥
 BlamesMaker untouched makes before now (Err (program.TooLong addr)) = ⊥
+BlamesMaker untouched makes before now (Err (program.Image fault)) = ⊥
 BlamesMaker untouched makes before now (Err (program.Listing n)) = ⊥
 BlamesMaker untouched makes before now (Err program.Output) = makes
 BlamesMaker untouched makes before now (Err program.OutOfMemory) = untouched ⊎ makes
@@ -286,6 +287,7 @@ Blames untouched makes read_before read_now made_before made_now
     (Err (program.Load load.OutOfMemory)) = untouched
 Blames untouched makes read_before read_now made_before made_now (Err (program.Data addr)) = ⊥
 Blames untouched makes read_before read_now made_before made_now (Err (program.TooLong addr)) = ⊥
+Blames untouched makes read_before read_now made_before made_now (Err (program.Image fault)) = ⊥
 Blames untouched makes read_before read_now made_before made_now (Err program.Output) = makes
 Blames untouched makes read_before read_now made_before made_now (Err program.OutOfMemory) =
     untouched ⊎ makes
@@ -352,7 +354,7 @@ BlamesFor e (AppendParsed options blocks page decompress image listing output) u
     reading.now writing.before writing.now result
     ⊎ IsRefusedBefore decompress e options.geometry.block (reading.told image)
     (untouched × (reading.now ≡ reading.before)) result
-BlamesFor e (DecompressParsed options image output) untouched reading writing result =
+BlamesFor e (DecompressParsed options force image output) untouched reading writing result =
     BlamesDecompress untouched (MakesFile output writing.names_old writing.names_new)
     reading.before reading.now writing.before writing.now result
 

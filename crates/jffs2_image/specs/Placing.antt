@@ -40,7 +40,7 @@ written_by_request (BuildParsed options blocks page listing output) =
     (output, flash_end options blocks)
 written_by_request (AppendParsed options blocks page decompress image listing output) =
     (output, flash_end options blocks)
-written_by_request (DecompressParsed options image output) =
+written_by_request (DecompressParsed options force image output) =
     (output, filling.Block options.geometry.block)
 written_by_request _ = ([], filling.Length 0)
 
@@ -48,8 +48,10 @@ written_by_request _ = ([], filling.Length 0)
 abbrev pub written_by : TaskParsed → List ℕ × Filling
 written_by (ImageParsed request) = written_by_request request
 written_by (WeakParsed request) = written_by_request request
-written_by (CompressParsed options image output) = (output, filling.Block options.geometry.block)
-written_by (ApartParsed options image output) = (output, filling.Block options.geometry.block)
+written_by (CompressParsed options force image output) =
+    (output, filling.Block options.geometry.block)
+written_by (ApartParsed options force image output) =
+    (output, filling.Block options.geometry.block)
 written_by (PackParsed packing) = (packing.output, flash_end_of packing.options packing.blocks)
 written_by _ = ([], filling.Length 0)
 

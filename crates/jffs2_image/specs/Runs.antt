@@ -23,8 +23,9 @@ use Rattle.jcommand.specs.declared.command_line.RequestFault.TheVariants as refu
 use Rattle.jcommand.specs.Status.{outcome_of}
 use Rattle.jcommand.specs.declared.outcome.Outcome.{Outcome}
 use Rattle.jcommand.specs.declared.outcome.Outcome.TheVariants as outcome
-use Rattle.jffs2_image.specs.Decompressing.{DecompressesFile, IsGoneOnWith, PutsTaken}
+use Rattle.jffs2_image.specs.Decompressing.{DecompressesOf, IsGoneOnWith, PutsTaken}
 use Rattle.jffs2_image.specs.Host.{AreLoaded, AreOf, HasFailed, RunsFiles}
+use Rattle.jffs2_image.specs.Judging.{original}
 use Rattle.jffs2_image.specs.Writes.{GivesText, Held, ImageForm, IsBehind, IsNotedIn, IsUnreadFile, WritesImage, image_form}
 use Rattle.jffs2_image.specs.declared.program.Success.{Success}
 use Rattle.jffs2_image.specs.declared.program.Success.TheVariants as success
@@ -40,7 +41,7 @@ options_parsed (ListParsed options decompress image path) = options
 options_parsed (CatParsed options decompress image path) = options
 options_parsed (BuildParsed options blocks page listing output) = options
 options_parsed (AppendParsed options blocks page decompress image listing output) = options
-options_parsed (DecompressParsed options image output) = options
+options_parsed (DecompressParsed options force image output) = options
 
 -- whether `check` found anything, as a number
 abbrev pub number_found : Bool → ℕ
@@ -67,7 +68,7 @@ IsImageOf told (CatParsed options decompress name word) image = AreLoaded (told 
 IsImageOf told (BuildParsed options blocks page listing output) image = image ≡ []
 IsImageOf told (AppendParsed options blocks page decompress name listing output) image =
     AreLoaded (told name) image
-IsImageOf told (DecompressParsed options name output) image = AreLoaded (told name) image
+IsImageOf told (DecompressParsed options force name output) image = AreLoaded (told name) image
 
 -- the listing of a name is run on an image, with the bytes of the files that its lines name; each
 -- where the host tells its bytes
@@ -125,8 +126,8 @@ PutsAnswer told held e (AppendParsed options blocks page decompress name listing
     RunsListed told held (image_form page e options.geometry.block blocks) listing output base
     sink answer
     × IfOk answer (IsNotedIn e options.geometry.block base))
-PutsAnswer told held e (DecompressParsed options name output) =
-    DecompressesFile held e options.geometry.block output
+PutsAnswer told held e (DecompressParsed options force name output) =
+    DecompressesOf held (original e options.geometry.block name force) output
 
 -- its file can't be opened
 abbrev pub IsUnopened : List ℕ → ProgramFault → Type 0
@@ -162,7 +163,7 @@ IsEarlyFault told e (AppendParsed options blocks page decompress image listing o
     ⊎ ((bytes : List ℕ) × AreLoaded (told image) bytes
     × IsGoneOnWith decompress e options.geometry.block bytes
     × IsUnreadFile listing (told listing) fault)
-IsEarlyFault told e (DecompressParsed options image output) fault =
+IsEarlyFault told e (DecompressParsed options force image output) fault =
     IsUnreadFile image (told image) fault
 
 -- of a size that no block has `check` says so where it could open the image, and nothing else;
@@ -231,7 +232,7 @@ success_of (ListParsed options decompress image path) n = success.Shown n
 success_of (CatParsed options decompress image path) n = success.Shown n
 success_of (BuildParsed options blocks page listing output) n = success.Shown n
 success_of (AppendParsed options blocks page decompress image listing output) n = success.Shown n
-success_of (DecompressParsed options image output) n = success.Made n
+success_of (DecompressParsed options force image output) n = success.Made n
 
 -- What a command line is answered: the request is met; help goes out; a refusal and out of memory
 -- stay what they are, and leave the output as it was.

@@ -298,6 +298,7 @@ IsWriteFault held form output base text program.Output = ⊥
 IsWriteFault held form output base text (program.NoSpace name) = ⊥
 IsWriteFault held form output base text (program.Data addr) = ⊥
 IsWriteFault held form output base text (program.TooLong addr) = ⊥
+IsWriteFault held form output base text (program.Image fault) = ⊥
 
 -- the line on what was accepted of operations on a base
 abbrev pub line_on : ImageForm → List ℕ → ℕ → List Place → List ℕ

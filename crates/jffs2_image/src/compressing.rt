@@ -13,6 +13,7 @@ ghost use Rattle.jffs2_image.specs.Placing.{telling, writes};
 
 use crate::decompressing::{conversion_fault, sink_cause};
 use crate::host::{Loader, MakeFault, Maker};
+use crate::judging::judge_image;
 use crate::loading::load_file;
 use crate::output::{Output, finished};
 use crate::program::{note_found, report_fault};
@@ -134,6 +135,7 @@ fn compress_file<'a, E: Order, L: Loader, M: Maker, T: Sink>(
     ensures compresses { CompressesNamed (M.held maker.old, M.held maker.new)
         asked.entry.options.endian (record {
           options = asked.entry.options;
+          force = asked.entry.force;
           image = asked.entry.image.now;
           output = asked.entry.output.now;
         }) (L.told loader.old asked.entry.image.now) (change_of T.Sink sink.old sink.new) result }
@@ -144,13 +146,19 @@ fn compress_file<'a, E: Order, L: Loader, M: Maker, T: Sink>(
 {
     let Compression {
         options,
+        force,
         image,
         output,
     } = asked;
+    let over = loader.is_one_file(image, output);
     let bytes = match load_file(alloc, loader, image) {
         Ok(bytes) => bytes,
         Err(fault) => return Err(fault),
     };
+    match judge_image::<E>(bytes.as_slice(), options.geometry, image, over, force) {
+        Ok(()) => {}
+        Err(fault) => return Err(fault),
+    }
     compress_into::<E, M, T>(
         alloc,
         maker,
@@ -173,6 +181,7 @@ pub(crate) fn run_compress<E: Order, L: Loader, M: Maker, T: Output, N: Sink>(
     requires { asked.options.endian ≡ E.order }
     ensures { EndsCompression (record {
       options = asked.entry.options;
+      force = asked.entry.force;
       image = asked.entry.image.now;
       output = asked.entry.output.now;
     }) (reads L.told L.failures loader.old loader.new)

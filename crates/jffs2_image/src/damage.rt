@@ -2,7 +2,7 @@
 ghost use Rattle.std.specs.Prelude.{◌≡◌, ◌≤◌, length};
 ghost use Rattle.jcommand.specs.Status.{outcome_of};
 ghost use Rattle.jdamage.specs.Damage.{PutsDamage};
-ghost use Rattle.jffs2_image.specs.DamageRuns.{EndsDamage, TellsDamage, TellsDamageOfFile, as_told};
+ghost use Rattle.jffs2_image.specs.DamageRuns.{EndsDamage, TellsDamage, TellsDamageOfFile, TellsDamageOfNodes, as_told};
 ghost use Rattle.jffs2_image.specs.Runs.{either_found};
 ghost use Rattle.flashbase.specs.Sinks.{change_of};
 ghost use Rattle.jffs2_image.specs.Tasks.{passage, reads};
@@ -16,7 +16,7 @@ use jcommand::{Examination, Options, Outcome};
 use jdamage::{DamageFault, Totals, put_damage};
 use jmount::Mounted;
 use jnode::Order;
-use jreport::{ProgramFault, mount_or_tell, noted};
+use jreport::{ProgramFault, mount_or_tell, noted, refuse_no_nodes};
 use std::alloc::Global;
 
 /// What an examination comes to: how many damaged nodes and missing objects are told, or the
@@ -59,6 +59,22 @@ fn put_lines<E: Order, T: Sink>(
     as_told(&mounted, told)
 }
 
+/// The same of an image in which a node is found, or that is blank.
+fn examine<E: Order, T: Sink>(
+    alloc: Global,
+    options: Options,
+    image: &[u8],
+    sink: &mut T,
+) -> Result<Examined, ProgramFault<'static>>
+    requires { options.endian ≡ E.order }
+    ensures { TellsDamageOfNodes options image.now (change_of T.Sink sink.old sink.new) result }
+{
+    match refuse_no_nodes::<E>(image, options.geometry, None) {
+        Ok(()) => put_lines::<E, T>(alloc, options, image, sink),
+        Err(fault) => Err(fault),
+    }
+}
+
 /// The same of the file of a name, to the last byte.
 fn examine_file<'a, E: Order, L: Loader, T: Output>(
     alloc: Global,
@@ -75,7 +91,7 @@ fn examine_file<'a, E: Order, L: Loader, T: Output>(
         Ok(image) => image,
         Err(fault) => return Err(fault),
     };
-    let answer = put_lines::<E, T>(alloc, asked.options, image.as_slice(), output);
+    let answer = examine::<E, T>(alloc, asked.options, image.as_slice(), output);
     finished(answer, output)
 }
 

@@ -2,7 +2,7 @@
 ghost use Rattle.std.specs.Prelude.{◌≡◌, ◌≤◌, length};
 ghost use Rattle.jscan.specs.Image.{greatest_image};
 ghost use Rattle.jcommand.specs.Status.{outcome_of};
-ghost use Rattle.jffs2_image.specs.DiffRuns.{DiffersOf, DiffersOfFiles, EndsDiff, as_compared, found_by_diff, notes_after_diff};
+ghost use Rattle.jffs2_image.specs.DiffRuns.{DiffersOf, DiffersOfFiles, DiffersOfNodes, EndsDiff, as_compared, found_by_diff, notes_after_diff};
 ghost use Rattle.jffs2_image.specs.Runs.{Says};
 ghost use Rattle.flashbase.specs.Sinks.{change_of};
 ghost use Rattle.jffs2_image.specs.Tasks.{passage, reads};
@@ -16,7 +16,7 @@ use jcommand::{Comparison, Options, Outcome};
 use jdiff::put_differences;
 use jmount::Mounted;
 use jnode::Order;
-use jreport::{ProgramFault, mount_or_tell, noted, put_named_notes};
+use jreport::{ProgramFault, mount_or_tell, noted, put_named_notes, refuse_no_nodes};
 use std::alloc::Global;
 
 /// What a comparison comes to: how many lines there are, or the greatest u64, and how many findings
@@ -65,6 +65,31 @@ fn put_lines<E: Order, T: Sink>(
     as_compared(&left, &right, told)
 }
 
+/// The same of two images in which nodes are found, or that are blank. A fault has the name of its
+/// image.
+fn compare<'a, E: Order, T: Sink>(
+    alloc: Global,
+    asked: Comparison<'a>,
+    first: &[u8],
+    second: &[u8],
+    sink: &mut T,
+) -> Result<Compared, ProgramFault<'a>>
+    requires { asked.options.endian ≡ E.order }
+    ensures { DiffersOfNodes (record { options = asked.entry.options; times = asked.entry.times })
+        asked.entry.first.now asked.entry.second.now first.now second.now
+        (change_of T.Sink sink.old sink.new) result }
+{
+    let geometry = asked.options.geometry;
+    match refuse_no_nodes::<E>(first, geometry, Some(asked.first)) {
+        Ok(()) => {}
+        Err(fault) => return Err(fault),
+    }
+    match refuse_no_nodes::<E>(second, geometry, Some(asked.second)) {
+        Ok(()) => put_lines::<E, T>(alloc, asked.options, asked.times, first, second, sink),
+        Err(fault) => Err(fault),
+    }
+}
+
 /// The same of the files of two names, to the last byte.
 fn compare_files<'a, E: Order, L: Loader, T: Output>(
     alloc: Global,
@@ -87,14 +112,7 @@ fn compare_files<'a, E: Order, L: Loader, T: Output>(
         Ok(image) => image,
         Err(fault) => return Err(fault),
     };
-    let answer = put_lines::<E, T>(
-        alloc,
-        asked.options,
-        asked.times,
-        first.as_slice(),
-        second.as_slice(),
-        output,
-    );
+    let answer = compare::<E, T>(alloc, asked, first.as_slice(), second.as_slice(), output);
     finished(answer, output)
 }
 

@@ -26,6 +26,7 @@ use jmount::Mounted;
 use jnode::Order;
 use jreport::{
     ProgramFault, Reason, Unopened, attribute_count, mount_or_tell, noted, path_word, put_notes,
+    refuse_no_nodes,
 };
 use std::alloc::{AllocError, Global};
 
@@ -214,6 +215,10 @@ fn extract_image<'a, E: Order, L: Loader, X: Folder + Refusing, N: Sink>(
         Err(fault) => return Err(fault),
     };
     let image = bytes.as_slice();
+    match refuse_no_nodes::<E>(image, asked.options.geometry, None) {
+        Ok(()) => {}
+        Err(fault) => return Err(fault),
+    }
     if asked.decompress {
         return extract_decompressed::<E, X, N>(alloc, image, asked, path, folder, notes);
     }

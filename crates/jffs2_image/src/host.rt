@@ -13,6 +13,7 @@ use crate::filling::{Filling, fill_output};
 use crate::kept::KeptFiles;
 use crate::output::{BufferedOutput, Output};
 use crate::refusing::Refusing;
+use crate::replacing::is_same_file;
 use crate::source::FileSource;
 use flashbase::{DeviceFault, Sink, Source};
 use jbuild::HostFiles;
@@ -49,6 +50,9 @@ pub trait Loader {
         ensures counting { IfOk result (λ opened. Self.Opened.failures opened ≡ failures self.old) }
         ensures count { CountsErr (failures self.old) (failures self.new) result }
         ensures stays { (other : List ℕ) → told self.new other ≡ told self.old other };
+
+    /// Whether two names mean one file that is there, also by way of links, by what the host tells.
+    fn is_one_file(&self, first: &str, second: &str) -> bool;
 
     /// Takes back a file that was opened, with its count of failures and why it failed last.
     fn close(&mut self, opened: Self::Opened)
@@ -163,6 +167,13 @@ impl<'r, R: Files + AllocGlobal> Loader for FileLoader<'r, R> {
                 self.failures = self.failures.wrapping_add(1);
                 Err(Reason::of(&error))
             }
+        }
+    }
+
+    fn is_one_file(&self, first: &str, second: &str) -> bool {
+        match (fs::metadata(self.rt, first), fs::metadata(self.rt, second)) {
+            (Ok(first), Ok(second)) => is_same_file(&first, &second),
+            _ => false,
         }
     }
 

@@ -20,6 +20,7 @@ mod first;
 mod folders;
 pub mod host;
 pub mod info;
+mod judging;
 mod keeping;
 mod kept;
 pub mod loading;

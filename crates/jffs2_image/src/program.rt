@@ -16,6 +16,7 @@ ghost use Rattle.flashbase.specs.Sinks.{PutsTo, change_of};
 use crate::decompressing::{decompress_into, noting, subject_of};
 use crate::folders::Folders;
 use crate::host::{Loader, Maker};
+use crate::judging::judge_image;
 use crate::loading::load_file;
 use crate::looking::{cat, check, list, scan};
 use crate::output::{Output, finished};
@@ -86,21 +87,27 @@ fn decompress<'a, E: Order, L: Loader, M: Maker, T: Sink>(
     loader: &mut L,
     maker: &mut M,
     options: Options,
+    force: bool,
     image: &'a str,
     output: &'a str,
     sink: &mut T,
 ) -> Result<u64, ProgramFault<'a>>
     ensures meets { Meets (L.told loader.old) (M.held maker.old, M.held maker.new) E.order
-        (DecompressParsed options image.entry.now output.entry.now)
+        (DecompressParsed options force image.entry.now output.entry.now)
         (change_of T.Sink sink.old sink.new) result }
     ensures host { BlamesDecompress (maker.new ≡ maker.old)
         (MakesFile output.entry.now (M.names maker.old) (M.names maker.new)) (L.failures loader.old)
         (L.failures loader.new) (M.failures maker.old) (M.failures maker.new) result }
 {
+    let over = loader.is_one_file(image, output);
     let bytes = match load_file(alloc, loader, image) {
         Ok(bytes) => bytes,
         Err(fault) => return Err(fault),
     };
+    match judge_image::<E>(bytes.as_slice(), options.geometry, image, over, force) {
+        Ok(()) => {}
+        Err(fault) => return Err(fault),
+    }
     decompress_into::<E, M, T>(
         alloc,
         maker,
@@ -219,9 +226,10 @@ fn run_in_order<'a, E: Order, L: Loader, M: Maker, T: Sink>(
         ),
         Request::Decompress {
             options,
+            force,
             image,
             output,
-        } => decompress::<E, _, _, _>(alloc, loader, maker, options, image, output, sink),
+        } => { decompress::<E, _, _, _>(alloc, loader, maker, options, force, image, output, sink) }
     }
 }
 

@@ -113,7 +113,7 @@ pub(crate) fn open_in_place<R: Files>(rt: &R, name: &str) -> io::Result<R::File>
     Ok(file)
 }
 
-fn is_same_file(one: &Metadata, other: &Metadata) -> bool {
+pub(crate) fn is_same_file(one: &Metadata, other: &Metadata) -> bool {
     one.dev() == other.dev() && one.ino() == other.ino()
 }
 

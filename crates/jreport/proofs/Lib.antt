@@ -1,4 +1,5 @@
 mod FoundLemmas
+mod NoNodesLemmas
 pub mod AheadLemmas
 pub mod BlockLemmas
 pub mod FaultLemmas

@@ -52,6 +52,7 @@ part_put s path item a b before now (Err program.NotRegular) at put = absurd put
 part_put s path item a b before now (Err (program.NoSpace folder)) at put = absurd put
 part_put s path item a b before now (Err (program.Data addr)) at put = absurd put
 part_put s path item a b before now (Err (program.TooLong addr)) at put = absurd put
+part_put s path item a b before now (Err (program.Image why)) at put = absurd put
 part_put s path item a b before now (Err (program.Clash addr other)) at put = absurd put
 
 -- the path names nothing

@@ -67,6 +67,7 @@ verdict_of_mounted e size image asked m old new before now (Err program.NotRegul
 verdict_of_mounted e size image asked m old new before now (Err (program.NoSpace folder)) answers put = absurd put
 verdict_of_mounted e size image asked m old new before now (Err (program.Data addr)) answers put = absurd put
 verdict_of_mounted e size image asked m old new before now (Err (program.TooLong addr)) answers put = absurd put
+verdict_of_mounted e size image asked m old new before now (Err (program.Image why)) answers put = absurd put
 verdict_of_mounted e size image asked m old new before now (Err (program.Clash addr other)) answers put = absurd put
 
 -- ---- the shape

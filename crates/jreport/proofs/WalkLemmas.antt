@@ -266,6 +266,7 @@ line_failed s w n name i names set program.NotRegular old new before now read pu
 line_failed s w n name i names set (program.NoSpace folder) old new before now read put = absurd put
 line_failed s w n name i names set (program.Data addr) old new before now read put = absurd put
 line_failed s w n name i names set (program.TooLong addr) old new before now read put = absurd put
+line_failed s w n name i names set (program.Image why) old new before now read put = absurd put
 line_failed s w n name i names set (program.Clash addr other) old new before now read put = absurd put
 
 pub step_failed : (s : State) (w n : Walk) (old new : Option (List ℕ)) (before now : ℕ) (r : Result Bool ProgramFault) (fault : ProgramFault)
@@ -367,6 +368,7 @@ first_failed T s item empty set program.NotRegular old new before now none put =
 first_failed T s item empty set (program.NoSpace folder) old new before now none put = absurd put
 first_failed T s item empty set (program.Data addr) old new before now none put = absurd put
 first_failed T s item empty set (program.TooLong addr) old new before now none put = absurd put
+first_failed T s item empty set (program.Image why) old new before now none put = absurd put
 first_failed T s item empty set (program.Clash addr other) old new before now none put = absurd put
 
 -- the text of what is left makes that of what was left before
@@ -465,6 +467,7 @@ stopped T s item w n program.NotRegular a b c first before now far same put = ab
 stopped T s item w n (program.NoSpace folder) a b c first before now far same put = absurd put
 stopped T s item w n (program.Data addr) a b c first before now far same put = absurd put
 stopped T s item w n (program.TooLong addr) a b c first before now far same put = absurd put
+stopped T s item w n (program.Image why) a b c first before now far same put = absurd put
 stopped T s item w n (program.Clash addr other) a b c first before now far same put = absurd put
 
 pub tree_failed : {T : Type 0} (s : State) (item : Item) (old new : Option (List ℕ)) (before now : ℕ) (r : Result T ProgramFault) (fault : ProgramFault)

@@ -129,6 +129,7 @@ verdict_ends e size asked image a b c before mid now findings program.NotRegular
 verdict_ends e size asked image a b c before mid now findings (program.NoSpace folder) report put = absurd put
 verdict_ends e size asked image a b c before mid now findings (program.Data addr) report put = absurd put
 verdict_ends e size asked image a b c before mid now findings (program.TooLong addr) report put = absurd put
+verdict_ends e size asked image a b c before mid now findings (program.Image why) report put = absurd put
 verdict_ends e size asked image a b c before mid now findings (program.Clash addr other) report put = absurd put
 
 pub verdict_failed : (e : Endian) (size : ℕ) (asked : Bool) (image : List ℕ) (a b c : Option (List ℕ)) (before mid now findings : ℕ) (f : ProgramFault) (r : Result Bool ProgramFault)
@@ -186,6 +187,7 @@ lines_passed_on X Y s item a b before now program.NotRegular p = p
 lines_passed_on X Y s item a b before now (program.NoSpace folder) p = p
 lines_passed_on X Y s item a b before now (program.Data addr) p = p
 lines_passed_on X Y s item a b before now (program.TooLong addr) p = p
+lines_passed_on X Y s item a b before now (program.Image why) p = p
 lines_passed_on X Y s item a b before now (program.Clash addr other) p = p
 
 -- the same of a tree, or of a part of it
@@ -206,6 +208,7 @@ passed_on X Y s (Some path) a b before now program.NotRegular p = (p.0, p.1, lin
 passed_on X Y s (Some path) a b before now (program.NoSpace folder) p = (p.0, p.1, lines_passed_on X Y s p.0 a b before now (program.NoSpace folder) p.2)
 passed_on X Y s (Some path) a b before now (program.Data addr) p = (p.0, p.1, lines_passed_on X Y s p.0 a b before now (program.Data addr) p.2)
 passed_on X Y s (Some path) a b before now (program.TooLong addr) p = (p.0, p.1, lines_passed_on X Y s p.0 a b before now (program.TooLong addr) p.2)
+passed_on X Y s (Some path) a b before now (program.Image why) p = (p.0, p.1, lines_passed_on X Y s p.0 a b before now (program.Image why) p.2)
 passed_on X Y s (Some path) a b before now (program.Clash addr other) p = (p.0, p.1, lines_passed_on X Y s p.0 a b before now (program.Clash addr other) p.2)
 
 -- an answer of another kind

@@ -11,6 +11,7 @@ use Rattle.jscan.specs.declared.geometry.ScanFault.TheVariants as scan
 use Rattle.jline.specs.Words.{hex, in_line}
 use Rattle.jreport.specs.Causes.{cause_note}
 use Rattle.jreport.specs.Faults.{fault_line_of}
+use Rattle.jreport.specs.ImageFaults.{image_named, image_note}
 use Rattle.jreport.specs.Reasons.{file_note, unread_note}
 use Rattle.jreport.specs.declared.faults.ProgramFault.{ProgramFault}
 use Rattle.jreport.specs.declared.faults.ProgramFault.TheVariants as program
@@ -129,6 +130,7 @@ named_in program.OutOfMemory = []
 named_in (program.NoSpace name) = []
 named_in (program.Data addr) = []
 named_in (program.TooLong addr) = []
+named_in (program.Image fault) = image_named fault
 
 -- what is said of a fault beside its line, if anything is
 unfoldable pub note_of : ProgramFault → List ℕ
@@ -147,6 +149,7 @@ note_of program.OutOfMemory = []
 note_of (program.NoSpace name) = []
 note_of (program.Data addr) = []
 note_of (program.TooLong addr) = []
+note_of (program.Image fault) = image_note fault
 
 -- as a line, where there is something to say
 abbrev pub noted_line : List ℕ → List ℕ → List ℕ

@@ -18,6 +18,7 @@ use Rattle.jlog.specs.declared.fault.SessionFault.TheVariants as session
 use Rattle.jlisting.specs.declared.fault.ListingFault.{ListingFault}
 use Rattle.jlisting.specs.declared.fault.ListingFault.TheVariants as listing
 use Rattle.jline.specs.Words.{hex, in_line}
+use Rattle.jreport.specs.ImageFaults.{image_text}
 use Rattle.jreport.specs.declared.report_fault.ReportFault.{ReportFault}
 use Rattle.jreport.specs.declared.report_fault.ReportFault.TheVariants as report
 use Rattle.jreport.specs.declared.faults.ProgramFault.{ProgramFault}
@@ -109,6 +110,7 @@ fault_text_of program.OutOfMemory = codes "P6 OutOfMemory"
 fault_text_of (program.NoSpace name) = codes "P7 NoSpace " ++ name.now
 fault_text_of (program.Data addr) = codes "Z1 Data" ++ at_text addr
 fault_text_of (program.TooLong addr) = codes "Z2 TooLong" ++ at_text addr
+fault_text_of (program.Image fault) = image_text fault
 
 -- the line on standard error
 unfoldable pub fault_line_of : ProgramFault → List ℕ

@@ -1,12 +1,16 @@
 -- How many findings an image has of which a person is told, also an image that does not mount.
-use Rattle.std.specs.Prelude.{ℕ, List, count_by, filter_map}
+use Rattle.std.specs.Prelude.{◌≡◌, ◌<◌, ℕ, List, count_by, filter_map}
 use Rattle.jnode.specs.declared.order.Endian.{Endian}
 use Rattle.jscan.specs.Findings.{finding_of}
-use Rattle.jscan.specs.Scans.{image_extents}
+use Rattle.jscan.specs.Scans.{IsScannable, image_extents}
 use Rattle.jscan.specs.declared.extent.Extent.{Extent}
 use Rattle.jreport.specs.ExtractionNotes.{is_attribute_node}
 use Rattle.jreport.specs.Notes.{is_noted}
+use Rattle.jreport.specs.declared.faults.ProgramFault.{ProgramFault}
+use Rattle.jreport.specs.declared.faults.ProgramFault.TheVariants as program
 use Rattle.jreport.specs.declared.findings.Found.{Found}
+use Rattle.jreport.specs.declared.image_fault.ImageFault.{ImageFault}
+use Rattle.jreport.specs.declared.image_fault.ImageFault.TheVariants as image
 
 -- those of these extents: of damage, dirt or the other byte order, and of extended attributes
 abbrev pub found_among : List Extent → Found
@@ -20,3 +24,21 @@ found_among ss =
 -- those of an image
 abbrev pub found_in : Endian → ℕ → List ℕ → Found
 found_in e size image = found_among (image_extents e size image)
+
+-- an image that can be read has findings of which a person is told
+pub record HasFindings (e : Endian) (size : ℕ) (image : List ℕ) : Type 0 where
+  pub scannable : IsScannable size image
+  pub some : 0 < (found_in e size image).noted
+
+-- so many of the file of this name
+abbrev pub TellsFindings : List ℕ → ℕ → ImageFault → Type 0
+TellsFindings name n (image.Findings told findings) = (told.now ≡ name) × (findings ≡ n)
+TellsFindings name n _ = ⊥
+
+-- That is the fault.
+pub record IsFindings (e : Endian) (size : ℕ) (bytes name : List ℕ) (fault : ProgramFault) : Type
+    0 where
+  pub has : HasFindings e size bytes
+  pub why : ImageFault
+  pub is : fault ≡ program.Image why
+  pub told : TellsFindings name (found_in e size bytes).noted why

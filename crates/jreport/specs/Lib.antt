@@ -2,6 +2,8 @@ pub mod Advice
 pub mod Causes
 pub mod ConvertedLine
 pub mod FoundIn
+pub mod ImageFaults
+pub mod NoNodes
 pub mod Content
 pub mod ExtractionNotes
 pub mod Faults

@@ -9,6 +9,7 @@ ghost use Rattle.jreport.specs.Reasons.{file_note, host_text, unread_note};
 
 use crate::cause::{Cause, Limit};
 use crate::faults::{ProgramFault, put_fault_line};
+use crate::image_fault::{image_named, push_image_note};
 use crate::reason::Reason;
 use flashbase::{DeviceFault, Sink};
 use jline::{LineBuffer, put_in_line, put_text};
@@ -300,6 +301,7 @@ fn named_in<'a>(fault: &ProgramFault<'a>) -> &'a str
         | ProgramFault::NoSpace(_)
         | ProgramFault::Data { .. }
         | ProgramFault::TooLong { .. } => "",
+        ProgramFault::Image(fault) => image_named(fault),
     }
 }
 
@@ -318,6 +320,7 @@ fn push_note(line: &mut LineBuffer, fault: &ProgramFault<'_>)
         ProgramFault::File(file) => push_file_note(line, file.reason),
         ProgramFault::NotRead(file) => push_unread_note(line, file.reason),
         ProgramFault::Session { cause, .. } => push_cause(line, cause),
+        ProgramFault::Image(fault) => push_image_note(line, fault),
         ProgramFault::Load(_)
         | ProgramFault::Path(_)
         | ProgramFault::NotRegular

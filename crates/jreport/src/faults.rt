@@ -7,6 +7,7 @@ ghost use Rattle.jline.specs.Words.{in_line};
 ghost use Rattle.jreport.specs.Faults.{fault_line_of, fault_text_of, find_text, load_text, mount_text, scan_fault_text};
 
 use crate::cause::{Cause, Refused};
+use crate::image_fault::{ImageFault, push_image_fault};
 use crate::reason::Unopened;
 use crate::report_fault::ReportFault;
 use crate::session_fault::{push_line, push_session};
@@ -63,6 +64,8 @@ pub enum ProgramFault<'a> {
     TooLong {
         addr: u32,
     },
+    /// The command does not go on with the image.
+    Image(ImageFault<'a>),
 }
 
 impl From<LoadFault> for ProgramFault<'_> {
@@ -343,6 +346,7 @@ fn push_fault<'a>(line: &mut LineBuffer, fault: &ProgramFault<'a>) -> &'a str
             line.push_text(b"Z2 TooLong at ");
             line.push_hex(8, u64::from(addr));
         }
+        ProgramFault::Image(fault) => return push_image_fault(line, fault),
     }
     ""
 }

@@ -1,15 +1,17 @@
 //! How many findings an image has of which a person is told, also an image that does not mount.
 
-ghost use Rattle.std.specs.Prelude.{◌≡◌, ◌%◌, ◌^◌, ◌+◌, ◌<◌, ◌≤◌, length};
+ghost use Rattle.std.specs.Prelude.{◌≡◌, ◌%◌, ◌^◌, ◌+◌, ◌<◌, ◌≤◌, IfErr, OnOk, length};
 ghost use Rattle.jscan.specs.Extents.{extents};
 ghost use Rattle.jscan.specs.Scans.{IsScannable};
-ghost use Rattle.jreport.specs.FoundIn.{found_among, found_in};
+ghost use Rattle.jreport.specs.FoundIn.{HasFindings, IsFindings, found_among, found_in};
 
 use crate::extraction_notes::is_attribute;
+use crate::faults::ProgramFault;
+use crate::image_fault::ImageFault;
 use crate::notes::is_noted;
 use flashbase::Part;
 use jnode::Order;
-use jscan::{Extents, Geometry, block_at};
+use jscan::{Extents, GREATEST_IMAGE, Geometry, block_at};
 
 /// How many findings there are of which a person is told.
 #[derive(Clone, Copy, Debug, PartialEq, Eq)]
@@ -58,4 +60,27 @@ pub fn found_in<E: Order>(image: &[u8], geometry: Geometry) -> Found
         all.attributes += found.attributes;
     }
     all
+}
+
+/// Refuses an image with findings of which a person is told; it is the file of this name.
+pub fn refuse_findings<'a, E: Order>(
+    image: &[u8],
+    geometry: Geometry,
+    name: &'a str,
+) -> Result<(), ProgramFault<'a>>
+    ensures ok { OnOk result (HasFindings E.order geometry.block image.now → ⊥) }
+    ensures fault { IfErr result
+        (IsFindings E.order geometry.block image.now name.entry.now) }
+{
+    if !geometry.is_readable() {
+        return Ok(());
+    }
+    if GREATEST_IMAGE < image.len() {
+        return Ok(());
+    }
+    let findings = found_in::<E>(image, geometry).noted;
+    if findings == 0 {
+        return Ok(());
+    }
+    Err(ProgramFault::Image(ImageFault::Findings { name, findings }))
 }

@@ -7,7 +7,7 @@ use jlisting::{BadLine, ListingFault, Rule, WordRule};
 use jlog::SessionFault;
 use jmount::{FindFault, MountFault};
 use jreport::{
-    Cause, Limit, Plan, ProgramFault, Reason, Refused, Unopened, cause_of, fault_text,
+    Cause, ImageFault, Limit, Plan, ProgramFault, Reason, Refused, Unopened, cause_of, fault_text,
     put_fault_and_note,
 };
 use jscan::{Geometry, Page, ScanFault};
@@ -447,6 +447,62 @@ fn notes_with_a_reason(rt: HostRuntime) {
             ProgramFault::from(Refused { fault, cause }),
             note,
         );
+    }
+}
+
+/// Why commands do not go on with an image, the text of each, and what is noted.
+fn image_faults() -> &'static [(ImageFault<'static>, &'static str, &'static str)] {
+    &[
+        (
+            ImageFault::NoNodes {
+                name: None,
+                others: 0,
+            },
+            "I1 NoNodes",
+            "no node is found in either byte order, see info",
+        ),
+        (
+            ImageFault::NoNodes {
+                name: None,
+                others: 1,
+            },
+            "I1 NoNodes",
+            "the other byte order has 1 node, see --endian and info",
+        ),
+        (
+            ImageFault::NoNodes {
+                name: Some("a b"),
+                others: 20,
+            },
+            "I1 NoNodes a b",
+            "the other byte order has 20 nodes, see --endian and info",
+        ),
+        (
+            ImageFault::Findings {
+                name: "a\n",
+                findings: 1,
+            },
+            "I2 Findings",
+            "a\\x0a would be replaced, and has 1 finding, see check --scan; --force does it all \
+             the same",
+        ),
+        (
+            ImageFault::Findings {
+                name: "a",
+                findings: 12,
+            },
+            "I2 Findings",
+            "a would be replaced, and has 12 findings, see check --scan; --force does it all the \
+             same",
+        ),
+    ]
+}
+
+#[test]
+fn texts_of_images(rt: HostRuntime) {
+    for &(fault, text, note) in image_faults() {
+        has_text(&rt, rt.alloc(), ProgramFault::Image(fault), text);
+        has_note(&rt, rt.alloc(), ProgramFault::Image(fault), note);
     }
 }
 

@@ -5,12 +5,13 @@ use crate::report::images::{
     CIRCLE, CIRCLE_BELOW, CLASH, COMPRESSED, DAMAGED_INODE_2, DEEP, DEEP_BELOW, DEEP_LISTED,
     FILE_AS_ROOT, GEOMETRY, LARGE, ONE_BLOCK, OTHER_ORDER, Raw, TREE, image_of, raw_image,
 };
-use byteorder::LittleEndian;
+use byteorder::{BigEndian, LittleEndian};
 use flashbase::{FromWriter, Sink};
 use jline::put_escaped;
 use jmount::{FindFault, MountFault, mount};
 use jreport::{
-    Found, ProgramFault, content, found_in, image_check, image_file, image_tree, put_note,
+    Found, ImageFault, ProgramFault, content, found_in, image_check, image_file, image_tree,
+    put_note, refuse_findings, refuse_no_nodes,
 };
 use jscan::{GREATEST_IMAGE, Geometry};
 use std::alloc::Global;
@@ -297,6 +298,60 @@ fn findings_of_compressed_images(rt: HostRuntime) -> Result<(), Fail> {
         let found = findings_of(&image).map(|found| (found.noted, found.attributes));
         equal(&rt, found, Some((noted, attributes)));
     }
+    Ok(())
+}
+
+/// The nodes of an image; how many it has in the other order, where it is refused for having none;
+/// and how many findings it is refused for, if it is.
+type Judged = (&'static [&'static [u8]], Option<u64>, Option<u64>);
+
+fn judged() -> &'static [Judged] {
+    &[
+        (&[], None, None),
+        (&[COMPRESSED], None, None),
+        (&[DAMAGED_INODE_2], None, Some(1)),
+        (&[OTHER_ORDER], Some(0), Some(1)),
+    ]
+}
+
+fn no_nodes(others: u64) -> ProgramFault<'static> {
+    ProgramFault::Image(ImageFault::NoNodes {
+        name: Some("a"),
+        others,
+    })
+}
+
+fn with_findings(findings: u64) -> ProgramFault<'static> {
+    ProgramFault::Image(ImageFault::Findings {
+        name: "a",
+        findings,
+    })
+}
+
+#[test]
+fn images_that_are_refused(rt: HostRuntime) -> Result<(), Fail> {
+    for &(nodes, others, findings) in judged() {
+        let image = raw_image(rt.alloc(), Raw { nodes, ..ONE_BLOCK })?;
+        let refused = refuse_no_nodes::<LittleEndian>(&image, GEOMETRY, Some("a")).err();
+        equal(&rt, refused, others.map(no_nodes));
+        let refused = refuse_findings::<LittleEndian>(&image, GEOMETRY, "a").err();
+        equal(&rt, refused, findings.map(with_findings));
+    }
+    let image = raw_image(
+        rt.alloc(),
+        Raw {
+            nodes: &[COMPRESSED],
+            ..ONE_BLOCK
+        },
+    )?;
+    let refused = refuse_no_nodes::<BigEndian>(&image, GEOMETRY, Some("a")).err();
+    equal(&rt, refused, Some(no_nodes(1)));
+    let small = Geometry { block: 4097 };
+    equal(
+        &rt,
+        refuse_no_nodes::<BigEndian>(&image, small, None),
+        Ok(()),
+    );
     Ok(())
 }
 

@@ -61,9 +61,12 @@ fn shown(alloc: Global, request: Request<'_>) -> Result<String, AllocError> {
             let mark = mark(decompress);
             format!(in alloc; "cat {block} {order} {image} {path}{mark}")
         }
-        Request::Decompress { image, output, .. } => {
-            format!(in alloc; "decompress {block} {order} {image} {output}")
-        }
+        Request::Decompress {
+            options,
+            force,
+            image,
+            output,
+        } => shown_copy(alloc, "decompress", options, force, image, output),
         Request::Build { target, listing } => {
             let (blocks, page, output) = written(target);
             format!(in alloc; "build {block} {order} {blocks} {page} {listing} {output}")
@@ -146,12 +149,14 @@ fn shown_copy(
     alloc: Global,
     name: &str,
     options: Options,
+    force: bool,
     image: &str,
     output: &str,
 ) -> Result<String, AllocError> {
     let block = options.geometry.block;
     let order = order_name(options.endian);
-    format!(in alloc; "{name} {block} {order} {image} {output}")
+    let force = if force { " forced" } else { "" };
+    format!(in alloc; "{name} {block} {order} {image} {output}{force}")
 }
 
 fn shown_examination(alloc: Global, asked: Examination<'_>) -> Result<String, AllocError> {
@@ -175,9 +180,11 @@ fn shown_task(alloc: Global, task: Task<'_>) -> Result<String, AllocError> {
         Task::Listing(asked) => shown_listing(alloc, asked),
         Task::Info { image } => format!(in alloc; "info {image}"),
         Task::Cuts(asked) => shown_cuts(alloc, asked),
-        Task::Compress(it) => shown_copy(alloc, "compress", it.options, it.image, it.output),
+        Task::Compress(it) => {
+            shown_copy(alloc, "compress", it.options, it.force, it.image, it.output)
+        }
         Task::Diff(asked) => shown_comparison(alloc, asked),
-        Task::Apart(it) => shown_copy(alloc, "apart", it.options, it.image, it.output),
+        Task::Apart(it) => { shown_copy(alloc, "apart", it.options, it.force, it.image, it.output) }
         Task::Damage(asked) => shown_examination(alloc, asked),
         Task::Pack(asked) => shown_packing(alloc, asked),
     }

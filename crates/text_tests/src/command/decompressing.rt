@@ -5,7 +5,7 @@ use crate::command::command_lines::{answer_to, is_text, is_wrong};
 use std::test::Fail;
 
 /// Lines, and what they ask for.
-const ASKED: [(&str, &str); 12] = [
+const ASKED: [(&str, &str); 15] = [
     (
         "t decompress --clashes higher a.img b.img",
         "apart 65536 little a.img b.img",
@@ -25,6 +25,18 @@ const ASKED: [(&str, &str); 12] = [
     (
         "t compress a.img --endian big b.img --block=8192",
         "compress 8192 big a.img b.img",
+    ),
+    (
+        "t compress --force a.img a.img",
+        "compress 65536 little a.img a.img forced",
+    ),
+    (
+        "t decompress a.img --force a.img",
+        "decompress 65536 little a.img a.img forced",
+    ),
+    (
+        "t decompress --clashes=higher a.img a.img --force",
+        "apart 65536 little a.img a.img forced",
     ),
     (
         "t ls --decompress a.img /b",
@@ -70,7 +82,7 @@ fn args_that_decompress(rt: HostRuntime) -> Result<(), Fail> {
 }
 
 /// Lines that ask for nothing, and a part of the text that says why.
-const WRONG: [(&str, &str); 17] = [
+const WRONG: [(&str, &str); 19] = [
     ("t decompress --clashes higher a.img", "<OUT>"),
     (
         "t decompress --clashes lower a b",
@@ -91,6 +103,8 @@ const WRONG: [(&str, &str); 17] = [
         "'x' for '--block <N>'",
     ),
     ("t check --decompress a.img", "--decompress"),
+    ("t compress --force --force a.img b.img", "--force"),
+    ("t append --force --blocks 8 a.img b.txt c.img", "--force"),
     (
         "t build --decompress --blocks 8 a.txt b.img",
         "--decompress",

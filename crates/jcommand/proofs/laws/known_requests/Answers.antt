@@ -72,6 +72,10 @@ pub returns-clause-compressed : goal.returns-clause-compressed
 unfolding clap_on_literals program parsed parsed_from
 returns-clause-compressed c = refl
 
+pub returns-clause-compressed_over : goal.returns-clause-compressed_over
+unfolding clap_on_literals program parsed parsed_from
+returns-clause-compressed_over c = refl
+
 pub returns-clause-compared : goal.returns-clause-compared
 unfolding clap_on_literals program parsed parsed_from
 returns-clause-compared c = refl

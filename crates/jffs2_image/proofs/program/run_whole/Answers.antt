@@ -14,7 +14,7 @@ options_are_parsed (request.List options decompress image path) = refl
 options_are_parsed (request.Cat options decompress image path) = refl
 options_are_parsed (request.Build target listing) = refl
 options_are_parsed (request.Append target decompress image listing) = refl
-options_are_parsed (request.Decompress options image output) = refl
+options_are_parsed (request.Decompress options force image output) = refl
 
 pub returns-clause-meets : goal.returns-clause-meets
 returns-clause-meets g c = record {

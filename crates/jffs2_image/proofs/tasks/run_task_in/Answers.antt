@@ -93,7 +93,7 @@ returns-in-Compress g c = λ words asks.
     inr (inr (inr (inr (inr (inl ((
       refl,
       record {
-        asked = record { options = c.in-Compress.asked.options; image = c.in-Compress.asked.image.now; output = c.in-Compress.asked.output.now };
+        asked = record { options = c.in-Compress.asked.options; force = c.in-Compress.asked.force; image = c.in-Compress.asked.image.now; output = c.in-Compress.asked.output.now };
         parsed = parsed_as words c.args.task (task.Compress c.in-Compress.asked) asks c.in-Compress.is;
         faultless = asks.1;
         ends = c.run_compress.ensures;
@@ -120,7 +120,7 @@ returns-in-Apart g c = λ words asks.
     inr (inr (inr (inr (inr (inr (inr (inl ((
       refl,
       record {
-        asked = record { options = c.in-Apart.asked.options; image = c.in-Apart.asked.image.now; output = c.in-Apart.asked.output.now };
+        asked = record { options = c.in-Apart.asked.options; force = c.in-Apart.asked.force; image = c.in-Apart.asked.image.now; output = c.in-Apart.asked.output.now };
         parsed = parsed_as words c.args.task (task.Apart c.in-Apart.asked) asks c.in-Apart.is;
         faultless = asks.1;
         ends = c.run_apart.ensures;

@@ -1,0 +1,43 @@
+-- An image in which no node is found.
+use Rattle.std.specs.Prelude.{◌≡◌, ℕ, List, [], length, option_map, Option}
+use Rattle.flashbase.specs.Bytes.{erased}
+use Rattle.jnode.specs.declared.order.Endian.{Endian}
+use Rattle.jnode.specs.declared.order.Endian.TheVariants.{Little, Big}
+use Rattle.jscan.specs.Image.{sightings}
+use Rattle.jscan.specs.Scans.{IsScannable}
+use Rattle.jreport.specs.declared.faults.ProgramFault.{ProgramFault}
+use Rattle.jreport.specs.declared.faults.ProgramFault.TheVariants as program
+use Rattle.jreport.specs.declared.image_fault.ImageFault.{ImageFault}
+use Rattle.jreport.specs.declared.image_fault.ImageFault.TheVariants as image
+
+-- how many nodes an image has in a byte order, of whatever kind: each has a good header
+abbrev pub node_count : Endian → ℕ → List ℕ → ℕ
+node_count e size image = length (sightings e size image)
+
+-- all of its bytes are as erased flash has them; or there are none
+abbrev pub IsAllErased : List ℕ → Type 0
+IsAllErased image = image ≡ erased (length image)
+
+-- no node is found in an image that can be read, and that has been written
+pub record HasNoNode (e : Endian) (size : ℕ) (image : List ℕ) : Type 0 where
+  pub scannable : IsScannable size image
+  pub none : sightings e size image ≡ []
+  pub written : IsAllErased image → ⊥
+
+abbrev pub other_order : Endian → Endian
+other_order Little = Big
+other_order Big = Little
+
+-- so many nodes are in the other order of an image, which is told by this name where it has one
+abbrev pub TellsOthers : Option (List ℕ) → ℕ → ImageFault → Type 0
+TellsOthers name n (image.NoNodes told others) =
+    (option_map (λ text. text.now) told ≡ name) × (others ≡ n)
+TellsOthers name n _ = ⊥
+
+-- That is the fault, with the number of nodes in the other byte order.
+pub record IsNoNodes (e : Endian) (size : ℕ) (bytes : List ℕ) (name : Option (List ℕ))
+    (fault : ProgramFault) : Type 0 where
+  pub none : HasNoNode e size bytes
+  pub why : ImageFault
+  pub is : fault ≡ program.Image why
+  pub told : TellsOthers name (node_count (other_order e) size bytes) why
