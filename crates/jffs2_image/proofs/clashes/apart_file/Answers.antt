@@ -1,5 +1,6 @@
 use Rattle.std.proofs.Common.{inl, inr, refl}
 use Rattle.jffs2_image.proofs.JudgingLemmas.{kept_blames}
+use Rattle.jffs2_image.specs.declared.clashes.ApartDone.{ApartDone}
 use Rattle.jffs2_image.proofs.clashes.apart_file.Goals as goal
 
 pub returns-in-Err-judge_image-clause-decompresses : goal.returns-in-Err-judge_image-clause-decompresses
@@ -10,7 +11,7 @@ returns-in-Err-judge_image-clause-decompresses g c = inl (
 )
 
 pub returns-in-Err-judge_image-clause-host : goal.returns-in-Err-judge_image-clause-host
-returns-in-Err-judge_image-clause-host g c = kept_blames _ _ _ _ _ _ _ _ _ _ _ c.in-Err-judge_image.ensures.fault refl
+returns-in-Err-judge_image-clause-host g c = kept_blames ApartDone _ _ _ _ _ _ _ _ _ _ c.in-Err-judge_image.ensures.fault refl
 
 pub returns-clause-decompresses : goal.returns-clause-decompresses
 returns-clause-decompresses g c = inl (

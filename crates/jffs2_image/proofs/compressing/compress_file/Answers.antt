@@ -1,4 +1,4 @@
-use Rattle.std.proofs.Common.{inl, inr, refl}
+use Rattle.std.proofs.Common.{ℕ, inl, inr, refl}
 use Rattle.jffs2_image.proofs.JudgingLemmas.{kept_blames}
 use Rattle.jffs2_image.proofs.compressing.compress_file.Goals as goal
 
@@ -10,7 +10,7 @@ returns-in-Err-judge_image-clause-compresses g c = inl (
 )
 
 pub returns-in-Err-judge_image-clause-host : goal.returns-in-Err-judge_image-clause-host
-returns-in-Err-judge_image-clause-host g c = kept_blames _ _ _ _ _ _ _ _ _ _ _ c.in-Err-judge_image.ensures.fault refl
+returns-in-Err-judge_image-clause-host g c = kept_blames ℕ _ _ _ _ _ _ _ _ _ _ c.in-Err-judge_image.ensures.fault refl
 
 pub returns-clause-compresses : goal.returns-clause-compresses
 returns-clause-compresses g c = inl (
