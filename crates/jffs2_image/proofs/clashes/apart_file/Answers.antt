@@ -1,16 +1,17 @@
 use Rattle.std.proofs.Common.{inl, inr, refl}
 use Rattle.jffs2_image.proofs.JudgingLemmas.{kept_blames}
+use Rattle.jffs2_image.specs.declared.clashes.ApartDone.{ApartDone}
 use Rattle.jffs2_image.proofs.clashes.apart_file.Goals as goal
 
 pub returns-in-Err-judge_image-clause-decompresses : goal.returns-in-Err-judge_image-clause-decompresses
 returns-in-Err-judge_image-clause-decompresses g c = inl (
   c.in-Ok.bytes.items,
   (c.in-Ok.ensures.bytes, c.in-Ok.ensures.within),
-  (c.is_one_file-over.result, inr (c.in-Err-judge_image.fault, refl, rw c.requires (rw c.as_slice.ensures.value at c.in-Err-judge_image.ensures), ((refl, (refl, refl))))),
+  (c.is_one_file-over.result, inr (c.in-Err-judge_image.fault, refl, rw c.requires (rw c.as_slice.ensures.value at c.in-Err-judge_image.ensures.fault), ((refl, (refl, refl))))),
 )
 
 pub returns-in-Err-judge_image-clause-host : goal.returns-in-Err-judge_image-clause-host
-returns-in-Err-judge_image-clause-host g c = kept_blames _ _ _ _ _ _ _ _ _ _ _ c.in-Err-judge_image.ensures refl
+returns-in-Err-judge_image-clause-host g c = kept_blames ApartDone _ _ _ _ _ _ _ _ _ _ c.in-Err-judge_image.ensures.fault refl
 
 pub returns-clause-decompresses : goal.returns-clause-decompresses
 returns-clause-decompresses g c = inl (

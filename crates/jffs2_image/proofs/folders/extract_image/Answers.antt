@@ -8,7 +8,7 @@ returns-in-Err-refuse_no_nodes g c = inl (
   c.in-Ok.bytes.items,
   search rules,
   search rules,
-  inr (c.in-Err-refuse_no_nodes.fault, refl, rw c.as_slice-image.ensures.value at c.in-Err-refuse_no_nodes.ensures, (refl, refl, refl, refl)),
+  inr (c.in-Err-refuse_no_nodes.fault, refl, rw c.as_slice-image.ensures.value at c.in-Err-refuse_no_nodes.ensures.fault, (refl, refl, refl, refl)),
 )
 
 pub returns-then-asked : goal.returns-then-asked
@@ -19,7 +19,7 @@ returns-then-asked g c =
       search rules,
       search rules,
       inl (
-        rw c.as_slice-image.ensures.value at c.in-Ok-refuse_no_nodes.ensures,
+        rw c.as_slice-image.ensures.value at c.in-Ok-refuse_no_nodes.ensures.ok,
         extracted_as_asked c.args.asked.decompress _ c.in-Ok.bytes.items c.as_slice-image.result.now _ c.extract_decompressed.result asked c.as_slice-image.ensures.value c.extract_decompressed.ensures,
       ),
     )
@@ -32,7 +32,7 @@ returns g c =
       search rules,
       search rules,
       inl (
-        rw c.as_slice-image.ensures.value at c.in-Ok-refuse_no_nodes.ensures,
+        rw c.as_slice-image.ensures.value at c.in-Ok-refuse_no_nodes.ensures.ok,
         extracted_as_is c.args.asked.decompress _ c.in-Ok.bytes.items c.as_slice-image.result.now _ c.extract_bytes.result asked c.as_slice-image.ensures.value c.extract_bytes.ensures,
       ),
     )
