@@ -67,7 +67,10 @@ fn print_packed(rt: &impl Print, alloc: Global, image: &[u8], length: usize) -> 
     println!(rt; "{length} bytes, compressed")?;
     let left = image.get(..length).context("a longer image")?;
     let mut contents = Vec::new(alloc);
-    print_names(rt, &mount_through::<LittleEndian>(alloc, left, GEOMETRY, &mut contents)?)
+    print_names(
+        rt,
+        &mount_through::<LittleEndian>(alloc, left, GEOMETRY, &mut contents)?,
+    )
 }
 
 fn main(rt: HostRuntime) -> Result<()> {
