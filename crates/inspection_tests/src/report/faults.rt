@@ -451,8 +451,8 @@ fn notes_with_a_reason(rt: HostRuntime) {
 }
 
 /// Why commands do not go on with an image, the text of each, and what is noted.
-fn image_faults() -> &'static [(ImageFault<'static>, &'static str, &'static str)] {
-    &[
+fn image_faults() -> [(ImageFault<'static>, &'static str, &'static str); 5] {
+    [
         (
             ImageFault::NoNodes {
                 name: None,
@@ -500,7 +500,7 @@ fn image_faults() -> &'static [(ImageFault<'static>, &'static str, &'static str)
 
 #[test]
 fn texts_of_images(rt: HostRuntime) {
-    for &(fault, text, note) in image_faults() {
+    for &(fault, text, note) in &image_faults() {
         has_text(&rt, rt.alloc(), ProgramFault::Image(fault), text);
         has_note(&rt, rt.alloc(), ProgramFault::Image(fault), note);
     }
