@@ -3,7 +3,8 @@
 
 Several people, or several tasks of one, work in clones of their own. `rt check` builds on the libraries in crates/*/out/rlib
 of its own clone alone, and proves those that are not there. This copies those of the clone DIR, for each crate whose sources,
-and all below them, are the same here. What `rt ci` made there serves too. A line is printed for each crate that was taken.
+and all below them, are the same here. What `rt ci` made there serves too. A library is left that is older than a source there,
+since nothing says what it was made from. A line is printed for each crate that was taken.
 """
 import os
 import shutil
@@ -16,6 +17,14 @@ import rtlib  # noqa: E402  (the toolchain's own: what a library is made from)
 def crates_at(top):
     """The crates of a clone, by their names."""
     return {os.path.basename(it.folder): it for it in rtlib.crates_below(os.path.realpath(top))}
+
+
+def is_current(crate):
+    """Whether a crate's library is there, and no source of it, or of a crate below it, was changed after it was made."""
+    if not os.path.isdir(crate.rlib):
+        return False
+    made = os.path.getmtime(crate.rlib)
+    return all(os.path.getmtime(file) <= made for it in [crate, *crate.below()] for file in rtlib.files_of(it.folder))
 
 
 def take(here, there, stamp):
@@ -33,7 +42,7 @@ def main():
     theirs = crates_at(sys.argv[1])
     for name, here in crates_at(".").items():
         there = theirs.get(name)
-        if there is None or not os.path.isdir(there.rlib) or here.is_built():
+        if there is None or here.is_built() or not is_current(there):
             continue
         stamp = here.stamp()
         if stamp == there.stamp():
