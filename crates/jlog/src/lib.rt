@@ -25,9 +25,12 @@ mod start;
 mod writing;
 
 pub use crate::fault::SessionFault;
-pub use crate::place::place_of;
-pub use crate::putting::{put_erased, put_node};
+pub use crate::node::{node_len, node_of, write_node};
+pub use crate::place::{place_after, place_of};
+pub use crate::putting::{put_erased, put_gap, put_node};
 pub use crate::report::{Applied, Place, RunReport};
 pub use crate::resuming::{page_fits, resume_at};
+pub use crate::room::free;
 pub use crate::session::Session;
 pub use crate::start::{Flash, Start};
+pub use crate::writing::{Blocks, Stop};
