@@ -1,0 +1,9 @@
+pub mod ChooseLemmas
+pub mod CountLemmas
+pub mod FileLemmas
+pub mod MadeLemmas
+pub mod Parts
+pub mod PutLemmas
+pub mod RoomLemmas
+pub mod RunLemmas
+pub mod StartLemmas

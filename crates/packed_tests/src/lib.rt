@@ -1,0 +1,5 @@
+//! Tests of sessions that pack.
+#![tactic(auto)]
+
+#[cfg(test)]
+mod sessions;
