@@ -58,6 +58,9 @@ pub made_short : (page : ℕ) (e : Endian) (x : Indexed) (s : Step) (stream : Li
 made_short page e x s stream is_page can made =
     omega (arith, made_long e x s stream made, no_longer e (node_of x s) (form_with e (node_of x s) stream) (made_form e (node_of x s) stream made), can.node.within, is_page.most)
 
+pub form_short : (page : ℕ) (e : Endian) (x : Indexed) (s : Step) (t : List ℕ) → IsPage page → CanWrite page e x s → IsMadeOf e (node_of x s) t → length (form_with e (node_of x s) t) ≤ 16452
+form_short page e x s t is_page can made = omega (arith, made_long e x s t made, made_short page e x s t is_page can made)
+
 -- ---- several
 
 pub made_forms : (e : Endian) (ns : List NodeRef) (ts : List (List ℕ)) → AreMadeOf e ns ts → AreNodeForms e ns (forms_with e ns ts)

@@ -10,7 +10,7 @@ use Rattle.jlog.proofs.RoomCode.{len_at}
 use Rattle.jlog.proofs.StepLemmas.{pad4_small, size_words}
 use Rattle.jlog.specs.Running.{node_len}
 use Rattle.jpacked.specs.Forms.{form_len, step_forms}
-use Rattle.jpacked.proofs.MadeLemmas.{made_forms, many_forms, many_nodes, long_at, short_at, forms_fit_blocks}
+use Rattle.jpacked.proofs.MadeLemmas.{made_forms, made_many, many_forms, many_nodes, long_at, short_at, forms_fit_blocks}
 use Rattle.jpacked.proofs.PutLemmas.{within_at}
 use Rattle.jpacked.proofs.RoomLemmas.{stream_short, Room, more_room, no_room, first_within}
 use Rattle.jpacked.proofs.room.has_room.Goals as goal
@@ -230,3 +230,11 @@ returns g c =
     let forms : List (List ℕ) = step_forms e x a.steps.now a.streams.now in
     let all : length forms ≤ c.loop-i.i = omega (arith, many_forms e (nodes_of x a.steps.now) a.streams.now c.requires.made, many_nodes x a.steps.now) in
     sym (subst (λ (l : List (List ℕ)). IsTrue (fit a.flash.size a.flash.count a.cursor l)) (take_all c.loop-i.i forms all) c.loop-i.invariant.fits)
+
+pub bounds-streams-i : goal.bounds-streams-i
+bounds-streams-i g c =
+    let e = g.E.Order.order in
+    let a = c.args in
+    let x : Indexed = a._index.now in
+    let below : c.loop-i.i < length a.steps.now = search rules in
+    omega (arith, below, made_many e (nodes_of x a.steps.now) a.streams.now c.requires.made, many_nodes x a.steps.now)

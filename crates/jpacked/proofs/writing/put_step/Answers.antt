@@ -1,4 +1,4 @@
-use Rattle.std.proofs.Common.{rules, ◌≡◌, ◌+◌, ◌-◌, ◌<◌, [], ◌∷◌, ◌++◌, length, ℕ, List, true, false, arith, subst, sym, ap, ◌∙◌, refl, take}
+use Rattle.std.proofs.Common.{rules, ◌≡◌, ◌+◌, ◌-◌, ◌<◌, ◌≤◌, [], ◌∷◌, ◌++◌, length, ℕ, List, true, false, arith, subst, sym, ap, ◌∙◌, refl, take}
 use Rattle.std.specs.Prelude.{is_err}
 use Rattle.std.specs.Io.KnownBytes.{Appends}
 use Rattle.flashbase.specs.Bytes.{pad4_of}
@@ -11,10 +11,62 @@ use Rattle.jlog.specs.Running.{shown_place}
 use Rattle.jlog.specs.declared.report.Place.{Place}
 use Rattle.jlog.proofs.StepLemmas.{failed, part_failed, pad4_small, went, on_ok, size_words}
 use Rattle.jpacked.specs.Forms.{form_with}
-use Rattle.jpacked.proofs.MadeLemmas.{form_fits_block, made_form}
+use Rattle.jpacked.proofs.MadeLemmas.{form_fits_block, form_short}
 use Rattle.jpacked.proofs.Parts.{PutBy, PartBy}
 use Rattle.jpacked.proofs.PutLemmas.{Spot, spot_of, gap_failed, node_failed, pad_failed, form_put}
 use Rattle.jpacked.proofs.writing.put_step.Goals as goal
+
+pub overflow_cast-len : goal.overflow_cast-len
+overflow_cast-len g c =
+    let e = g.E.Order.order in
+    let a = c.args in
+    let x = a.log.now.index in
+    let s = a.step.now in
+    let form : List ℕ = form_with e (node_of x s) a.stream.now in
+    let node : List ℕ = c.write_form.new.out.items in
+    let is : node ≡ form = search rules in
+    let long : c.len-len.result ≡ length node = search rules in
+    let few : c.len-len.result ≤ 16452 = omega (arith, long, ap length is, form_short c.requires.step.page e x s a.stream.now c.requires.step.is_page c.requires.step.can.0 c.requires.made) in
+    search (rules, few)
+
+pub place_after-at-requires-clause-len : goal.place_after-at-requires-clause-len
+place_after-at-requires-clause-len g c =
+    let e = g.E.Order.order in
+    let a = c.args in
+    let x = a.log.now.index in
+    let s = a.step.now in
+    let form : List ℕ = form_with e (node_of x s) a.stream.now in
+    let node : List ℕ = c.write_form.new.out.items in
+    let is : node ≡ form = search rules in
+    let long : c.len-len.result ≡ length node = search rules in
+    let few : c.len-len.result ≤ 16452 = omega (arith, long, ap length is, form_short c.requires.step.page e x s a.stream.now c.requires.step.is_page c.requires.step.can.0 c.requires.made) in
+    search (rules, few)
+
+pub overflow_cast-len-2 : goal.overflow_cast-len-2
+overflow_cast-len-2 g c =
+    let e = g.E.Order.order in
+    let a = c.args in
+    let x = a.log.now.index in
+    let s = a.step.now in
+    let form : List ℕ = form_with e (node_of x s) a.stream.now in
+    let node : List ℕ = c.write_form.new.out.items in
+    let is : node ≡ form = search rules in
+    let long : c.len-len.result ≡ length node = search rules in
+    let few : c.len-len.result ≤ 16452 = omega (arith, long, ap length is, form_short c.requires.step.page e x s a.stream.now c.requires.step.is_page c.requires.step.can.0 c.requires.made) in
+    search (rules, few)
+
+pub overflow_cast-len-3 : goal.overflow_cast-len-3
+overflow_cast-len-3 g c =
+    let e = g.E.Order.order in
+    let a = c.args in
+    let x = a.log.now.index in
+    let s = a.step.now in
+    let form : List ℕ = form_with e (node_of x s) a.stream.now in
+    let node : List ℕ = c.write_form.new.out.items in
+    let is : node ≡ form = search rules in
+    let long : c.len-len.result ≡ length node = search rules in
+    let few : c.len-len.result ≤ 16452 = omega (arith, long, ap length is, form_short c.requires.step.page e x s a.stream.now c.requires.step.is_page c.requires.step.can.0 c.requires.made) in
+    search (rules, few)
 
 pub put_gap-requires-clause-up : goal.put_gap-requires-clause-up
 put_gap-requires-clause-up g c =
@@ -75,7 +127,18 @@ returns-then-is_err-4-clause-puts g c =
     )
 
 pub overflow_cast-end : goal.overflow_cast-end
-overflow_cast-end g c = search (rules, pad4_small)
+overflow_cast-end g c =
+    let e = g.E.Order.order in
+    let a = c.args in
+    let x = a.log.now.index in
+    let s = a.step.now in
+    let form : List ℕ = form_with e (node_of x s) a.stream.now in
+    let node : List ℕ = c.write_form.new.out.items in
+    let is : node ≡ form = search rules in
+    let long : c.len-len.result ≡ length node = search rules in
+    let few : c.len-len.result ≤ 16452 = omega (arith, long, ap length is, form_short c.requires.step.page e x s a.stream.now c.requires.step.is_page c.requires.step.can.0 c.requires.made) in
+    let far : c.pad4-end.result ≤ 16455 = omega (arith, few, c.pad4-end.ensures, pad4_small c.len-len.result) in
+    search (rules, far)
 
 pub overflow_sub-end : goal.overflow_sub-end
 overflow_sub-end g c = omega (arith, c.pad4-end.ensures, le_pad4 c.len-len.result)
@@ -109,8 +172,20 @@ returns-then-is_err-5-clause-puts g c =
       f.1 ∙ ap next_count (second.1 ∙ first.1),
     )
 
-pub overflow_add-cursor : goal.overflow_add-cursor
-overflow_add-cursor g c = search (rules, pad4_small)
+pub overflow_add-log : goal.overflow_add-log
+overflow_add-log g c =
+    let e = g.E.Order.order in
+    let a = c.args in
+    let x = a.log.now.index in
+    let s = a.step.now in
+    let form : List ℕ = form_with e (node_of x s) a.stream.now in
+    let node : List ℕ = c.write_form.new.out.items in
+    let is : node ≡ form = search rules in
+    let long : c.len-len.result ≡ length node = search rules in
+    let few : c.len-len.result ≤ 16452 = omega (arith, long, ap length is, form_short c.requires.step.page e x s a.stream.now c.requires.step.is_page c.requires.step.can.0 c.requires.made) in
+    let far : c.pad4-end.result ≤ 16455 = omega (arith, few, c.pad4-end.ensures, pad4_small c.len-len.result) in
+    let low : c.place_after-at.result + c.pad4-end.result ≤ 300000000 = omega (arith, far, c.place_after-at.ensures.small) in
+    search (rules, low)
 
 pub returns-clause-puts : goal.returns-clause-puts
 returns-clause-puts g c =

@@ -1,4 +1,4 @@
-use Rattle.std.proofs.Common.{rules, ◌≡◌, ◌≤◌, ◌+◌, ◌*◌, ◌%◌, ◌<◌, [], ◌∷◌, List, length, ℕ, take, get_or, suc, arith, subst, sym, ap, ◌∙◌, refl, Err}
+use Rattle.std.proofs.Common.{rules, ◌≡◌, ◌≤◌, ◌+◌, ◌*◌, ◌%◌, ◌<◌, [], ◌∷◌, List, length, ℕ, take, take_all, get_or, suc, arith, subst, sym, ap, ◌∙◌, refl, Err}
 use Rattle.std.specs.List.{AllByRecursion}
 use Rattle.flashbase.specs.Device.{next_count}
 use Rattle.jsteps.specs.Nodes.{Indexed, node_of, nodes_of, advanced_all}
@@ -300,3 +300,26 @@ loop-i-preserved g c =
       none_failed = did.1 ∙ before.none_failed;
       room = omega (arith, before.room, c.put_step.ensures.len, c.put_step.ensures.capacity);
     }
+
+pub bounds-streams-i : goal.bounds-streams-i
+bounds-streams-i g c =
+    let e = g.E.Order.order in
+    let a = c.args in
+    let x : Indexed = a.log.now.index in
+    let below : c.loop-i.i < length a.steps.now = search rules in
+    omega (arith, below, made_many e (nodes_of x a.steps.now) a.streams.now c.requires.made, many_nodes x a.steps.now)
+
+pub returns : goal.returns
+returns g c =
+    let e = g.E.Order.order in
+    let a = c.args in
+    let x : Indexed = a.log.now.index in
+    let forms : List (List ℕ) = step_forms e x a.steps.now a.streams.now in
+    let all : length a.steps.now ≤ c.loop-i.i = search rules in
+    let whole : take c.loop-i.i a.steps.now ≡ a.steps.now = take_all c.loop-i.i a.steps.now all in
+    let also : take c.loop-i.i forms ≡ forms = take_all c.loop-i.i forms (omega (arith, all, many_forms e (nodes_of x a.steps.now) a.streams.now c.requires.made, many_nodes x a.steps.now)) in
+    let wrote : PutBy e a.flash.size a.log.now.cursor x a.steps.now forms c.loop-i.log.cursor c.loop-i.log.index (g.S.Sink.taken a.log.now.sink) (g.S.Sink.taken c.loop-i.log.sink) a.places.now.items c.loop-i.places.items =
+    subst (λ (l : List Step). PutBy e a.flash.size a.log.now.cursor x l forms c.loop-i.log.cursor c.loop-i.log.index (g.S.Sink.taken a.log.now.sink) (g.S.Sink.taken c.loop-i.log.sink) a.places.now.items c.loop-i.places.items) whole
+    (subst (λ (l : List (List ℕ)). PutBy e a.flash.size a.log.now.cursor x (take c.loop-i.i a.steps.now) l c.loop-i.log.cursor c.loop-i.log.index (g.S.Sink.taken a.log.now.sink) (g.S.Sink.taken c.loop-i.log.sink) a.places.now.items c.loop-i.places.items) also
+    c.loop-i.invariant.wrote) in
+    (wrote, c.loop-i.invariant.none_failed)
