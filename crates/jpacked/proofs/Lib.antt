@@ -1,0 +1,4 @@
+pub mod ChooseLemmas
+pub mod MadeLemmas
+pub mod Parts
+pub mod PutLemmas
