@@ -44,7 +44,7 @@ use Rattle.jlog.proofs.HeadlineLemmas.{planned_loggable}
 use Rattle.jlog.proofs.PackedLemmas.{own_contents, canonical_length, fewer_words}
 use Rattle.jlog.proofs.RoomCode.{node_len_is}
 use Rattle.jexpand.specs.Expanded.{node_length}
-use Rattle.jpacked.specs.Forms.{IsStreamOf, IsFileNode, GivesFile, IsChosen, packed_as, form_with, IsMadeOf, content_of, form_len}
+use Rattle.jpacked.specs.Forms.{IsStreamOf, IsFileNode, IsOfFile, IsChosen, node_with_stream, form_with, IsMadeOf, content_chosen, form_len}
 
 -- ---- the compressed node stands for the node
 
@@ -57,21 +57,21 @@ content_of_length bytes stream gives =
     ap (option_and_then (of_length (length bytes))) gives ∙ cond-true (length bytes == length bytes) (Some bytes) None (eq-eqb (length bytes) (length bytes) refl)
 
 packed_content : (inode : InodeNode) (stream bytes : List ℕ) → inode.dsize ≡ length bytes → zlib_of (length bytes) stream ≡ Some bytes
-    → node_content (packed_as inode stream) ≡ Some bytes
+    → node_content (node_with_stream inode stream) ≡ Some bytes
 packed_content inode stream bytes size gives =
     let rest : Option (List ℕ) = unpacked inode.dsize stream Zlib in
-    let is : node_content (packed_as inode stream) ≡ cond (inode.dsize == 0) (Some []) rest = refl in
+    let is : node_content (node_with_stream inode stream) ≡ cond (inode.dsize == 0) (Some []) rest = refl in
     ⊎_elim
     (λ none. is ∙ (cond-true (inode.dsize == 0) (Some []) rest none ∙ ap (λ (xs : List ℕ). Some xs) (none_long bytes (sym size ∙ eqb-true _ _ none))))
     (λ some. is ∙ (cond-false (inode.dsize == 0) (Some []) rest some ∙ (ap (λ (n : ℕ). unpacked n stream Zlib) size ∙ content_of_length bytes stream gives)))
     (cases_Bool (inode.dsize == 0))
 
-expanded_back : (inode : InodeNode) (stream bytes : List ℕ) → inode.fill ≡ Data bytes → with_content (packed_as inode stream) bytes ≡ node.Inode inode
+expanded_back : (inode : InodeNode) (stream bytes : List ℕ) → inode.fill ≡ Data bytes → with_content (node_with_stream inode stream) bytes ≡ node.Inode inode
 expanded_back inode stream bytes fill =
     let P : Fill → NodeRef = λ f. node.Inode (record { ino = inode.ino; version = inode.version; mode = inode.mode; uid = inode.uid; gid = inode.gid; isize = inode.isize; atime = inode.atime; mtime = inode.mtime; ctime = inode.ctime; offset = inode.offset; dsize = inode.dsize; fill = f }) in
     ap P (sym fill)
 
-stream_fits : (inode : InodeNode) (stream : List ℕ) → FitsInode inode → FitsCompressed (packed_as inode stream)
+stream_fits : (inode : InodeNode) (stream : List ℕ) → FitsInode inode → FitsCompressed (node_with_stream inode stream)
 stream_fits inode stream fits = record {
   inode = record {
     ino = fits.ino;
@@ -90,7 +90,7 @@ stream_fits inode stream fits = record {
 }
 
 stands : (page : ℕ) (e : Endian) (inode : InodeNode) (bytes stream : List ℕ) → IsPage page → IsPlanned page e (node.Inode inode) → IsFileNode inode bytes → IsStreamOf bytes stream
-    → StandsFor (packed_as inode stream) (node.Inode inode)
+    → StandsFor (node_with_stream inode stream) (node.Inode inode)
 stands page e inode bytes stream is_page planned file packs =
     let own = (writable_is_computed (node.Inode inode)).0 planned.writable in
     let long : length (canonical e (node.Inode inode)) ≡ inode_len + length (stored_bytes inode.fill) = length-canonical_inode e inode in
@@ -113,8 +113,8 @@ stands page e inode bytes stream is_page planned file packs =
       };
     }
 
-packed_long : (e : Endian) (inode : InodeNode) (stream : List ℕ) → length (canonical_compressed e (packed_as inode stream)) ≡ inode_len + length stream
-packed_long e inode stream = length-canonical_compressed e (packed_as inode stream)
+packed_long : (e : Endian) (inode : InodeNode) (stream : List ℕ) → length (canonical_compressed e (node_with_stream inode stream)) ≡ inode_len + length stream
+packed_long e inode stream = length-canonical_compressed e (node_with_stream inode stream)
 
 -- what was chosen makes a form
 pub chosen_made : (page : ℕ) (e : Endian) (n : NodeRef) (held : ℕ) (stream : List ℕ) → IsPage page → IsPlanned page e n → IsChosen n held stream → IsMadeOf e n stream
@@ -122,11 +122,11 @@ chosen_made page e n held [] is_page planned chosen = tt
 chosen_made page e n held (b ∷ stream) is_page planned (bytes, (inode, is, file), packs, room) =
     subst (λ (m : NodeRef). IsMadeOf e m (b ∷ stream)) (sym is)
     (inr (
-      (packed_as inode (b ∷ stream), stands page e inode bytes (b ∷ stream) is_page (subst (IsPlanned page e) is planned) file packs, refl),
+      (node_with_stream inode (b ∷ stream), stands page e inode bytes (b ∷ stream) is_page (subst (IsPlanned page e) is planned) file packs, refl),
       λ h. packs.plain (sym (packed_long e inode (b ∷ stream)) ∙ h),
     ))
 
-pub made_choice : (n : NodeRef) (held : ℕ) (bytes stream : List ℕ) → GivesFile n bytes → IsStreamOf bytes stream → held + length bytes ≤ greatest_contents → IsChosen n held stream
+pub made_choice : (n : NodeRef) (held : ℕ) (bytes stream : List ℕ) → IsOfFile n bytes → IsStreamOf bytes stream → held + length bytes ≤ greatest_contents → IsChosen n held stream
 made_choice n held bytes [] file packs room = tt
 made_choice n held bytes (b ∷ stream) file packs room = (bytes, file, packs, room)
 
@@ -157,29 +157,29 @@ packed_gives e packed bytes fits writable small content =
 
 -- that of what was chosen for a step
 pub chosen_content : (page : ℕ) (e : Endian) (x : Indexed) (s : Step) (held : ℕ) (stream : List ℕ) → IsPage page → IsPlanned page e (node_of x s) → IsChosen (node_of x s) held stream
-    → content_len e (form_with e (node_of x s) stream ∷ []) ≡ content_of s stream
+    → content_len e (form_with e (node_of x s) stream ∷ []) ≡ content_chosen s stream
 unfolding stands
 chosen_content page e x s held [] is_page planned chosen =
     ap length (own_contents e (page + 80) (node_of x s ∷ []) (planned_loggable page e (page + 80) (node_of x s ∷ []) is_page (omega arith) (planned, tt)))
 chosen_content page e x s held (b ∷ stream) is_page planned (bytes, (inode, is, file), packs, room) =
     let fine : IsPlanned page e (node.Inode inode) = subst (IsPlanned page e) is planned in
-    let it : StandsFor (packed_as inode (b ∷ stream)) (node.Inode inode) = stands page e inode bytes (b ∷ stream) is_page fine file packs in
+    let it : StandsFor (node_with_stream inode (b ∷ stream)) (node.Inode inode) = stands page e inode bytes (b ∷ stream) is_page fine file packs in
     let long : length (canonical e (node_of x s)) ≡ node_len s = node_len_is e x s in
     let own : length (canonical e (node.Inode inode)) ≡ inode_len + length (stored_bytes inode.fill) = length-canonical_inode e inode in
     let same : length (canonical e (node_of x s)) ≡ length (canonical e (node.Inode inode)) = ap (λ (m : NodeRef). length (canonical e m)) is in
     let stored : length (stored_bytes inode.fill) ≡ length bytes = ap (λ (f : Fill). length (stored_bytes f)) file.fill in
     let less : inode_len + length (b ∷ stream) ≤ inode_len + length bytes = fewer_words _ _ packs.shorter in
-    let small : length (canonical_compressed e (packed_as inode (b ∷ stream))) < 2 ^ 32 =
+    let small : length (canonical_compressed e (node_with_stream inode (b ∷ stream))) < 2 ^ 32 =
     omega (arith, packed_long e inode (b ∷ stream), fine.within, is_page.most, own, stored, less) in
-    let gives : form_content e (canonical_compressed e (packed_as inode (b ∷ stream))) ≡ bytes = packed_gives e (packed_as inode (b ∷ stream)) bytes it.fits it.writable small it.content in
-    let form : form_with e (node_of x s) (b ∷ stream) ≡ canonical_compressed e (packed_as inode (b ∷ stream)) = ap (λ (m : NodeRef). form_with e m (b ∷ stream)) is in
+    let gives : form_content e (canonical_compressed e (node_with_stream inode (b ∷ stream))) ≡ bytes = packed_gives e (node_with_stream inode (b ∷ stream)) bytes it.fits it.writable small it.content in
+    let form : form_with e (node_of x s) (b ∷ stream) ≡ canonical_compressed e (node_with_stream inode (b ∷ stream)) = ap (λ (m : NodeRef). form_with e m (b ∷ stream)) is in
     let all : content_len e (form_with e (node_of x s) (b ∷ stream) ∷ []) ≡ length bytes =
     ap length (append-nil (form_content e (form_with e (node_of x s) (b ∷ stream)))) ∙ (ap (λ (f : List ℕ). length (form_content e f)) form ∙ ap length gives) in
     omega (arith, all, long, own, same, stored)
 
 -- it fits beside what is held
 pub chosen_room : (page : ℕ) (e : Endian) (x : Indexed) (s : Step) (held : ℕ) (stream : List ℕ) → IsPage page → IsPlanned page e (node_of x s) → IsChosen (node_of x s) held stream
-    → held ≤ greatest_contents → held + content_of s stream ≤ greatest_contents
+    → held ≤ greatest_contents → held + content_chosen s stream ≤ greatest_contents
 chosen_room page e x s held [] is_page planned chosen within = omega (arith, within)
 chosen_room page e x s held (b ∷ stream) is_page planned (bytes, (inode, is, file), packs, room) within =
     let long : length (canonical e (node_of x s)) ≡ node_len s = node_len_is e x s in

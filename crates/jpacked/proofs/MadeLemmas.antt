@@ -27,7 +27,7 @@ use Rattle.jexpand.specs.Expanded.{node_length}
 use Rattle.jlog.proofs.PackedLemmas.{forms_carry, canonical_length, fewer_words}
 use Rattle.jlog.proofs.RoomCode.{node_len_is}
 use Rattle.jlog.proofs.RunningLemmas.{can_at}
-use Rattle.jpacked.specs.Forms.{form_with, forms_with, step_forms, IsMadeOf, AreMadeOf, ArePacked, IsChosen, content_of, form_len}
+use Rattle.jpacked.specs.Forms.{form_with, forms_with, step_forms, IsMadeOf, AreMadeOf, ArePacked, IsChosen, content_chosen, form_len}
 use Rattle.jpacked.proofs.ChooseLemmas.{chosen_made, chosen_content, chosen_room}
 
 -- ---- one
@@ -155,7 +155,7 @@ none_packed e x held within = record { made = tt; now_is = omega arith; within =
 
 pub packed_more : (page : ℕ) (e : Endian) (x : Indexed) (steps : List Step) (held now : ℕ) (ts : List (List ℕ)) (i : ℕ) (d s : Step) (t : List ℕ) → IsPage page → CanWriteAll page e x steps
     → i < length steps → s ≡ get_or steps i d → ArePacked e x (take i steps) held ts now → IsChosen (node_of (advanced_all x (take i steps)) s) now t
-    → ArePacked e x (take (suc i) steps) held (ts ++ t ∷ []) (now + content_of s t)
+    → ArePacked e x (take (suc i) steps) held (ts ++ t ∷ []) (now + content_chosen s t)
 packed_more page e x steps held now ts i d s t is_page can below is packed chosen =
     let y : Indexed = advanced_all x (take i steps) in
     let n : NodeRef = node_of y s in
@@ -168,7 +168,7 @@ packed_more page e x steps held now ts i d s t is_page can below is packed chose
     ap (λ (l : List NodeRef). forms_with e l (ts ++ t ∷ [])) nodes ∙ forms_more e first ts n t packed.made in
     let content : content_len e (forms_with e first ts ++ form_with e n t ∷ []) ≡ content_len e (forms_with e first ts) + content_len e (form_with e n t ∷ []) =
     contents_on e (forms_with e first ts) (form_with e n t ∷ []) in
-    let one : content_len e (form_with e n t ∷ []) ≡ content_of s t = chosen_content page e y s now t is_page planned chosen in
+    let one : content_len e (form_with e n t ∷ []) ≡ content_chosen s t = chosen_content page e y s now t is_page planned chosen in
     let all : content_len e (step_forms e x (take (suc i) steps) (ts ++ t ∷ [])) ≡ content_len e (forms_with e first ts ++ form_with e n t ∷ []) = ap (content_len e) forms in
     record {
       made = subst (λ (l : List NodeRef). AreMadeOf e l (ts ++ t ∷ [])) (sym nodes) made;

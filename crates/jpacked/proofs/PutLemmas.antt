@@ -360,18 +360,18 @@ within_at size blocks from forms i words ok within aligned fits =
 
 -- ---- the answers of putting, by cases
 
-pub at_sink : {T : Type 0} (e : Endian) (size c : ℕ) (x : Indexed) (steps : List Step) (forms : List (List ℕ)) (end : ℕ) (y : Indexed) (a b : Option (List ℕ)) (f n : ℕ) (p q : List Place) (r : Result T Stop)
+pub at_sink : (e : Endian) (size c : ℕ) (x : Indexed) (steps : List Step) (forms : List (List ℕ)) (end : ℕ) (y : Indexed) (a b : Option (List ℕ)) (f n : ℕ) (p q : List Place) (r : Result (Unit {0}) Stop)
     → r ≡ Err stop.Sink → PutsBy e size c x steps forms end y a b f n p q r → ((t : ℕ) × PartBy e size c x forms t a b p q) × (n ≡ next_count f)
 at_sink e size c x steps forms end y a b f n p q r is did = subst (PutsBy e size c x steps forms end y a b f n p q) is did
 
-pub at_begun : {T : Type 0} (e : Endian) (size c : ℕ) (x : Indexed) (steps : List Step) (forms : List (List ℕ)) (end : ℕ) (y : Indexed) (a b : Option (List ℕ)) (f n : ℕ) (p q : List Place) (r : Result T Stop)
+pub at_begun : (e : Endian) (size c : ℕ) (x : Indexed) (steps : List Step) (forms : List (List ℕ)) (end : ℕ) (y : Indexed) (a b : Option (List ℕ)) (f n : ℕ) (p q : List Place) (r : Result (Unit {0}) Stop)
     → r ≡ Err stop.Begun → PutsBy e size c x steps forms end y a b f n p q r → ((t : ℕ) × (0 < t) × PartBy e size c x forms t a b p q) × (n ≡ f)
 at_begun e size c x steps forms end y a b f n p q r is did = subst (PutsBy e size c x steps forms end y a b f n p q) is did
 
-pub at_unbegun : {T : Type 0} (e : Endian) (size c : ℕ) (x : Indexed) (steps : List Step) (forms : List (List ℕ)) (end : ℕ) (y : Indexed) (a b : Option (List ℕ)) (f n : ℕ) (p q : List Place) (r : Result T Stop)
+pub at_unbegun : (e : Endian) (size c : ℕ) (x : Indexed) (steps : List Step) (forms : List (List ℕ)) (end : ℕ) (y : Indexed) (a b : Option (List ℕ)) (f n : ℕ) (p q : List Place) (r : Result (Unit {0}) Stop)
     → r ≡ Err stop.Unbegun → PutsBy e size c x steps forms end y a b f n p q r → (end ≡ c) × (y ≡ x) × Appends a b [] × (q ≡ p) × (n ≡ f)
 at_unbegun e size c x steps forms end y a b f n p q r is did = subst (PutsBy e size c x steps forms end y a b f n p q) is did
 
-pub at_ok : {T : Type 0} (u : T) (e : Endian) (size c : ℕ) (x : Indexed) (steps : List Step) (forms : List (List ℕ)) (end : ℕ) (y : Indexed) (a b : Option (List ℕ)) (f n : ℕ) (p q : List Place) (r : Result T Stop)
+pub at_ok : (u : Unit {0}) (e : Endian) (size c : ℕ) (x : Indexed) (steps : List Step) (forms : List (List ℕ)) (end : ℕ) (y : Indexed) (a b : Option (List ℕ)) (f n : ℕ) (p q : List Place) (r : Result (Unit {0}) Stop)
     → r ≡ Ok u → PutsBy e size c x steps forms end y a b f n p q r → PutBy e size c x steps forms end y a b p q × (n ≡ f)
 at_ok u e size c x steps forms end y a b f n p q r is did = subst (PutsBy e size c x steps forms end y a b f n p q) is did

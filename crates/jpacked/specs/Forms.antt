@@ -49,21 +49,21 @@ pub record IsFileNode (inode : InodeNode) (bytes : List ℕ) : Type 0 where
   pub long : inode.dsize ≡ length bytes
   pub regular : type_bits inode.mode ≡ regular_bits
 
-abbrev pub GivesFile : NodeRef → List ℕ → Type 0
-GivesFile n bytes = (inode : InodeNode) × (n ≡ node.Inode inode) × IsFileNode inode bytes
+abbrev pub IsOfFile : NodeRef → List ℕ → Type 0
+IsOfFile n bytes = (inode : InodeNode) × (n ≡ node.Inode inode) × IsFileNode inode bytes
 
 -- What was chosen for a node: no packed data; or some of its bytes, and there was room for these
 -- beside the contents that are held.
 abbrev pub IsChosen : NodeRef → ℕ → List ℕ → Type 0
 IsChosen n held [] = Unit {0}
-IsChosen n held (b ∷ stream) = (bytes : List ℕ) × GivesFile n bytes
+IsChosen n held (b ∷ stream) = (bytes : List ℕ) × IsOfFile n bytes
     × IsStreamOf bytes (b ∷ stream) × (held + length bytes ≤ greatest_contents)
 
 -- ---- forms
 
 -- the compressed node of the same fields as an inode node, with these data
-abbrev pub packed_as : InodeNode → List ℕ → CompressedNode
-packed_as inode stream = record {
+abbrev pub node_with_stream : InodeNode → List ℕ → CompressedNode
+node_with_stream inode stream = record {
   ino = inode.ino;
   version = inode.version;
   mode = inode.mode;
@@ -83,7 +83,8 @@ packed_as inode stream = record {
 abbrev pub form_with : Endian → NodeRef → List ℕ → List ℕ
 form_with e n [] = canonical e n
 form_with e (node.Entry entry) (b ∷ stream) = canonical e (node.Entry entry)
-form_with e (node.Inode inode) (b ∷ stream) = canonical_compressed e (packed_as inode (b ∷ stream))
+form_with e (node.Inode inode) (b ∷ stream) =
+    canonical_compressed e (node_with_stream inode (b ∷ stream))
 
 abbrev pub forms_with : Endian → List NodeRef → List (List ℕ) → List (List ℕ)
 forms_with e [] streams = []
@@ -99,7 +100,7 @@ abbrev pub IsMadeOf : Endian → NodeRef → List ℕ → Type 0
 IsMadeOf e n [] = Unit {0}
 IsMadeOf e (node.Entry entry) (b ∷ stream) = ⊥
 IsMadeOf e (node.Inode inode) (b ∷ stream) =
-    IsNodeForm e (node.Inode inode) (canonical_compressed e (packed_as inode (b ∷ stream)))
+    IsNodeForm e (node.Inode inode) (canonical_compressed e (node_with_stream inode (b ∷ stream)))
 
 -- one for each node
 abbrev pub AreMadeOf : Endian → List NodeRef → List (List ℕ) → Type 0
@@ -113,9 +114,9 @@ abbrev pub form_len : Step → List ℕ → ℕ
 form_len s [] = node_len s
 form_len s (b ∷ stream) = inode_len + length (b ∷ stream)
 
-abbrev pub content_of : Step → List ℕ → ℕ
-content_of s [] = 0
-content_of s (b ∷ stream) = node_len s - inode_len
+abbrev pub content_chosen : Step → List ℕ → ℕ
+content_chosen s [] = 0
+content_chosen s (b ∷ stream) = node_len s - inode_len
 
 -- Packed data for steps make forms of their nodes, and so much content is held with these, where so
 -- much was before.

@@ -15,8 +15,8 @@ use Rattle.jlog.specs.declared.writing.Stop.TheVariants as stop
 
 -- The sink took exactly what goes out for the forms, one a step, each at its place, and the log
 -- goes on after them.
-pub record IsPut (e : Endian) (size : ℕ) (from : Log) (steps : List Step) (forms : List (List ℕ))
-    (to : Log) (old new : Option (List ℕ)) : Type 0 where
+pub record AreFormsPut (e : Endian) (size : ℕ) (from : Log) (steps : List Step)
+    (forms : List (List ℕ)) (to : Log) (old new : Option (List ℕ)) : Type 0 where
   pub cursor : to.cursor ≡ end_of_all size from.cursor forms
   pub index : to.index ≡ advanced_all from.index steps
   pub bytes : Appends old new (output e size from.cursor forms)
@@ -34,10 +34,10 @@ pub record IsPutPart (e : Endian) (size : ℕ) (from : Log) (forms : List (List 
 
 -- Putting the forms of steps: all of them; or a beginning, where the sink failed, or where memory
 -- ran out; or, out of memory, nothing.
-abbrev pub PutsForms : {T : Type 0} → Endian → ℕ → Log → List Step → List (List ℕ) → Log
-    → SinkChange → Result T Stop → Type 0
+abbrev pub PutsForms : Endian → ℕ → Log → List Step → List (List ℕ) → Log → SinkChange
+    → Result (Unit {0}) Stop → Type 0
 PutsForms e size from steps forms to sink (Ok _) =
-    IsPut e size from steps forms to sink.old sink.new × (sink.now ≡ sink.before)
+    AreFormsPut e size from steps forms to sink.old sink.new × (sink.now ≡ sink.before)
 PutsForms e size from steps forms to sink (Err stop.Sink) =
     ((t : ℕ) × IsPutPart e size from forms t to.places sink.old sink.new)
     × (sink.now ≡ next_count sink.before)

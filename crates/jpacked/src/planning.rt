@@ -6,7 +6,7 @@ ghost use Rattle.jnode.specs.Writing.{totlen_most};
 ghost use Rattle.jsteps.specs.Nodes.{advanced_all, node_of};
 ghost use Rattle.jlog.specs.Running.{node_len, CanWriteAll};
 ghost use Rattle.jview.specs.Through.{greatest_contents};
-ghost use Rattle.jpacked.specs.Forms.{ArePacked, IsChosen, content_of, form_len};
+ghost use Rattle.jpacked.specs.Forms.{ArePacked, IsChosen, content_chosen, form_len};
 
 use crate::packing::{Packing, pack};
 use crate::regular::packable;
@@ -33,9 +33,9 @@ pub(crate) fn form_len(step: &Step<'_>, stream: &[u8]) -> usize
 }
 
 /// How many bytes of content it has.
-fn content_of(step: &Step<'_>, stream: &[u8]) -> usize
+fn content_chosen(step: &Step<'_>, stream: &[u8]) -> usize
     requires step { node_len step.now ≤ totlen_most }
-    ensures { result ≡ content_of step.now stream.now }
+    ensures { result ≡ content_chosen step.now stream.now }
 {
     if stream.is_empty() {
         0
@@ -98,7 +98,7 @@ pub(crate) fn choose_all<E: Order>(
     while i < steps.len() {
         let step = &steps[i];
         let stream = choose(alloc, index, &steps[..i], step, sum, packing)?;
-        sum += content_of(step, stream.as_slice()) as u32;
+        sum += content_chosen(step, stream.as_slice()) as u32;
         streams.push(stream)?;
         i += 1;
     }

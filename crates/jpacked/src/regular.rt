@@ -3,7 +3,7 @@
 ghost use Rattle.std.specs.Prelude.{◌≡◌, ◌==◌, IsTrue, IfSome};
 ghost use Rattle.jmount.specs.Tree.{type_bits, regular_bits};
 ghost use Rattle.jsteps.specs.Nodes.{advanced_all, node_of};
-ghost use Rattle.jpacked.specs.Forms.{IsFileAt, GivesFile};
+ghost use Rattle.jpacked.specs.Forms.{IsFileAt, IsOfFile};
 
 use flashbase::Part;
 use jsteps::{Index, Step};
@@ -41,7 +41,7 @@ pub(crate) fn packable<'s, 'a>(
     step: &'s Step<'a>,
 ) -> Option<&'s Part<'a>>
     ensures { IfSome result
-        (λ part. GivesFile (node_of (advanced_all index.now before.now) step.now) part.now) }
+        (λ part. IsOfFile (node_of (advanced_all index.now before.now) step.now) part.now) }
 {
     match step {
         Step::MakeObject { mode, target, .. } => {

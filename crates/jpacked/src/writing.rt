@@ -6,7 +6,7 @@ ghost use Rattle.jnode.specs.Writing.{is_writable};
 ghost use Rattle.jlog.specs.Places.{is_writable_flash, fit};
 ghost use Rattle.jlog.specs.Running.{log_at, CanWriteIn};
 ghost use Rattle.jsteps.specs.Nodes.{node_of, nodes_of};
-ghost use Rattle.jpacked.specs.Forms.{AreMadeOf, IsMadeOf, form_with, packed_as, step_forms};
+ghost use Rattle.jpacked.specs.Forms.{AreMadeOf, IsMadeOf, form_with, node_with_stream, step_forms};
 ghost use Rattle.jpacked.specs.Writing.{PutsForms};
 
 use crate::stream::Stream;
@@ -29,8 +29,8 @@ pub(crate) struct Log<S: Sink> {
 }
 
 /// The compressed node of the same fields with these data.
-fn packed_as<'a>(inode: &InodeNode<'_>, stream: &'a [u8]) -> CompressedNode<'a>
-    ensures { result ≡ packed_as inode.now stream.now }
+fn node_with_stream<'a>(inode: &InodeNode<'_>, stream: &'a [u8]) -> CompressedNode<'a>
+    ensures { result ≡ node_with_stream inode.now stream.now }
 {
     CompressedNode {
         ino: inode.ino,
@@ -64,7 +64,7 @@ fn write_form<E: Order>(
                 return write_node::<E>(out, node);
             }
             out.clear();
-            write_compressed::<E>(out, &packed_as(inode, stream))
+            write_compressed::<E>(out, &node_with_stream(inode, stream))
         }
         NodeRef::Entry(_) => write_node::<E>(out, node),
     }

@@ -6,7 +6,7 @@ use Rattle.jlog.specs.Running.{node_len}
 use Rattle.jlog.proofs.RoomCode.{len_at}
 use Rattle.jlog.proofs.RunningLemmas.{can_at}
 use Rattle.jview.specs.Through.{greatest_contents}
-use Rattle.jpacked.specs.Forms.{ArePacked, IsChosen, content_of}
+use Rattle.jpacked.specs.Forms.{ArePacked, IsChosen, content_chosen}
 use Rattle.jpacked.proofs.ChooseLemmas.{chosen_room}
 use Rattle.jpacked.proofs.MadeLemmas.{none_packed, packed_more}
 use Rattle.jpacked.proofs.planning.choose_all.Goals as goal
@@ -22,8 +22,8 @@ loop-i-init g c =
 pub choose-stream-requires : goal.choose-stream-requires
 choose-stream-requires g c = c.loop-i.invariant.packed.within
 
-pub content_of-sum-requires-clause-step : goal.content_of-sum-requires-clause-step
-content_of-sum-requires-clause-step g c =
+pub content_chosen-sum-requires-clause-step : goal.content_chosen-sum-requires-clause-step
+content_chosen-sum-requires-clause-step g c =
     let e = g.E.Order.order in
     let a = c.args in
     let r = c.requires.steps in
@@ -46,14 +46,14 @@ loop-i-preserved g c =
     let is : s ≡ get_or a.steps.now i s = search rules in
     let chosen : IsChosen (node_of (advanced_all x (take i a.steps.now)) s) c.loop-i.sum t = search rules in
     let next : suc i ≡ i + 1 = omega arith in
-    let more : ArePacked e x (take (suc i) a.steps.now) a.held (c.loop-i.streams.items ++ t ∷ []) (c.loop-i.sum + content_of s t) =
+    let more : ArePacked e x (take (suc i) a.steps.now) a.held (c.loop-i.streams.items ++ t ∷ []) (c.loop-i.sum + content_chosen s t) =
     packed_more r.0 e x a.steps.now a.held c.loop-i.sum c.loop-i.streams.items i s s t r.1 r.2 below is c.loop-i.invariant.packed chosen in
     let pushed : c.push.new.self.items ≡ c.loop-i.streams.items ++ t ∷ [] = search rules in
-    let sum : c.loop-i.sum + c.content_of-sum.result ≡ c.loop-i.sum + content_of s t = search rules in
+    let sum : c.loop-i.sum + c.content_chosen-sum.result ≡ c.loop-i.sum + content_chosen s t = search rules in
     record {
       within = omega arith;
-      packed = subst (λ (n : ℕ). ArePacked e x (take n a.steps.now) a.held c.push.new.self.items (c.loop-i.sum + c.content_of-sum.result)) next
-          (subst (λ (l : List (List ℕ)). ArePacked e x (take (suc i) a.steps.now) a.held l (c.loop-i.sum + c.content_of-sum.result)) (sym pushed)
+      packed = subst (λ (n : ℕ). ArePacked e x (take n a.steps.now) a.held c.push.new.self.items (c.loop-i.sum + c.content_chosen-sum.result)) next
+          (subst (λ (l : List (List ℕ)). ArePacked e x (take (suc i) a.steps.now) a.held l (c.loop-i.sum + c.content_chosen-sum.result)) (sym pushed)
           (subst (ArePacked e x (take (suc i) a.steps.now) a.held (c.loop-i.streams.items ++ t ∷ [])) (sym sum) more));
     }
 
@@ -71,9 +71,9 @@ overflow_add-sum g c =
     let y : Indexed = advanced_all x (take i a.steps.now) in
     let chosen : IsChosen (node_of y s) c.loop-i.sum t = search rules in
     let planned : IsPlanned r.0 e (node_of y s) = subst (λ (w : Step). IsPlanned r.0 e (node_of y w)) (sym is) (can_at r.0 e x a.steps.now i s r.2 below).node in
-    let most : c.loop-i.sum + content_of s t ≤ greatest_contents = chosen_room r.0 e y s c.loop-i.sum t r.1 planned chosen c.loop-i.invariant.packed.within in
-    let same : c.content_of-sum.result ≡ content_of s t = search rules in
-    let far : c.loop-i.sum + c.content_of-sum.result ≤ 1073741824 = omega (arith, most, same) in
+    let most : c.loop-i.sum + content_chosen s t ≤ greatest_contents = chosen_room r.0 e y s c.loop-i.sum t r.1 planned chosen c.loop-i.invariant.packed.within in
+    let same : c.content_chosen-sum.result ≡ content_chosen s t = search rules in
+    let far : c.loop-i.sum + c.content_chosen-sum.result ≤ 1073741824 = omega (arith, most, same) in
     search (rules, far)
 
 pub returns : goal.returns
