@@ -21,7 +21,13 @@ state_after flash base ops accepted =
 -- a run stopped for want of room
 abbrev pub IsFull : Option SessionFault → Type 0
 IsFull (Some (fault.Full needed free)) = Unit {0}
-IsFull _ = ⊥
+IsFull (Some (fault.Refused why)) = ⊥
+IsFull (Some fault.ReadOnly) = ⊥
+IsFull (Some fault.Sink) = ⊥
+IsFull (Some fault.OutOfMemory) = ⊥
+IsFull (Some fault.Broken) = ⊥
+IsFull (Some fault.Geometry) = ⊥
+IsFull None = ⊥
 
 -- Where the next operation stopped a run for want of room: the least number of blocks that hold it
 -- from this log on, where the greatest flash does. Nothing where another fault stopped the run, or
@@ -29,7 +35,13 @@ IsFull _ = ⊥
 abbrev pub TellsRefused : Flash → LogState → List Op → ℕ → Option SessionFault → Option ℕ → Type 0
 TellsRefused flash log ops accepted (Some (fault.Full needed free)) blocks =
     (op : Op) × (slice_get ops accepted ≡ Some op) × TellsBlocks flash log op (Ok blocks)
-TellsRefused flash log ops accepted _ blocks = blocks ≡ None
+TellsRefused flash log ops accepted (Some (fault.Refused why)) blocks = blocks ≡ None
+TellsRefused flash log ops accepted (Some fault.ReadOnly) blocks = blocks ≡ None
+TellsRefused flash log ops accepted (Some fault.Sink) blocks = blocks ≡ None
+TellsRefused flash log ops accepted (Some fault.OutOfMemory) blocks = blocks ≡ None
+TellsRefused flash log ops accepted (Some fault.Broken) blocks = blocks ≡ None
+TellsRefused flash log ops accepted (Some fault.Geometry) blocks = blocks ≡ None
+TellsRefused flash log ops accepted None blocks = blocks ≡ None
 
 -- the same from the log that the accepted operations leave behind a base
 abbrev pub TellsRefusedOn : Flash → List ℕ → List Op → ℕ → Option SessionFault → Option ℕ → Type 0

@@ -91,4 +91,6 @@ IsNotEmitted page e size blocks m sink fault.ReadOnly =
 IsNotEmitted page e size blocks m sink fault.Geometry =
     (resumes_by page e size blocks m ≡ Err fault.Geometry) × (sink.new ≡ sink.old)
     × (sink.now ≡ sink.before)
-IsNotEmitted page e size blocks m sink _ = ⊥
+IsNotEmitted page e size blocks m sink (fault.Refused why) = ⊥
+IsNotEmitted page e size blocks m sink (fault.Full needed free) = ⊥
+IsNotEmitted page e size blocks m sink fault.Broken = ⊥

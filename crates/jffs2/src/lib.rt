@@ -22,7 +22,9 @@
 //! | write to an image | [`Session::resume`], then [`Session::run`] with a list of [`Op`] |
 //! | put the old image and new operations out as one | [`emit`], which gives an [`Emitted`] |
 //! | judge once where writing goes on | [`Start::of`], for [`Session::begin`] and [`emit_from`] |
-//! | read an image with compressed data | [`decompressed`], then [`mount`] |
+//! | see the file system of an image with compressed data | [`mount_through`], as it is |
+//! | know where such data lie, before it is mounted | [`view_image`], then [`mount_view`] |
+//! | have such an image with plain data in memory | [`decompressed`], then [`mount`] |
 //! | write such an image with plain data | [`decompress`] |
 //! | write an image with compressed data | [`compress`], of one that is not |
 //! | read operations from a text | [`listing`], then [`operations`] |
@@ -59,3 +61,4 @@ pub use jscan::{
     Scan, ScanFault, Sightings, StreamFault, scan, scan_stream,
 };
 pub use jsteps::{Attributes, Op, OpFault, Text};
+pub use jthrough::{View, ViewFault, mount_through, mount_view, view_image};

@@ -62,7 +62,7 @@ passed_by P Q L p =
 
 -- ---- the names in a directory
 
-map_twice : (f : List ℕ → List ℕ) (names : List (String Global)) → map f (texts names) ≡ map (λ (n : String Global). f (string_bytes n)) names
+pub map_twice : (f : List ℕ → List ℕ) (names : List (String Global)) → map f (texts names) ≡ map (λ (n : String Global). f (string_bytes n)) names
 map_twice f [] = refl
 map_twice f (n ∷ names) = ap (λ (l : Paths). f (string_bytes n) ∷ l) (map_twice f names)
 

@@ -10,6 +10,7 @@ mod TreeLemmas
 mod WalkLemmas
 mod NoteLemmas
 mod CompleteLemmas
+mod SoFarLemmas
 mod LinkLemmas
 mod PathOrderLemmas
 mod WalkOrderLemmas

@@ -1,5 +1,5 @@
 -- What is known of what the host tells of a folder.
-use Rattle.std.specs.Prelude.{◌≡◌, ℕ, Bool, List, drop, map, IfSome, Option, None}
+use Rattle.std.specs.Prelude.{◌≡◌, ℕ, Bool, false, List, drop, map, IfSome, Option, None}
 use Rattle.std.specs.String.{string_bytes}
 use Rattle.jfolder.specs.declared.host.Looked.{Looked}
 use Rattle.jfolder.specs.declared.host.Names.{Names}
@@ -19,7 +19,8 @@ named_of names = record { texts = map string_bytes names.texts.items; others = n
 
 -- what the host tells at each path, where that is known: of the object, of the names in a
 -- directory, of the target of a symlink, and of the name by which another program opens a regular
--- file; whether it tells of the object at all, and whether it opens the file
+-- file; whether it tells of the object at all, and whether it opens the file; and whether no call
+-- runs out of memory
 pub record Known : Type 0 where
   pub looked : List ℕ → Option Looked
   pub names : List ℕ → Option Named
@@ -27,6 +28,7 @@ pub record Known : Type 0 where
   pub host_path : List ℕ → Option (List ℕ)
   pub is_told : List ℕ → Option Bool
   pub is_opened : List ℕ → Option Bool
+  pub has_memory : Bool
 
 abbrev pub nothing : Known
 nothing = record {
@@ -36,6 +38,7 @@ nothing = record {
   host_path = λ _. None;
   is_told = λ _. None;
   is_opened = λ _. None;
+  has_memory = false;
 }
 
 -- no other answer is known

@@ -8,6 +8,7 @@ pub mod Objects
 pub mod Order
 pub mod Pieces
 pub mod Reasons
+pub mod SoFar
 pub mod Text
 pub mod Trees
 pub mod WalkOrder

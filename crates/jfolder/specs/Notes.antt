@@ -7,6 +7,7 @@ use Rattle.flashbase.specs.Sinks.{SinkChange}
 use Rattle.jfolder.specs.Complete.{IsComplete, LeftOut}
 use Rattle.jfolder.specs.Known.{Known}
 use Rattle.jfolder.specs.Reasons.{IsRight, IsRootWhy}
+use Rattle.jfolder.specs.SoFar.{IsBeginning}
 use Rattle.jline.specs.Words.{word_of}
 use Rattle.jfolder.specs.declared.fault.ReadFault.{ReadFault}
 use Rattle.jfolder.specs.declared.fault.ReadFault.TheVariants as fault
@@ -51,20 +52,20 @@ left_out_text lefts = flat_map left_out_line lefts
 
 -- A part of a reading tells of some paths that are left out, and counts them modulo 2^64. Where the
 -- sink failed, a beginning of the lines went out. It finds no fault with the folder itself. `fits`
--- says of the answer which paths these are.
-abbrev pub TellsMore : {X : Type 0} → (X → List LeftOut → Type 0) → SinkChange → ℕ → ℕ
-    → Result X ReadFault → Type 0
-TellsMore fits notes count total (Ok x) =
+-- says of the answer which paths these are, and `begins` which they are at a fault.
+abbrev pub TellsMore : {X : Type 0} → (X → List LeftOut → Type 0) → (List LeftOut → Type 0)
+    → SinkChange → ℕ → ℕ → Result X ReadFault → Type 0
+TellsMore fits begins notes count total (Ok x) =
     (lefts : List LeftOut) × Appends notes.old notes.new (left_out_text lefts)
     × (notes.now ≡ notes.before)
     × (total ≡ (count + length lefts) % 2 ^ 64) × fits x lefts
-TellsMore fits notes count total (Err fault.Notes) =
-    ((lefts : List LeftOut) × PutsPart notes.old notes.new (left_out_text lefts))
-    × (notes.now ≡ next_count notes.before)
-TellsMore fits notes count total (Err fault.OutOfMemory) =
-    ((lefts : List LeftOut) × Appends notes.old notes.new (left_out_text lefts))
-    × (notes.now ≡ notes.before)
-TellsMore fits notes count total (Err (fault.Folder why)) = ⊥
+TellsMore fits begins notes count total (Err fault.Notes) =
+    (lefts : List LeftOut) × PutsPart notes.old notes.new (left_out_text lefts)
+    × (notes.now ≡ next_count notes.before) × begins lefts
+TellsMore fits begins notes count total (Err fault.OutOfMemory) =
+    (lefts : List LeftOut) × Appends notes.old notes.new (left_out_text lefts)
+    × (notes.now ≡ notes.before) × begins lefts
+TellsMore fits begins notes count total (Err (fault.Folder why)) = ⊥
 
 -- The folder itself is not read, and a line tells why. Where the sink failed, a beginning of it
 -- went out.
@@ -77,7 +78,8 @@ TellsWhy why notes fault.OutOfMemory = ⊥
 
 -- A reading tells of the paths that it leaves out, each for a reason that is right, and counts them
 -- modulo 2^64; each path that the host tells of is read, or is one of them. Where the folder itself
--- is at fault it tells that alone.
+-- is at fault it tells that alone. At another fault it told of those that were left out up to
+-- there, and if the sink failed, the line that it was at went out in part.
 abbrev pub Tells : Known → Options → SinkChange → Result FolderTree ReadFault → Type 0
 Tells known options notes (Ok read) = (lefts : List LeftOut)
     × Appends notes.old notes.new (left_out_text lefts) × (notes.now ≡ notes.before)
@@ -86,11 +88,11 @@ Tells known options notes (Ok read) = (lefts : List LeftOut)
 Tells known options notes (Err (fault.Folder why)) =
     Appends notes.old notes.new (not_listed_line why) × (notes.now ≡ notes.before)
     × IsRootWhy known options why
-Tells known options notes (Err fault.Notes) =
-    (((lefts : List LeftOut) × PutsPart notes.old notes.new (left_out_text lefts))
+Tells known options notes (Err fault.Notes) = (((lefts : List LeftOut)
+    × PutsPart notes.old notes.new (left_out_text lefts) × IsBeginning known options lefts)
     ⊎ ((why : Reason) × PutsPart notes.old notes.new (not_listed_line why)
     × IsRootWhy known options why))
     × (notes.now ≡ next_count notes.before)
-Tells known options notes (Err fault.OutOfMemory) =
-    ((lefts : List LeftOut) × Appends notes.old notes.new (left_out_text lefts))
+Tells known options notes (Err fault.OutOfMemory) = ((lefts : List LeftOut)
+    × Appends notes.old notes.new (left_out_text lefts) × IsBeginning known options lefts)
     × (notes.now ≡ notes.before)

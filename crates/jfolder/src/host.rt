@@ -1,6 +1,6 @@
 //! A folder of the host, as it is read.
 
-ghost use Rattle.std.specs.Prelude.{◌≡◌, true, IfErr, IfOk, IfSome, OnOk};
+ghost use Rattle.std.specs.Prelude.{◌≡◌, ◌≢◌, true, Err, IfErr, IfOk, IfSome, IsTrue, OnOk};
 ghost use Rattle.std.specs.String.{string_bytes};
 ghost use Rattle.jfolder.specs.Known.{Known, MayAnswer, named_of};
 ghost use Rattle.jfolder.specs.Reasons.{IsUnseen, IsUntold};
@@ -42,6 +42,7 @@ pub trait HostFolder {
     /// What the host tells of an object.
     fn look(&mut self, path: &str) -> Result<Looked, FolderFault>
         ensures kept { known self.new ≡ known self.old }
+        ensures memory { IsTrue (known self.old).has_memory → result ≢ Err FolderFault.OutOfMemory }
         ensures told { IfOk result
             (λ it. IfSome ((known self.old).looked path.now) (λ told. it ≡ told)) }
         ensures untold { IfErr result (IsUntold ((known self.old).looked path.now)) }
@@ -51,6 +52,7 @@ pub trait HostFolder {
     /// The names in a directory.
     fn names(&mut self, path: &str) -> Result<Names, FolderFault>
         ensures kept { known self.new ≡ known self.old }
+        ensures memory { IsTrue (known self.old).has_memory → result ≢ Err FolderFault.OutOfMemory }
         ensures told { IfOk result
             (λ it. IfSome ((known self.old).names path.now) (λ told. named_of it ≡ told)) }
         ensures untold { IfErr result (IsUntold ((known self.old).names path.now)) };
@@ -58,6 +60,7 @@ pub trait HostFolder {
     /// The target of a symlink.
     fn target(&mut self, path: &str) -> Result<String, FolderFault>
         ensures kept { known self.new ≡ known self.old }
+        ensures memory { IsTrue (known self.old).has_memory → result ≢ Err FolderFault.OutOfMemory }
         ensures told { IfOk result
             (λ it. IfSome ((known self.old).target path.now) (λ told. string_bytes it ≡ told)) }
         ensures untold { IfErr result (IsUntold ((known self.old).target path.now)) };
@@ -65,6 +68,7 @@ pub trait HostFolder {
     /// The name by which another program opens the file.
     fn host_path(&mut self, path: &str) -> Result<String, FolderFault>
         ensures kept { known self.new ≡ known self.old }
+        ensures memory { IsTrue (known self.old).has_memory → result ≢ Err FolderFault.OutOfMemory }
         ensures told { IfOk result
             (λ it. IfSome ((known self.old).host_path path.now) (λ told. string_bytes it ≡ told)) }
         ensures untold { IfErr result (IsUntold ((known self.old).host_path path.now)) };
@@ -72,6 +76,7 @@ pub trait HostFolder {
     /// Opens a regular file to be read, and closes it.
     fn open(&mut self, path: &str) -> Result<(), FolderFault>
         ensures kept { known self.new ≡ known self.old }
+        ensures memory { IsTrue (known self.old).has_memory → result ≢ Err FolderFault.OutOfMemory }
         ensures opened { OnOk result (MayAnswer ((known self.old).is_opened path.now) true) }
         ensures unopened { IfErr result (IsUnseen ((known self.old).is_opened path.now)) };
 }

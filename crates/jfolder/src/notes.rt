@@ -46,6 +46,7 @@ pub fn leave_out<N: Sink>(
     reason: Reason,
 ) -> Result<(), ReadFault>
     ensures { TellsMore (λ _ lefts. lefts ≡ (path.now, reason) ∷ [])
+        (λ lefts. lefts ≡ (path.now, reason) ∷ [])
         (change_of N.Sink notes.old notes.new) count.old count.new
         result }
 {

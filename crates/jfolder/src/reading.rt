@@ -1,6 +1,6 @@
 //! Reading a folder of the host.
 
-ghost use Rattle.std.specs.Prelude.{◌≡◌, ◌∷◌, ◌++◌, ◌⊎◌, [], true, length, map, reverse, All, IfErr, IfNone, IfOk, IfSome, IsPermutation, IsSome, IsSomeAnd, IsTrue, None};
+ghost use Rattle.std.specs.Prelude.{◌≡◌, ◌≢◌, ◌∷◌, ◌++◌, ◌⊎◌, [], true, length, map, reverse, All, Err, IfErr, IfNone, IfOk, IfSome, IsFalse, IsOk, IsPermutation, IsSome, IsSomeAnd, IsTrue, None};
 ghost use Rattle.std.specs.List.Sorted.{IsSorted};
 ghost use Rattle.std.specs.String.{string_bytes, string_cmp};
 ghost use Rattle.jfolder.specs.Actions.{AttributesFit, FitsListing, IsRooted, ItemFits};
@@ -10,6 +10,7 @@ ghost use Rattle.jfolder.specs.Links.{AreLinked, FirstsFit, HasOtherNames, IsFir
 ghost use Rattle.jfolder.specs.Notes.{Tells, TellsMore};
 ghost use Rattle.jfolder.specs.Objects.{AreOne, HasObject, IsObjectTold, IsOfKind, kind_bits};
 ghost use Rattle.jfolder.specs.Reasons.{ComesAgain, IsRefusal, IsRight, IsRootWhy, IsUnlisted, IsUnlistedIn, IsUnnamed, IsWrongChild, IsWrongText, SkipsFor};
+ghost use Rattle.jfolder.specs.SoFar.{LeadsOn, SomeUnlisted, SomeUnlistedIn, SomeUnnamed, SomeWrong};
 ghost use Rattle.jfolder.specs.Trees.{IsRegular, IsTree, Rise};
 ghost use Rattle.jfolder.specs.WalkOrder.{Ascend, InOrder, IsAdded, IsInTurn};
 ghost use Rattle.jfolder.specs.Walking.{FoundFits, HasOptions, IsChild, IsFileOf, IsItemTold, IsMore, IsPending, IsShortName, IsToldAt, WalkFits, comes_next, item_of};
@@ -97,7 +98,8 @@ fn is_one<F: HostFolder>(folder: &mut F, first: &str, looked: &Looked) -> Result
     ensures every { IfOk result (λ one. IsRooted first.now
         → IfSome ((F.known folder.old).looked (inside first.now))
         (λ told. AreOne told looked.now → IsTrue one)) }
-    ensures memory { IfErr result (SkipsFor (λ _. ⊥)) }
+    ensures none { IfErr result (SkipsFor (λ _. ⊥)) }
+    ensures memory { IsTrue (F.known folder.old).has_memory → IsOk result }
     ensures kept { F.known folder.new ≡ F.known folder.old }
 {
     let Some(rest) = inside(first) else {
@@ -128,6 +130,7 @@ fn add_child<N: Sink>(
         (λ _ lefts. (map string_bytes paths.old.items ++ child directory.now name.now ∷ []
         ≡ map string_bytes paths.new.items ++ left_paths lefts)
         × All (IsWrongChild directory.now (name.now ∷ [])) lefts)
+        (SomeWrong directory.now (name.now ∷ []))
         (change_of N.Sink notes.old notes.new)
         left_out.old left_out.new result }
 {
@@ -153,6 +156,7 @@ fn leave_out_others<N: Sink>(
 ) -> Result<(), ReadFault>
     ensures { TellsMore (λ _ lefts. (left_paths lefts ≡ unnamed_paths directory.now others)
         × All (IsUnnamed directory.now others) lefts)
+        (SomeUnnamed directory.now others)
         (change_of N.Sink notes.old notes.new)
         left_out.old left_out.new result }
 {
@@ -180,6 +184,7 @@ fn paths_of<N: Sink>(
         (map (λ name. child directory.now (string_bytes name)) names.now)
         (map string_bytes paths.items ++ left_paths lefts)
         × All (IsWrongChild directory.now (map string_bytes names.now)) lefts)
+        (SomeWrong directory.now (map string_bytes names.now))
         (change_of N.Sink notes.old notes.new)
         left_out.old left_out.new result }
 {
@@ -189,6 +194,31 @@ fn paths_of<N: Sink>(
         add_child(alloc, directory, name.as_str(), &mut paths, notes, left_out)?;
     }
     Ok(paths)
+}
+
+/// The paths of the names in a directory, which are in byte order. Those that a listing cannot have
+/// are left out.
+fn sorted_children<N: Sink>(
+    alloc: Global,
+    directory: &str,
+    names: &Names,
+    notes: &mut N,
+    left_out: &mut u64,
+) -> Result<Vec<String>, ReadFault>
+    requires { IsSorted string_cmp names.now.texts.items }
+    ensures paths { IfOk result
+        (λ paths. All (λ path. IsChild directory.now (string_bytes path)) paths.items) }
+    ensures order { IfOk result (λ paths. Ascend (map string_bytes paths.items)) }
+    ensures told { TellsMore
+        (λ paths lefts. IsPermutation (children directory.now (named_of names.now))
+        (map string_bytes paths.items ++ left_paths lefts)
+        × All (IsUnlisted directory.now (named_of names.now)) lefts)
+        (SomeUnlisted directory.now (named_of names.now))
+        (change_of N.Sink notes.old notes.new)
+        left_out.old left_out.new result }
+{
+    leave_out_others(alloc, directory, names.others, notes, left_out)?;
+    paths_of(alloc, directory, names.texts.as_slice(), notes, left_out)
 }
 
 /// The paths of the names in a directory, in byte order. Names that a listing cannot have are left
@@ -206,12 +236,12 @@ fn children<N: Sink>(
     ensures told { TellsMore (λ paths lefts. IsPermutation (children directory.now (named_of names))
         (map string_bytes paths.items ++ left_paths lefts)
         × All (IsUnlisted directory.now (named_of names)) lefts)
+        (SomeUnlisted directory.now (named_of names))
         (change_of N.Sink notes.old notes.new)
         left_out.old left_out.new result }
 {
     names.texts.sort()?;
-    leave_out_others(alloc, directory, names.others, notes, left_out)?;
-    paths_of(alloc, directory, names.texts.as_slice(), notes, left_out)
+    sorted_children(alloc, directory, &names, notes, left_out)
 }
 
 impl Walk {
@@ -259,11 +289,15 @@ impl Walk {
     fn look<F: HostFolder>(&self, folder: &mut F, path: &str, rest: &str) -> Result<Looked, Skip>
         requires { IsInTurn self.now.items.items path.now }
         ensures next { IfOk result (λ _. IsTrue (comes_next self.now.items.items path.now)) }
+        ensures again { IsFalse (comes_next self.now.items.items path.now)
+            → (result ≡ Err (Skip.LeftOut Reason.Repeated)) × (folder.new ≡ folder.old) }
         ensures told { IfOk result
             (λ it. IfSome ((F.known folder.old).looked rest.now) (λ told. it ≡ told)) }
         ensures why { IfErr result
             (SkipsFor (λ why. ComesAgain self.now.items.items (path.now, why)
             ⊎ IsRefusal ((F.known folder.old).looked rest.now ≡ None) why)) }
+        ensures memory { IsTrue (F.known folder.old).has_memory
+            → result ≢ Err Skip.OutOfMemory }
         ensures kept { F.known folder.new ≡ F.known folder.old }
     {
         if !self.is_next(path) {
@@ -287,6 +321,8 @@ impl Walk {
         ensures found { IfOk result (FoundFits options.now self.now.items.items) }
         ensures rooted { IfOk result (λ _. IsRooted path.now) }
         ensures next { IfOk result (λ _. IsTrue (comes_next self.now.items.items path.now)) }
+        ensures again { IsFalse (comes_next self.now.items.items path.now)
+            → (result ≡ Err (Skip.LeftOut Reason.Repeated)) × (folder.new ≡ folder.old) }
         ensures told { IfOk result (λ found. IsToldAt (F.known folder.old).looked options.now
             (inside path.now) found.attributes) }
         ensures names { IfOk result
@@ -332,6 +368,7 @@ impl Walk {
         ensures told { TellsMore (λ paths lefts. IsPermutation (children_of path.now names)
             (map string_bytes paths.items ++ left_paths lefts)
             × All (IsUnlistedIn path.now names) lefts)
+            (SomeUnlistedIn path.now names)
             (change_of N.Sink notes.old notes.new)
             self.old.left_out self.new.left_out result }
     {
@@ -411,6 +448,7 @@ impl Walk {
             ++ map string_bytes self.old.pending.items)
             (map string_bytes self.new.pending.items ++ left_paths lefts)
             × All (IsUnlistedIn (string_bytes path) found.names) lefts)
+            (SomeUnlistedIn (string_bytes path) found.names)
             (change_of N.Sink notes.old notes.new)
             self.old.left_out self.new.left_out result }
     {
@@ -468,6 +506,8 @@ impl Walk {
             (map string_bytes self.old.pending.items ++ string_bytes path ∷ [])
             self.new.items.items (map string_bytes self.new.pending.items) lefts
             × All (IsRight (F.known folder.old) options.now self.new.items.items) lefts)
+            (LeadsOn (F.known folder.old) options.now self.old.items.items
+            (map string_bytes self.old.pending.items ++ string_bytes path ∷ []))
             (change_of N.Sink notes.old notes.new)
             self.old.left_out self.new.left_out result }
     {

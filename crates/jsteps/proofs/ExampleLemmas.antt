@@ -1,15 +1,23 @@
 -- What the small trees have at their numbers and names.
-use Rattle.std.proofs.Common.{◌≡◌, ℕ, List, [], cond, Option, Some, None, ap, ◌∙◌, codes}
-use Rattle.std.specs.Prelude.{option_map, is_some}
+use Rattle.std.proofs.Common.{◌≡◌, ℕ, true, List, [], cond, Option, Some, None, refl, ap, sym, ◌∙◌, codes}
+use Rattle.std.specs.Prelude.{◌==◌, option_map, is_some}
 use Rattle.std.specs.Ordering.{eq_by_cmp, nat_cmp}
 use Rattle.std.specs.Cmp.{nat_cmp_total}
-use Rattle.std.specs.FinMap.{FinMap, get, insert, get-insert}
+use Rattle.std.specs.FinMap as finite
+use Rattle.std.specs.FinMap.{FinMap, get, insert, get-insert, get-entries, find}
+use Rattle.std.proofs.lemmas.Bool.{eq-eqb}
+use Rattle.std.proofs.lemmas.List.Folds.{list_any-from_Any}
+use Rattle.flashbase.proofs.MemberLemmas.{Contains-map}
+use Rattle.jname.specs.Live.{Key, key_cmp}
+use Rattle.jname.proofs.NamingLemmas.{key_cmp-IsAntisymmetric}
+use Rattle.jname.proofs.SortedLemmas.{Contains-from_find}
 use Rattle.jnode.specs.declared.node.NodeRef.{NodeRef}
-use Rattle.jmount.specs.Tree.{ObjectOf, outline, sized, object, named}
+use Rattle.jmount.specs.Tree.{ObjectOf, Outline, outline, sized, object, named}
 use Rattle.jmount.specs.StateOf.{default_root, object_of, inodes, state_of, top}
 use Rattle.jmount.proofs.NumbersLemmas.{object-state_of, named-state_of}
 use Rattle.jmount.proofs.OutlineLemmas.{object-outline}
 use Rattle.jsteps.specs.Nodes.{index_of}
+use Rattle.jsteps.specs.Refusals.{has_names}
 use Rattle.jsteps.specs.Examples.{small, small_nodes, nested, nested_nodes, spent, spent_nodes, used_up, used_up_nodes}
 use Rattle.jsteps.proofs.IndexLemmas.{get_tops}
 
@@ -70,6 +78,21 @@ nested_e = named-state_of nested_nodes 1 (codes "e")
 
 pub nested_d_e : named nested.tree 2 (codes "e") ≡ None
 nested_d_e = named-state_of nested_nodes 2 (codes "e")
+
+pub nested_d_x : named nested.tree 2 (codes "x") ≡ Some 9
+nested_d_x = named-state_of nested_nodes 2 (codes "x")
+
+-- a directory that has a name has names
+names_here : (t : Outline) (dir : ℕ) (name : List ℕ) (i : ℕ) → named t dir name ≡ Some i → has_names t dir ≡ true
+names_here t dir name i e =
+    let key : Key = (dir, name) in
+    let there : find key_cmp key (finite.entries t.names) ≡ Some i = sym (get-entries t.names key) ∙ e in
+    let in_entries = Contains-from_find key_cmp key_cmp-IsAntisymmetric (finite.entries t.names) key i there in
+    let at = Contains-map (λ (e : Key × ℕ). e.0) (finite.entries t.names) (key, i) in_entries in
+    list_any-from_Any (λ (key : Key). key.0 == dir) (finite.keys t.names) (at.0, key, at.1, at.2, eq-eqb dir dir refl)
+
+pub nested_names : has_names nested.tree 2 ≡ true
+nested_names = names_here nested.tree 2 (codes "x") 9 nested_d_x
 
 pub spent_root : object spent.tree 1 ≡ Some (sized default_root)
 spent_root = object_is spent_nodes 1

@@ -1,6 +1,6 @@
 -- A plan has few steps: two for each page at most, and one of zeros.
 use Rattle.std.proofs.Common.{◌≡◌, ℕ, ◌+◌, ◌-◌, ◌*◌, ◌/◌, ◌≤◌, Bool, true, false, List, [], ◌∷◌, length, length-append, length-drop, ap, sym, ◌∙◌, ◌<◌, subst, ⊎_elim, arith, Result, Ok, Err, IfOk}
-use Rattle.std.specs.Prelude.{Vec, min, flat_map, nat_lt, ◌&&◌, ◌==◌, take, drop}
+use Rattle.std.specs.Prelude.{Vec, is_some, min, flat_map, nat_lt, ◌&&◌, ◌==◌, take, drop}
 use Rattle.std.proofs.Math.Nat.{div-mul-le_self, div_self, mul-le-mul_left}
 use Rattle.std.proofs.lemmas.Bool.{cases_lt, cond_both, eqb-true, lt-ltb, ltb-false, false≢true}
 use Rattle.flashbase.specs.Lists.{below}
@@ -10,7 +10,7 @@ use Rattle.jsteps.specs.Nodes.{Indexed}
 use Rattle.jscan.specs.Pages.{IsPage, page_size}
 use Rattle.jsteps.specs.Planning.{plain_page, spelling_len, most_steps, piece_puts, page_puts, puts, zeros_to, first_len, write_steps, resize_steps, file_steps, move_steps, size_named, steps_of}
 use Rattle.jsteps.specs.Refusals.{planned_by, greatest_size}
-use Rattle.jsteps.specs.Where.{parent, last_name, number_or_zero, is_one_entry}
+use Rattle.jsteps.specs.Where.{parent, last_name, number_there, number_or_zero, is_one_entry}
 use Rattle.std.specs.declared.alloc.Global.{Global}
 use Rattle.jsteps.specs.declared.fault.OpFault.{OpFault}
 use Rattle.jsteps.specs.declared.op.Op.{Op}
@@ -140,6 +140,8 @@ steps_few page x (op.Mkdir time path mode uid gid) steps is_page e = omega arith
 steps_few page x (op.Create time path mode uid gid) steps is_page e = omega arith
 steps_few page x (op.File time path mode uid gid bytes) steps is_page e =
     file_few page x.tree time path (0o100000 + mode) uid gid bytes is_page (ltb-false greatest_size (length bytes) (accepted page x (op.File time path mode uid gid bytes) steps e).large)
+steps_few page x (op.Put time path mode uid gid bytes) steps is_page e =
+    file_few page x.tree time path (0o100000 + mode) uid gid bytes is_page (ltb-false greatest_size (length bytes) (accepted page x (op.Put time path mode uid gid bytes) steps e).large)
 steps_few page x (op.Device time path kind mode uid gid number) steps is_page e = omega arith
 steps_few page x (op.Fifo time path mode uid gid) steps is_page e = omega arith
 steps_few page x (op.Socket time path mode uid gid) steps is_page e = omega arith
@@ -151,6 +153,8 @@ steps_few page x (op.Truncate time path size) steps is_page e =
     omega arith
 steps_few page x (op.Link time old new) steps is_page e = omega arith
 steps_few page x (op.Remove time path) steps is_page e = omega arith
+steps_few page x (op.RemoveIf time path) steps is_page e =
+    cond_both (is_some (number_there x.tree path)) (step.ClearName time (parent x.tree path) (last_name path) ∷ []) [] (λ steps. length steps ≤ most_steps) (λ yes. omega arith) (λ no. omega arith)
 steps_few page x (op.Rename time old new) steps is_page e = omega arith
 steps_few page x (op.Replace time old new) steps is_page e =
     cond_both (is_one_entry x.tree old new) [] (move_steps x.tree time old new) (λ steps. length steps ≤ most_steps) (λ yes. omega arith) (λ no. omega arith)

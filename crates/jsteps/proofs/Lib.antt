@@ -25,6 +25,7 @@ pub mod NewFileLemmas
 pub mod FewLemmas
 pub mod AttributesLemmas
 pub mod ReplaceLemmas
+pub mod RemoveIfLemmas
 pub mod ShapeMetLemmas
 pub mod ShapeStepLemmas
 pub mod ShapePlanLemmas

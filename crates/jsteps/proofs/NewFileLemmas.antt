@@ -11,13 +11,13 @@ use Rattle.jmount.specs.Shown.{top_at}
 use Rattle.jmount.specs.Tree.{Outline}
 use Rattle.jsteps.specs.Nodes.{Indexed, node_of, nodes_of, advanced, advanced_all}
 use Rattle.jscan.specs.Pages.{IsPage}
-use Rattle.jsteps.specs.Planning.{first_len, write_steps, bytes_steps, steps_of}
-use Rattle.jsteps.specs.Refusals.{is_bad_path, is_exhausted, is_long, is_past, greatest_size, planned_by}
+use Rattle.jsteps.specs.Families.{file_op}
+use Rattle.jsteps.specs.Planning.{first_len, write_steps, bytes_steps, file_steps, steps_of}
+use Rattle.jsteps.specs.Refusals.{has_bad_path, is_bad_path, is_exhausted, is_long, is_past, greatest_size, planned_by}
 use Rattle.jsteps.specs.Site.{IsSiteOf}
-use Rattle.jsteps.specs.Tests.{first_refusal, full_by, listed, tests_of, file_tests}
+use Rattle.jsteps.specs.Tests.{first_refusal, full_by, listed, taken_by, tests_of, file_tests}
 use Rattle.jsteps.specs.Where.{above, number_there, end_or_zero, parent, last_name}
 use Rattle.jsteps.specs.declared.fault.OpFault.{OpFault}
-use Rattle.jsteps.specs.declared.op.Op.TheVariants as op
 use Rattle.jsteps.specs.declared.refusal.Tests.{Tests}
 use Rattle.jsteps.specs.declared.site.Site.{Site}
 use Rattle.jsteps.specs.declared.step.Step.{Step}
@@ -85,55 +85,71 @@ file_full page x time p mode uid gid name bytes is_page le within =
     rest_spent x y time p name puts (ltb-false 0xFFFFFFFF x.tree.next next) le (write_next page time x.tree.next first first (drop first bytes)) (rest_few page time x.tree.next bytes is_page within)
     (new_top x time mode uid gid (take first bytes)) (other_stays x time mode uid gid (take first bytes)))
 
--- ---- the plan
+-- ---- the plan, under a new name or in the place of what the name stands for
 
-file_sites : (t : Outline) (path : List ℕ) (site : Site) (large mode : Bool) → IsSiteOf t path site
-    → file_tests t (is_long path) (above t path) (number_there t path) large mode ≡ file_tests t site.is_long site.above site.number large mode
-file_sites t path site large mode has =
-    ap (λ b. file_tests t b (above t path) (number_there t path) large mode) (sym has.long)
-    ∙ ap (λ r. file_tests t site.is_long r (number_there t path) large mode) (sym has.above)
-    ∙ ap (λ n. file_tests t site.is_long site.above n large mode) (sym has.number)
+file_sites : (t : Outline) (over : Bool) (path : List ℕ) (site : Site) (taken large mode : Bool) → IsSiteOf t path site → taken ≡ taken_by t site.number over
+    → file_tests t (is_long path) (above t path) (taken_by t (number_there t path) over) large mode ≡ file_tests t site.is_long site.above taken large mode
+file_sites t over path site taken large mode has e =
+    ap (λ b. file_tests t b (above t path) (taken_by t (number_there t path) over) large mode) (sym has.long)
+    ∙ ap (λ r. file_tests t site.is_long r (taken_by t (number_there t path) over) large mode) (sym has.above)
+    ∙ ap (λ n. file_tests t site.is_long site.above (taken_by t n over) large mode) (sym has.number)
+    ∙ ap (λ b. file_tests t site.is_long site.above b large mode) (sym e)
 
-file_same : (t : Outline) (time : ℕ) (path : List ℕ) (mode uid gid : ℕ) (bytes : List ℕ) (large bad : Bool) → large ≡ nat_lt greatest_size (length bytes) → bad ≡ nat_lt 0o7777 mode
-    → tests_of t (op.File time path mode uid gid bytes) ≡ file_tests t (is_long path) (above t path) (number_there t path) large bad
-file_same t time path mode uid gid bytes large bad e f =
-    same (nat_lt greatest_size (length bytes))
-    ∙ ap (λ b. file_tests t (is_long path) (above t path) (number_there t path) b (nat_lt 0o7777 mode)) (sym e)
-    ∙ ap (λ b. file_tests t (is_long path) (above t path) (number_there t path) large b) (sym f)
+file_same : (t : Outline) (over : Bool) (time : ℕ) (path : List ℕ) (mode uid gid : ℕ) (bytes : List ℕ) (large bad : Bool) → large ≡ nat_lt greatest_size (length bytes) → bad ≡ nat_lt 0o7777 mode
+    → tests_of t (file_op over time path mode uid gid bytes) ≡ file_tests t (is_long path) (above t path) (taken_by t (number_there t path) over) large bad
+file_same t over time path mode uid gid bytes large bad e f =
+    same over
+    ∙ ap (λ b. file_tests t (is_long path) (above t path) (taken_by t (number_there t path) over) b (nat_lt 0o7777 mode)) (sym e)
+    ∙ ap (λ b. file_tests t (is_long path) (above t path) (taken_by t (number_there t path) over) large b) (sym f)
   where
-    same : (b : Bool) → tests_of t (op.File time path mode uid gid bytes) ≡ file_tests t (is_long path) (above t path) (number_there t path) (nat_lt greatest_size (length bytes)) (nat_lt 0o7777 mode)
-    same b = simp (or_none) refl
+    same : (over : Bool)
+        → tests_of t (file_op over time path mode uid gid bytes) ≡ file_tests t (is_long path) (above t path) (taken_by t (number_there t path) over) (nat_lt greatest_size (length bytes)) (nat_lt 0o7777 mode)
+    same true = simp (or_none) refl
+    same false = simp (or_none) refl
+
+good_path : (over : Bool) (time : ℕ) (path : List ℕ) (mode uid gid : ℕ) (bytes : List ℕ) → has_bad_path (file_op over time path mode uid gid bytes) ≡ is_bad_path path
+good_path true time path mode uid gid bytes = or_none (is_bad_path path)
+good_path false time path mode uid gid bytes = or_none (is_bad_path path)
+
+pub bad_file_path : (over : Bool) (time : ℕ) (path : List ℕ) (mode uid gid : ℕ) (bytes : List ℕ) → is_bad_path path ≡ true → has_bad_path (file_op over time path mode uid gid bytes) ≡ true
+bad_file_path over time path mode uid gid bytes e = good_path over time path mode uid gid bytes ∙ e
 
 -- whatever its bytes
-pub new_file_from : (page : ℕ) (x : Indexed) (time : ℕ) (path : List ℕ) (mode uid gid : ℕ) (bytes : List ℕ) (site : Site) (large bad : Bool) → IsSiteOf x.tree path site
-    → large ≡ nat_lt greatest_size (length bytes) → bad ≡ nat_lt 0o7777 mode
-    → IsFrom (planned_by page x (op.File time path mode uid gid bytes)) (file_tests x.tree site.is_long site.above site.number large bad)
-    (is_exhausted page x (op.File time path mode uid gid bytes)) (steps_of page x.tree (op.File time path mode uid gid bytes))
-new_file_from page x time path mode uid gid bytes site large bad has e f =
-    let o = op.File time path mode uid gid bytes in
+pub new_file_from : (page : ℕ) (x : Indexed) (over : Bool) (time : ℕ) (path : List ℕ) (mode uid gid : ℕ) (bytes : List ℕ) (site : Site) (taken large bad : Bool) → IsSiteOf x.tree path site
+    → taken ≡ taken_by x.tree site.number over → large ≡ nat_lt greatest_size (length bytes) → bad ≡ nat_lt 0o7777 mode
+    → IsFrom (planned_by page x (file_op over time path mode uid gid bytes)) (file_tests x.tree site.is_long site.above taken large bad)
+    (is_exhausted page x (file_op over time path mode uid gid bytes)) (steps_of page x.tree (file_op over time path mode uid gid bytes))
+new_file_from page x over time path mode uid gid bytes site taken large bad has is e f =
+    let o = file_op over time path mode uid gid bytes in
     record {
       is = planned_from page x o
-          ∙ plan_same (is_bad_path path || false) false (tests_of x.tree o) (file_tests x.tree site.is_long site.above site.number large bad)
+          ∙ plan_same (has_bad_path o) false (tests_of x.tree o) (file_tests x.tree site.is_long site.above taken large bad)
           (is_exhausted page x o) (is_exhausted page x o) (steps_of page x.tree o) (steps_of page x.tree o)
-          (or_none (is_bad_path path) ∙ has.good)
-          (file_same x.tree time path mode uid gid bytes large bad e f ∙ file_sites x.tree path site large bad has)
+          (good_path over time path mode uid gid bytes ∙ has.good)
+          (file_same x.tree over time path mode uid gid bytes large bad e f ∙ file_sites x.tree over path site taken large bad has is)
           refl refl;
     }
 
 -- its steps, by where the path leads
-pub new_file_steps : (page : ℕ) (x : Indexed) (time : ℕ) (path : List ℕ) (mode uid gid : ℕ) (bytes : List ℕ) (site : Site) (dir : ℕ) → IsSiteOf x.tree path site → dir ≡ end_or_zero site.above
-    → steps_of page x.tree (op.File time path mode uid gid bytes) ≡ bytes_steps page x.tree.next time (0o100000 + mode) uid gid bytes ++ step.SetName time dir site.last.now x.tree.next ∷ []
-new_file_steps page x time path mode uid gid bytes site dir has e =
+over_steps : (page : ℕ) (t : Outline) (over : Bool) (time : ℕ) (path : List ℕ) (mode uid gid : ℕ) (bytes : List ℕ)
+    → steps_of page t (file_op over time path mode uid gid bytes) ≡ file_steps page t time path (0o100000 + mode) uid gid bytes
+over_steps page t true time path mode uid gid bytes = refl
+over_steps page t false time path mode uid gid bytes = refl
+
+pub new_file_steps : (page : ℕ) (x : Indexed) (over : Bool) (time : ℕ) (path : List ℕ) (mode uid gid : ℕ) (bytes : List ℕ) (site : Site) (dir : ℕ) → IsSiteOf x.tree path site → dir ≡ end_or_zero site.above
+    → steps_of page x.tree (file_op over time path mode uid gid bytes) ≡ bytes_steps page x.tree.next time (0o100000 + mode) uid gid bytes ++ step.SetName time dir site.last.now x.tree.next ∷ []
+new_file_steps page x over time path mode uid gid bytes site dir has e =
     let same : parent x.tree path ≡ dir = ap end_or_zero (sym has.above) ∙ sym e in
-    ap (λ p. bytes_steps page x.tree.next time (0o100000 + mode) uid gid bytes ++ step.SetName time p (last_name path) x.tree.next ∷ []) same
+    over_steps page x.tree over time path mode uid gid bytes
+    ∙ ap (λ p. bytes_steps page x.tree.next time (0o100000 + mode) uid gid bytes ++ step.SetName time p (last_name path) x.tree.next ∷ []) same
     ∙ ap (λ l. bytes_steps page x.tree.next time (0o100000 + mode) uid gid bytes ++ step.SetName time dir l x.tree.next ∷ []) (sym has.last)
 
 -- and whether versions are left
-pub new_file_spent : (page : ℕ) (x : Indexed) (time : ℕ) (path : List ℕ) (mode uid gid : ℕ) (bytes : List ℕ) (site : Site) (dir : ℕ) → IsPage page → IsSiteOf x.tree path site → dir ≡ end_or_zero site.above
-    → dir ≤ 0xFFFFFFFF → length bytes ≤ 2147483647 → full_by x dir ≡ is_exhausted page x (op.File time path mode uid gid bytes)
-new_file_spent page x time path mode uid gid bytes site dir is_page has e le within =
+pub new_file_spent : (page : ℕ) (x : Indexed) (over : Bool) (time : ℕ) (path : List ℕ) (mode uid gid : ℕ) (bytes : List ℕ) (site : Site) (dir : ℕ) → IsPage page → IsSiteOf x.tree path site
+    → dir ≡ end_or_zero site.above → dir ≤ 0xFFFFFFFF → length bytes ≤ 2147483647 → full_by x dir ≡ is_exhausted page x (file_op over time path mode uid gid bytes)
+new_file_spent page x over time path mode uid gid bytes site dir is_page has e le within =
     sym
-    (ap (λ steps. list_any is_past (nodes_of x steps)) (new_file_steps page x time path mode uid gid bytes site dir has e)
+    (ap (λ steps. list_any is_past (nodes_of x steps)) (new_file_steps page x over time path mode uid gid bytes site dir has e)
     ∙ file_full page x time dir (0o100000 + mode) uid gid site.last.now bytes is_page le within)
 
 -- ---- bytes that are not too many

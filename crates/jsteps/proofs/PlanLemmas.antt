@@ -14,7 +14,7 @@ use Rattle.jsteps.specs.Nodes.{Indexed, object_at, advanced, advanced_all}
 use Rattle.jscan.specs.Pages.{IsPage}
 use Rattle.jsteps.specs.Planning.{plain_page, spelling_len, first_len, size_named, write_steps, make_steps, bytes_steps, file_steps, move_steps, steps_of}
 use Rattle.jsteps.specs.Refusals.{paths, has_bad_path, is_bad_path, is_long, is_not_found, meets_nothing, meets_other, is_wrong_kind, is_into_itself, is_too_large, is_bad_mode, is_bad_target, greatest_size, is_exhausted, refusals, unless_refused, planned_by}
-use Rattle.jsteps.specs.Where.{last_name, above, parent, ends_in_directory, number_or_zero, object_named, is_missing, is_unnamed, number_reached, is_unreached, is_one_entry}
+use Rattle.jsteps.specs.Where.{last_name, above, parent, ends_in_directory, number_there, number_or_zero, object_named, is_missing, is_unnamed, number_reached, is_unreached, is_one_entry}
 use Rattle.jsteps.specs.Laws as law
 use Rattle.jsteps.specs.Laws.{IsConsistent, GivenFit, OpFits}
 use Rattle.jsteps.specs.declared.fault.OpFault.{OpFault}
@@ -291,6 +291,11 @@ all_fine page x (op.File time path mode uid gid bytes) steps is_page same fits i
     let bits : mode ≤ 0o7777 = ltb-false 0o7777 mode is.mode in
     let ends : length bytes ≤ 2147483647 = ltb-false greatest_size (length bytes) is.large in
     file_fine page x time path (0o100000 + mode) uid gid bytes (regular_is_plain mode bits) is_page same is_led fits.0 (omega arith) fits.1 fits.2 ends
+all_fine page x (op.Put time path mode uid gid bytes) steps is_page same fits is =
+    let is_led = (led_alone x path false false same is.bad is.long is.found is.directory).0 in
+    let bits : mode ≤ 0o7777 = ltb-false 0o7777 mode is.mode in
+    let ends : length bytes ≤ 2147483647 = ltb-false greatest_size (length bytes) is.large in
+    file_fine page x time path (0o100000 + mode) uid gid bytes (regular_is_plain mode bits) is_page same is_led fits.0 (omega arith) fits.1 fits.2 ends
 all_fine page x (op.Device time path kind mode uid gid number) steps is_page same fits is =
     let is_led = (led_alone x path false false same is.bad is.long is.found is.directory).0 in
     let bits : mode ≤ 0o7777 = ltb-false 0o7777 mode is.mode in
@@ -332,6 +337,14 @@ all_fine page x (op.Remove time path) steps is_page same fits is =
     let is_led = (led_alone x path false (is_unnamed x.tree path || false) same is.bad is.long is.found is.directory).0 in
     AllFine-one page x (step.ClearName time (parent x.tree path) (last_name path))
     (clear_fine page x time (parent x.tree path) (last_name path) fits is_led.parent_there.positive is_led.name (parent_some x path is_led))
+all_fine page x (op.RemoveIf time path) steps is_page same fits is =
+    let clear = step.ClearName time (parent x.tree path) (last_name path) in
+    cond_both (is_some (number_there x.tree path)) (clear ∷ []) [] (AllFine page x)
+    (λ yes.
+    let is_led = (led_alone x path false false same is.bad is.long is.found is.directory).0 in
+    AllFine-one page x clear
+    (clear_fine page x time (parent x.tree path) (last_name path) fits is_led.parent_there.positive is_led.name (parent_some x path is_led)))
+    (λ no. AllFine-none page x)
 all_fine page x (op.Rename time old new) steps is_page same fits is =
     let both = led_both x old new same is.bad is.long is.found is.directory in
     move_fine page x time old new fits both.0 both.1 both.2

@@ -113,6 +113,11 @@ plan_keeps page x (op.File time path mode uid gid bytes) steps same is shape =
     let first = first_len page (length bytes) in
     make_keeps_by x time path (0o100000 + mode) uid gid (take first bytes) (write_steps page time x.tree.next first first (drop first bytes))
     (write_on_object page time x.tree.next first first (drop first bytes)) same is_led.parent_there.there shape
+plan_keeps page x (op.Put time path mode uid gid bytes) steps same is shape =
+    let is_led = (led_alone x path false false same is.bad is.long is.found is.directory).0 in
+    let first = first_len page (length bytes) in
+    make_keeps_by x time path (0o100000 + mode) uid gid (take first bytes) (write_steps page time x.tree.next first first (drop first bytes))
+    (write_on_object page time x.tree.next first first (drop first bytes)) same is_led.parent_there.there shape
 plan_keeps page x (op.Device time path kind mode uid gid number) steps same is shape =
     let is_led = (led_alone x path false false same is.bad is.long is.found is.directory).0 in
     make_keeps x time path (device_mode kind + mode) uid gid number same is_led.parent_there.there shape
@@ -136,6 +141,11 @@ plan_keeps page x (op.Link time old new) steps same is shape =
     (λ there d n e. absurd (false≢true (sym kind ∙ there))) (λ there ns h. absurd (false≢true (sym kind ∙ there))) shape
 plan_keeps page x (op.Remove time path) steps same is shape =
     follows_keeps x.tree (after sizes x.tree (steps_of page x.tree (op.Remove time path))) (clear_follows x.tree (parent x.tree path, last_name path)) shape
+plan_keeps page x (op.RemoveIf time path) steps same is shape =
+    let clear = step.ClearName time (parent x.tree path) (last_name path) in
+    cond_both (is_some (number_there x.tree path)) (clear ∷ []) [] (λ steps. IsShaped (after sizes x.tree steps))
+    (λ yes. follows_keeps x.tree (after sizes x.tree (clear ∷ [])) (clear_follows x.tree (parent x.tree path, last_name path)) shape)
+    (λ no. shape)
 plan_keeps page x (op.Rename time old new) steps same is shape =
     let both = led_both x old new same is.bad is.long is.found is.directory in
     let above_old = above_is x.tree old both.0.ends in

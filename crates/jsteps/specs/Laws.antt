@@ -121,6 +121,7 @@ abbrev pub OpFits : Op → Type 0
 OpFits (op.Mkdir time path mode uid gid) = IsWord time × IsHalf uid × IsHalf gid
 OpFits (op.Create time path mode uid gid) = IsWord time × IsHalf uid × IsHalf gid
 OpFits (op.File time path mode uid gid new) = IsWord time × IsHalf uid × IsHalf gid
+OpFits (op.Put time path mode uid gid new) = IsWord time × IsHalf uid × IsHalf gid
 OpFits (op.Device time path kind mode uid gid number) =
     IsWord time × IsHalf uid × IsHalf gid × (length number ≤ 4)
 OpFits (op.Fifo time path mode uid gid) = IsWord time × IsHalf uid × IsHalf gid
@@ -130,6 +131,7 @@ OpFits (op.Write time path offset new) = IsWord time
 OpFits (op.Truncate time path size) = IsWord time
 OpFits (op.Link time old new) = IsWord time
 OpFits (op.Remove time path) = IsWord time
+OpFits (op.RemoveIf time path) = IsWord time
 OpFits (op.Rename time old new) = IsWord time
 OpFits (op.Replace time old new) = IsWord time
 OpFits (op.SetAttributes time path attributes) = IsWord time × GivenFit attributes

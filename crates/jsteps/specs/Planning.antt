@@ -1,9 +1,9 @@
 -- The steps of an operation that is not refused.
-use Rattle.std.specs.Prelude.{ℕ, ◌+◌, ◌-◌, ◌*◌, ◌/◌, ◌==◌, ◌≤◌, max, min, nat_lt, List, [], ◌∷◌, ◌++◌, length, take, drop, slice_range, flat_map, option_map, unwrap_or, if◌then◌else◌}
+use Rattle.std.specs.Prelude.{ℕ, ◌+◌, ◌-◌, ◌*◌, ◌/◌, ◌==◌, is_some, max, min, nat_lt, List, [], ◌∷◌, ◌++◌, length, take, drop, slice_range, flat_map, option_map, unwrap_or, if◌then◌else◌}
 use Rattle.flashbase.specs.Lists.{below}
 use Rattle.jmount.specs.Tree.{Outline}
 use Rattle.jsteps.specs.Device.{device_mode}
-use Rattle.jsteps.specs.Where.{parent, last_name, number_or_zero, number_reached, object_named, is_one_entry}
+use Rattle.jsteps.specs.Where.{parent, last_name, number_there, number_or_zero, number_reached, object_named, is_one_entry}
 use Rattle.jsteps.specs.declared.op.Op.{Op}
 use Rattle.jsteps.specs.declared.op.Op.TheVariants as op
 use Rattle.jsteps.specs.declared.step.Step.{Step}
@@ -96,6 +96,8 @@ steps_of page t (op.Create time path mode uid gid) =
     make_steps t time path (0o100000 + mode) uid gid []
 steps_of page t (op.File time path mode uid gid bytes) =
     file_steps page t time path (0o100000 + mode) uid gid bytes
+steps_of page t (op.Put time path mode uid gid bytes) =
+    file_steps page t time path (0o100000 + mode) uid gid bytes
 steps_of page t (op.Device time path kind mode uid gid number) =
     make_steps t time path (device_mode kind + mode) uid gid number
 steps_of page t (op.Fifo time path mode uid gid) =
@@ -110,6 +112,9 @@ steps_of page t (op.Truncate time path size) =
 steps_of page t (op.Link time old new) =
     step.SetName time (parent t new) (last_name new) (number_or_zero t old) ∷ []
 steps_of page t (op.Remove time path) = step.ClearName time (parent t path) (last_name path) ∷ []
+steps_of page t (op.RemoveIf time path) =
+    if is_some (number_there t path) then step.ClearName time (parent t path) (last_name path) ∷ []
+    else []
 steps_of page t (op.Rename time old new) = move_steps t time old new
 steps_of page t (op.Replace time old new) =
     if is_one_entry t old new then [] else move_steps t time old new

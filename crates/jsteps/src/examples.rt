@@ -141,6 +141,35 @@ pub fn replaced_names()
         ≡ Err refused.Exists }
 {}
 
+/// A file in the place of what its name stands for, in the trees with "/a" and "/q" and with "/d":
+/// the steps of a new file.
+pub fn put_over()
+    ensures over { planned small (op.Put 7 (codes "/a") 0o644 5 6 (8 ∷ 9 ∷ []))
+        ≡ Ok (step.MakeObject 7 0o100644 5 6 (8 ∷ 9 ∷ []) ∷ step.SetName 7 1 (codes "a") 58 ∷ []) }
+    ensures dangling { planned small (op.Put 7 (codes "/q") 0o644 5 6 (8 ∷ 9 ∷ []))
+        ≡ Ok (step.MakeObject 7 0o100644 5 6 (8 ∷ 9 ∷ []) ∷ step.SetName 7 1 (codes "q") 58 ∷ []) }
+    ensures new { planned small (op.Put 7 (codes "/r") 0o644 5 6 (8 ∷ 9 ∷ []))
+        ≡ planned small (op.File 7 (codes "/r") 0o644 5 6 (8 ∷ 9 ∷ [])) }
+    ensures directory { planned nested (op.Put 7 (codes "/d") 0o644 5 6 (8 ∷ []))
+        ≡ Err refused.Exists }
+    ensures root { planned small (op.Put 7 (codes "/") 0o644 5 6 (8 ∷ [])) ≡ Err refused.BadPath }
+    ensures below_file { planned small (op.Put 7 (codes "/a/b") 0o644 5 6 (8 ∷ []))
+        ≡ Err refused.NotDirectory }
+    ensures mode { planned small (op.Put 7 (codes "/a") 0o10000 5 6 []) ≡ Err refused.BadMode }
+{}
+
+/// A name that is removed where it is there, in the same trees: where it is not, nothing is done.
+pub fn removed_names()
+    ensures here { planned small (op.RemoveIf 7 (codes "/q"))
+        ≡ Ok (step.ClearName 7 1 (codes "q") ∷ []) }
+    ensures gone { planned small (op.RemoveIf 7 (codes "/n")) ≡ Ok [] }
+    ensures none { planned small (op.Remove 7 (codes "/n")) ≡ Err refused.NotFound }
+    ensures no_way { planned small (op.RemoveIf 7 (codes "/n/x")) ≡ Err refused.NotFound }
+    ensures below_file { planned small (op.RemoveIf 7 (codes "/a/b")) ≡ Err refused.NotDirectory }
+    ensures not_empty { planned nested (op.RemoveIf 7 (codes "/d")) ≡ Err refused.NotEmpty }
+    ensures root { planned small (op.RemoveIf 7 (codes "/")) ≡ Err refused.BadPath }
+{}
+
 /// Other attributes, of the root too. Only the permission bits of the mode are other.
 pub fn attribute_plans()
     ensures file { planned small (op.SetAttributes 7 (codes "/a") given)

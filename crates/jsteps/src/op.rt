@@ -63,6 +63,16 @@ pub enum Op<'a> {
         gid: u16,
         bytes: Text<'a>,
     },
+    /// A file as of `File`, whatever its name stood for: the name stands for that until it stands
+    /// for the new file with all its bytes. It does not take the place of a directory.
+    Put {
+        time: u32,
+        path: Text<'a>,
+        mode: u32,
+        uid: u16,
+        gid: u16,
+        bytes: Text<'a>,
+    },
     /// A new character or block device of a number.
     Device {
         time: u32,
@@ -123,6 +133,11 @@ pub enum Op<'a> {
         time: u32,
         path: Text<'a>,
     },
+    /// As `Remove` where the name is there. Where it is not, nothing changes.
+    RemoveIf {
+        time: u32,
+        path: Text<'a>,
+    },
     /// The new name, then without the old one. It never replaces what is there.
     Rename {
         time: u32,
@@ -162,6 +177,9 @@ impl Op<'_> {
             Op::File { time, uid, gid, .. } => {
                 let _known = (*time, *uid, *gid);
             }
+            Op::Put { time, uid, gid, .. } => {
+                let _known = (*time, *uid, *gid);
+            }
             Op::Device {
                 time,
                 uid,
@@ -190,6 +208,9 @@ impl Op<'_> {
                 let _known = *time;
             }
             Op::Remove { time, .. } => {
+                let _known = *time;
+            }
+            Op::RemoveIf { time, .. } => {
                 let _known = *time;
             }
             Op::Rename { time, .. } => {

@@ -5,7 +5,7 @@ ghost use Rattle.std.specs.List.{list_any};
 ghost use Rattle.jmount.specs.Shown.{top_at};
 ghost use Rattle.jmount.specs.Tree.{greatest_target};
 ghost use Rattle.jscan.specs.Pages.{IsPage, page_size};
-ghost use Rattle.jsteps.specs.Families.{makes_empty, makes_special, is_of_bytes};
+ghost use Rattle.jsteps.specs.Families.{file_op, makes_empty, makes_special, is_of_bytes};
 ghost use Rattle.jsteps.specs.Planning.{most_steps, bytes_steps};
 ghost use Rattle.jsteps.specs.Refusals.{planned, planned_by, greatest_size};
 ghost use Rattle.jsteps.specs.Tests.{GivesPlan, made_plan, new_of, full_by, spent_by, into_itself_at};
@@ -19,8 +19,8 @@ use crate::index::Index;
 use crate::op::{Attributes, Op};
 use crate::puts::{first_len, push_resize, push_write};
 use crate::refusal::{
-    tests_of_attributes, tests_of_file, tests_of_name, tests_of_new, tests_of_new_file,
-    tests_of_removed, tests_of_replaced,
+    is_taken, tests_of_attributes, tests_of_file, tests_of_name, tests_of_new, tests_of_new_file,
+    tests_of_removed, tests_of_removed_if, tests_of_replaced,
 };
 use crate::site::{end_of, is_one_entry, look_up, look_up_both, meets_above, reach};
 use crate::step::Step;
@@ -143,6 +143,32 @@ fn remove<'a>(
     let directory = end_of(site.above);
     if let Some(fault) = tests_of_removed(index, &site).first() {
         return Err(fault);
+    }
+    if is_spent(index, directory, 1) {
+        return Err(OpFault::Exhausted);
+    }
+    Ok(one(alloc, clear_name(time, directory, site.last))?)
+}
+
+/// A name is removed where it is there.
+fn remove_if<'a>(
+    alloc: Global,
+    index: &Index,
+    time: u32,
+    path: &'a [u8],
+) -> Result<Vec<Step<'a>>, OpFault>
+    ensures { (page : ℕ)
+        → GivesPlan result (planned_by page index.now (op.RemoveIf time path.now)) }
+{
+    let Some(site) = look_up(alloc, index, path)? else {
+        return Err(OpFault::BadPath);
+    };
+    let directory = end_of(site.above);
+    if let Some(fault) = tests_of_removed_if(index, &site).first() {
+        return Err(fault);
+    }
+    if site.number.is_none() {
+        return Ok(Vec::new(alloc));
     }
     if is_spent(index, directory, 1) {
         return Err(OpFault::Exhausted);
@@ -366,7 +392,7 @@ fn is_full(index: &Index, directory: u32) -> bool
     next > u32::MAX as u64 || u64::from(directory) != next && is_spent(index, directory, 1)
 }
 
-/// A new file with bytes.
+/// A new file with bytes, in the place of what its name stands for or under a new name.
 fn file<'a>(
     alloc: Global,
     page: u32,
@@ -374,20 +400,22 @@ fn file<'a>(
     path: &'a Text<'_>,
     origin: Origin,
     bytes: &'a Text<'_>,
+    is_over: bool,
 ) -> Result<Vec<Step<'a>>, OpFault>
     requires { IsPage page }
     ensures { GivesPlan result
         (planned_by page index.now
-        (op.File origin.time path.now origin.mode origin.uid origin.gid bytes.now)) }
+        (file_op is_over origin.time path.now origin.mode origin.uid origin.gid bytes.now)) }
 {
     let bytes = bytes.as_slice();
     let Some(site) = look_up(alloc, index, path.as_slice())? else {
         return Err(OpFault::BadPath);
     };
     let directory = end_of(site.above);
-    let is_too_large = bytes.len() > GREATEST as usize;
+    let is_taken = is_taken(index, &site, is_over);
+    let is_large = bytes.len() > GREATEST as usize;
     let is_bad_mode = origin.mode > PERMISSIONS;
-    if let Some(fault) = tests_of_new_file(index, &site, is_too_large, is_bad_mode).first() {
+    if let Some(fault) = tests_of_new_file(index, &site, is_taken, is_large, is_bad_mode).first() {
         return Err(fault);
     }
     if is_full(index, directory) {
@@ -593,7 +621,18 @@ fn plan_bytes<'a>(
             bytes,
         } => {
             let origin = Origin::of(*time, *mode, *uid, *gid);
-            file(alloc, page, index, path, origin, bytes)
+            file(alloc, page, index, path, origin, bytes, false)
+        }
+        Op::Put {
+            time,
+            path,
+            mode,
+            uid,
+            gid,
+            bytes,
+        } => {
+            let origin = Origin::of(*time, *mode, *uid, *gid);
+            file(alloc, page, index, path, origin, bytes, true)
         }
         Op::Write {
             time,
@@ -621,11 +660,12 @@ fn plan_by<'a>(
             plan_empty(alloc, index, op)
         }
         Op::Device { .. } | Op::Symlink { .. } => plan_special(alloc, index, op),
-        Op::File { .. } | Op::Write { .. } | Op::Truncate { .. } => {
+        Op::File { .. } | Op::Put { .. } | Op::Write { .. } | Op::Truncate { .. } => {
             plan_bytes(alloc, page, index, op)
         }
         Op::Link { time, old, new } => link(alloc, index, *time, old.as_slice(), new.as_slice()),
         Op::Remove { time, path } => remove(alloc, index, *time, path.as_slice()),
+        Op::RemoveIf { time, path } => remove_if(alloc, index, *time, path.as_slice()),
         Op::Rename { time, old, new } => {
             rename(alloc, index, *time, old.as_slice(), new.as_slice())
         }

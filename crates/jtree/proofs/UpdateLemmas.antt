@@ -17,7 +17,7 @@ use Rattle.jsteps.specs.Steps.{is_device, own_bytes, bytes, do_step, after, rena
 use Rattle.jsteps.specs.Nodes.{Indexed}
 use Rattle.jscan.specs.Pages.{IsPage}
 use Rattle.jsteps.specs.Planning.{spelling_len, first_len, piece_puts, page_puts, puts, zeros_to, write_steps, make_steps, file_steps, move_steps, steps_of}
-use Rattle.jsteps.specs.Where.{above, last_name, named_there, number_or_zero, object_named, parent, is_one_entry}
+use Rattle.jsteps.specs.Where.{above, last_name, named_there, number_there, number_or_zero, object_named, parent, is_one_entry}
 use Rattle.jsteps.specs.Laws.{IsConsistent}
 use Rattle.jsteps.specs.declared.device.DeviceKind.{DeviceKind}
 use Rattle.jsteps.specs.declared.device.DeviceKind.TheVariants.{Character, Block}
@@ -274,6 +274,8 @@ op_whole W page x t (op.Mkdir time path mode uid gid) steps is_page same tree up
 op_whole W page x t (op.Create time path mode uid gid) steps is_page same tree update makes is whole = absurd update
 op_whole W page x t (op.File time path mode uid gid all) steps is_page same tree update makes is whole =
     file_whole W page x t time path (0o100000 + mode) uid gid all is_page same tree (regular_is_plain mode (ltb-false 0o7777 mode is.mode)) (makes all refl) whole
+op_whole W page x t (op.Put time path mode uid gid all) steps is_page same tree update makes is whole =
+    file_whole W page x t time path (0o100000 + mode) uid gid all is_page same tree (regular_is_plain mode (ltb-false 0o7777 mode is.mode)) (makes all refl) whole
 op_whole W page x t (op.Device time path kind mode uid gid number) steps is_page same tree update makes is whole =
     new_whole W x t time path (device_mode kind + mode) uid gid number same tree (device_is_other kind mode (ltb-false 0o7777 mode is.mode)) whole
 op_whole W page x t (op.Fifo time path mode uid gid) steps is_page same tree update makes is whole =
@@ -289,6 +291,9 @@ op_whole W page x t (op.Link time old new) steps is_page same tree update makes 
     let both = led_both x old new same is.bad is.long is.found is.directory in
     (whole, set_whole W t (parent x.tree new) (last_name new) (number_or_zero x.tree old) whole (old_whole W x t old tree both.2.there whole))
 op_whole W page x t (op.Remove time path) steps is_page same tree update makes is whole = (whole, clear_whole W t (parent x.tree path) (last_name path) whole)
+op_whole W page x t (op.RemoveIf time path) steps is_page same tree update makes is whole =
+    cond_both (is_some (number_there x.tree path)) (step.ClearName time (parent x.tree path) (last_name path) ∷ []) [] (EachWhole W t)
+    (λ yes. (whole, clear_whole W t (parent x.tree path) (last_name path) whole)) (λ no. whole)
 op_whole W page x t (op.Rename time old new) steps is_page same tree update makes is whole =
     let both = led_both x old new same is.bad is.long is.found is.directory in move_whole W x t time old new tree both.2.there whole
 op_whole W page x t (op.Replace time old new) steps is_page same tree update makes is whole =

@@ -39,6 +39,7 @@ IsUpdate _ = Unit {0}
 -- it makes a regular file with these bytes
 abbrev pub MakesFileWith : List ℕ → Op → Type 0
 MakesFileWith all (op.File time path mode uid gid new) = new ≡ all
+MakesFileWith all (op.Put time path mode uid gid new) = new ≡ all
 MakesFileWith all _ = ⊥
 
 -- a path leads to a regular file with these bytes

@@ -28,7 +28,7 @@ fn words(line: &str) -> (&str, &str, &str, &str) {
 
 /// The operation of a line. A write has an offset and a count of bytes, which are 0x5A, and 0xFF
 /// under the verb `erase`, or under `text` the bytes themselves; a file has a mode and such a
-/// count. A device has the verb of its kind, a mode, and its numbers with a colon between, in
+/// count, and `put` is a file in the place of another. A device has the verb of its kind, a mode, and its numbers with a colon between, in
 /// little order. Attributes have owners 5 and 6 and the times 1 and 2.
 pub fn op_of<'a>(line: &'a str, by: By) -> Option<Op<'a>> {
     let (verb, path, second, third) = words(line);
@@ -37,6 +37,7 @@ pub fn op_of<'a>(line: &'a str, by: By) -> Option<Op<'a>> {
             verb, path, second, by,
         )),
         "file" => Some(new_file(path, second, third, by)),
+        "put" => Some(put_file(path, second, third, by)),
         "char" => Some(new_device(DeviceKind::Character, path, second, third, by)),
         "block" => Some(new_device(DeviceKind::Block, path, second, third, by)),
         "write" | "erase" | "text" | "truncate" => Some(other_bytes(
@@ -119,6 +120,18 @@ fn new_file<'a>(path: &'a str, second: &str, third: &str, by: By) -> Op<'a> {
     }
 }
 
+fn put_file<'a>(path: &'a str, second: &str, third: &str, by: By) -> Op<'a> {
+    let By { time, uid, gid } = by;
+    Op::Put {
+        time,
+        path: Text::lent(path.as_bytes()),
+        mode: u32::from_str_radix(second, 8).unwrap_or(0),
+        uid,
+        gid,
+        bytes: Text::lent(bytes_of(third)),
+    }
+}
+
 fn new_device<'a>(kind: DeviceKind, path: &'a str, mode: &str, numbers: &str, by: By) -> Op<'a> {
     let By { time, uid, gid } = by;
     let (major, minor) = numbers.split_once(':').unwrap_or((numbers, ""));
@@ -182,6 +195,7 @@ fn other_name<'a>(verb: &str, path: &'a str, second: &'a str, time: u32) -> Opti
         "rename" => Op::Rename { time, old, new },
         "replace" => Op::Replace { time, old, new },
         "remove" => Op::Remove { time, path: old },
+        "remove-if" => Op::RemoveIf { time, path: old },
         _ => return None,
     })
 }

@@ -141,6 +141,17 @@ pub fn show_op(out: &mut String, op: &Op<'_>) -> Result<(), AllocError> {
             show_object(out, "file", (*time, *mode, *uid, *gid), path)?;
             show_bytes(out, bytes)
         }
+        Op::Put {
+            time,
+            path,
+            mode,
+            uid,
+            gid,
+            bytes,
+        } => {
+            show_object(out, "put", (*time, *mode, *uid, *gid), path)?;
+            show_bytes(out, bytes)
+        }
         Op::Device { .. } => show_device(out, op),
         Op::Fifo {
             time,
@@ -193,6 +204,10 @@ fn show_change(out: &mut String, op: &Op<'_>) -> Result<(), AllocError> {
         Op::Replace { time, old, new } => show_names(out, "replace", *time, old, new),
         Op::Remove { time, path } => {
             write!(out, "{time} remove")?;
+            show_bytes(out, path)
+        }
+        Op::RemoveIf { time, path } => {
+            write!(out, "{time} remove-if")?;
             show_bytes(out, path)
         }
         Op::SetAttributes {

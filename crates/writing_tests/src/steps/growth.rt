@@ -28,6 +28,9 @@ fn lines() -> &'static [&'static str] {
         "remove /q",
         "remove /m/d/l",
         "attr /m/d/e 700",
+        "put /m/d/e/f 600 5000",
+        "remove-if /m/d/e/n",
+        "remove-if /m/d/e/n",
         "create /m/d/e/0 644",
         "create /m/d/e/1 644",
         "create /m/d/e/2 644",
@@ -44,7 +47,7 @@ fn lines() -> &'static [&'static str] {
 }
 
 /// How many steps they have.
-const STEPS: usize = 44;
+const STEPS: usize = 48;
 
 /// Greater than the numbers of all objects.
 const NUMBERS: u32 = 80;

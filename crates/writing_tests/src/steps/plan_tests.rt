@@ -321,6 +321,59 @@ fn replaced() -> &'static [(&'static str, &'static str)] {
     ]
 }
 
+/// A file in the place of what its name stands for, but of a directory: its steps are those of a
+/// new file.
+fn put_over() -> &'static [(&'static str, &'static str)] {
+    &[
+        ("put /x 644 3", "make 100644 5 6 [ZZZ], set 1 x 58"),
+        ("put /a 644 3", "make 100644 5 6 [ZZZ], set 1 a 58"),
+        ("put /a 600 0", "make 100600 5 6 [], set 1 a 58"),
+        ("put /d/f 7777 4096", "make 107777 5 6 [4096], set 3 f 58"),
+        (
+            "put /d/f 0 12288",
+            "make 100000 5 6 [4096], put 58 4096 4096, put 58 8192 4096, set 3 f 58",
+        ),
+        ("put /s 644 1", "make 100644 5 6 [Z], set 1 s 58"),
+        ("put /c 644 1", "make 100644 5 6 [Z], set 1 c 58"),
+        ("put /q 644 1", "make 100644 5 6 [Z], set 1 q 58"),
+        ("put /h/x 644 1", "make 100644 5 6 [Z], set 9 x 58"),
+        ("put / 644 1", "O1 BadPath"),
+        ("put a 10000 1", "O1 BadPath"),
+        ("put /none/x 644 1", "O3 NotFound"),
+        ("put /q/x 10000 1", "O3 NotFound"),
+        ("put /a/b 644 1", "O4 NotDirectory"),
+        ("put /s/x 10000 0", "O4 NotDirectory"),
+        ("put /d 644 1", "O5 Exists"),
+        ("put /n 644 1", "O5 Exists"),
+        ("put /d 10000 0", "O5 Exists"),
+        ("put /a 10000 1", "O10 BadMode"),
+        ("put /x 100644 0", "O10 BadMode"),
+    ]
+}
+
+/// A name that is removed where it is there, and where it is not, no step.
+fn removed_if() -> &'static [(&'static str, &'static str)] {
+    &[
+        ("remove-if /a", "clear 1 a"),
+        ("remove-if /n", "clear 1 n"),
+        ("remove-if /q", "clear 1 q"),
+        ("remove-if /h/x", "clear 9 x"),
+        ("remove-if /d/e/g/i", "clear 6 i"),
+        ("remove-if /none", ""),
+        ("remove-if /d/none", ""),
+        ("remove-if /n/none", ""),
+        ("remove-if /", "O1 BadPath"),
+        ("remove-if a", "O1 BadPath"),
+        ("remove-if /a/", "O1 BadPath"),
+        ("remove-if /none/x", "O3 NotFound"),
+        ("remove-if /q/x", "O3 NotFound"),
+        ("remove-if /a/b", "O4 NotDirectory"),
+        ("remove-if /s/x", "O4 NotDirectory"),
+        ("remove-if /d", "O7 NotEmpty"),
+        ("remove-if /h", "O7 NotEmpty"),
+    ]
+}
+
 fn attributes() -> &'static [(&'static str, &'static str)] {
     &[
         ("attr / 700", "attr 1 700 5 6 1 2 7"),
@@ -376,6 +429,8 @@ fn none_left() -> &'static [(&'static str, &'static str)] {
         ("create /d/y 644", "O12 Exhausted"),
         ("symlink /d/y t", "O12 Exhausted"),
         ("file /d/y 644 9000", "O12 Exhausted"),
+        ("put /d/x 644 9000", "O12 Exhausted"),
+        ("put /d 644 1", "O5 Exists"),
         ("file /d/y 10000 1", "O10 BadMode"),
         ("file /a/b 644 1", "O4 NotDirectory"),
         ("fifo /d/y 644", "O12 Exhausted"),
@@ -383,6 +438,9 @@ fn none_left() -> &'static [(&'static str, &'static str)] {
         ("write /a 10 1", "O12 Exhausted"),
         ("truncate /a 9", "O12 Exhausted"),
         ("remove /z", "O12 Exhausted"),
+        ("remove-if /z", "O12 Exhausted"),
+        ("remove-if /y", ""),
+        ("remove-if /d/x", "clear 3 x"),
         ("rename /a /d/y", "O12 Exhausted"),
         ("replace /a /d/x", "O12 Exhausted"),
         ("replace /a /a", ""),
@@ -416,6 +474,11 @@ fn few_left() -> &'static [(&'static str, &'static str)] {
             "file /y 644 8193",
             "make 100644 5 6 [4096], put 6 4096 4096, put 6 8192 1, set 1 y 6",
         ),
+        (
+            "put /a 644 8193",
+            "make 100644 5 6 [4096], put 6 4096 4096, put 6 8192 1, set 1 a 6",
+        ),
+        ("remove-if /a", "clear 1 a"),
         ("link /a /y", "set 1 y 2"),
         ("rename /a /y", "O12 Exhausted"),
         ("rename /a /d/y", "set 4 y 2, clear 1 a"),
@@ -440,6 +503,8 @@ fn plans(rt: HostRuntime) -> Result<(), Fail> {
         missing(),
         files(),
         replaced(),
+        put_over(),
+        removed_if(),
         attributes(),
     ] {
         agree(&rt, rt.alloc(), small(), rows)?;
@@ -460,6 +525,10 @@ fn last() -> &'static [(&'static str, &'static str)] {
             "file /y 644 4097",
             "make 100644 5 6 [4096], put 4294967295 4096 1, set 1 y 4294967295",
         ),
+        (
+            "put /z 644 4097",
+            "make 100644 5 6 [4096], put 4294967295 4096 1, set 1 z 4294967295",
+        ),
     ]
 }
 
@@ -476,6 +545,9 @@ fn beside_nothing() -> &'static [(&'static str, &'static str)] {
         ("create /r 644", "make 100644 5 6 [], set 1 r 58"),
         ("create /q 644", "O5 Exists"),
         ("remove /q", "clear 1 q"),
+        ("put /q 644 1", "make 100644 5 6 [Z], set 1 q 58"),
+        ("remove-if /q", "clear 1 q"),
+        ("remove-if /r", ""),
     ]
 }
 
@@ -498,6 +570,9 @@ fn renamed_root() -> &'static [(&'static str, &'static str)] {
         ("replace /d/r/f /f", ""),
         ("replace /f /d/r/d/f", "set 2 f 3, clear 1 f"),
         ("replace /f /d/r", "O5 Exists"),
+        ("put /d/r 644 1", "O5 Exists"),
+        ("put /d/r/f 644 1", "make 100644 5 6 [Z], set 1 f 4"),
+        ("remove-if /d/r", "O7 NotEmpty"),
     ]
 }
 
@@ -551,6 +626,10 @@ fn long() -> &'static [(&'static str, usize, &'static str)] {
         ("create /d/* 644", 255, "O2 NameTooLong"),
         ("file /* 644 2", 254, "make 100644 5 6 [ZZ], set 1 * 58"),
         ("file /* 10000 2", 255, "O2 NameTooLong"),
+        ("put /* 644 2", 254, "make 100644 5 6 [ZZ], set 1 * 58"),
+        ("put /* 10000 2", 255, "O2 NameTooLong"),
+        ("remove-if /*", 254, ""),
+        ("remove-if /*", 255, "O2 NameTooLong"),
         ("link /a /*", 255, "O2 NameTooLong"),
         ("rename /a /*", 254, "set 1 * 2, clear 1 a"),
         ("rename x /*", 255, "O1 BadPath"),

@@ -15,4 +15,4 @@ pub returns-in-Err : goal.returns-in-Err
 returns-in-Err g c =
     let put = c.in-Err.ensures in
     let left : LeftOut = (c.args.path.now, c.args.reason) in
-    ((left ∷ [], subst (PutsPart (g.N.Sink.taken c.args.notes.now) (g.N.Sink.taken c.put_left_out.new.notes)) (sym (append-nil (left_out_line left))) put.0), put.1)
+    (left ∷ [], subst (PutsPart (g.N.Sink.taken c.args.notes.now) (g.N.Sink.taken c.put_left_out.new.notes)) (sym (append-nil (left_out_line left))) put.0, put.1, refl)

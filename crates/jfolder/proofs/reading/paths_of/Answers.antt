@@ -10,6 +10,8 @@ use Rattle.jfolder.specs.Complete.{LeftOut, child, left_paths}
 use Rattle.jfolder.specs.Reasons.{IsWrongChild}
 use Rattle.jfolder.specs.Walking.{IsChild}
 use Rattle.jfolder.proofs.CompleteLemmas.{paths_more, texts}
+use Rattle.jfolder.specs.SoFar.{SomeWrong}
+use Rattle.jfolder.proofs.SoFarLemmas.{wrong_more}
 use Rattle.jfolder.proofs.NoteLemmas.{tells_nothing, tells_up_to, told_then}
 use Rattle.jfolder.proofs.ReasonLemmas.{wrong_of_one}
 use Rattle.jfolder.proofs.WalkOrderLemmas.{no_paths, order_more}
@@ -40,10 +42,14 @@ returns-in_err-add_child-clause-told g c =
     (λ _ lefts. Added c.args.directory.now c.as_str.result.now c.loop-name.paths.items c.add_child.new.paths.items lefts)
     (λ paths lefts. IsPermutation (map (λ (n : String Global). child c.args.directory.now (string_bytes n)) c.args.names.now) (texts paths.items ++ left_paths lefts)
     × All (IsWrongChild c.args.directory.now (texts c.args.names.now)) lefts)
+    (SomeWrong c.args.directory.now (c.as_str.result.now ∷ [])) (SomeWrong c.args.directory.now (texts c.args.names.now))
     (g.N.Sink.taken c.args.notes.now) (g.N.Sink.taken c.loop-name.notes) (g.N.Sink.taken c.add_child.new.notes)
     (g.N.Sink.failures c.args.notes.now) (g.N.Sink.failures c.loop-name.notes) (g.N.Sink.failures c.add_child.new.notes)
     c.args.left_out.now c.loop-name.left_out c.add_child.new.left_out c.add_child.new.left_out c.in_err-add_child.field-0.0 p.0 c.from_residual.result
-    p.1 p.2 c.loop-name.invariant.told c.in_err-add_child.ensures.told
+    p.1 p.2
+    (λ before more those these. wrong_more c.args.directory.now c.args.names.now c.loop-name.name-index c.name-item.result c.loop-name.paths.items before more (omega arith) c.name-item.is those.0 those.1
+    (subst (λ (l : List ℕ). SomeWrong c.args.directory.now (l ∷ []) more) c.as_str.ensures.value these))
+    c.loop-name.invariant.told c.in_err-add_child.ensures.told
 
 pub loop-name-preserved : goal.loop-name-preserved
 loop-name-preserved g c = record {

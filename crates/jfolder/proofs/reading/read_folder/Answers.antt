@@ -1,4 +1,4 @@
-use Rattle.std.proofs.Common.{◌∙◌, ◌++◌, ◌∷◌, [], List, ℕ, Err, Some, ap, arith, reverse, subst, sym}
+use Rattle.std.proofs.Common.{◌≡◌, ◌∙◌, ◌++◌, ◌∷◌, [], List, ℕ, Err, Some, ap, arith, inl, inr, refl, reverse, subst, sym}
 use Rattle.std.specs.Prelude.{IsPermutation, String, Vec}
 use Rattle.std.specs.List.{All}
 use Rattle.std.specs.String.{string_bytes}
@@ -15,7 +15,14 @@ use Rattle.jfolder.specs.declared.tree.Item.{Item}
 use Rattle.jfolder.proofs.CompleteLemmas.{Reaches, covers_root, reaches_all, reaches_on, texts}
 use Rattle.jfolder.proofs.LinkLemmas.{links_start}
 use Rattle.jfolder.proofs.WalkLemmas.{all_have_options, popped, walk_starts}
-use Rattle.jfolder.proofs.NoteLemmas.{read_failed, tells_then, told_same, told_then}
+use Rattle.std.proofs.KnownBytes.{Appends-nil}
+use Rattle.std.proofs.lemmas.List.{map-append}
+use Rattle.jfolder.specs.SoFar.{IsBeginning, HasReached, LeadsOn, SomeUnlisted}
+use Rattle.jfolder.specs.declared.fault.ReadFault.{ReadFault as Fault}
+use Rattle.jfolder.specs.declared.fault.ReadFault.TheVariants as ReadFault
+use Rattle.jfolder.specs.declared.host.Names.{Names}
+use Rattle.jfolder.proofs.NoteLemmas.{read_failed, read_no_more, tells_as, tells_then, told_same, told_then}
+use Rattle.jfolder.proofs.SoFarLemmas.{begins_in, begins_on, walk_reached}
 use Rattle.jfolder.proofs.ReasonLemmas.{all_still_right, root_unlisted_right}
 use Rattle.jfolder.proofs.WalkOrderLemmas.{order_popped, order_starts}
 use Rattle.jfolder.proofs.reading.read_folder.Goals as goal
@@ -107,25 +114,65 @@ returns-in_default-clause-notes g c =
       told.4.1,
     )
 
+-- the names in the folder itself
+abbrev UnlistedAtRoot : Names → List (String Global) → List LeftOut → Type 0
+UnlistedAtRoot names paths lefts = IsPermutation (children [] (named_of names)) (texts paths ++ left_paths lefts) × All (IsUnlisted [] (named_of names)) lefts
+
+pub returns-in-Err-OutOfMemory-clause-notes : goal.returns-in-Err-OutOfMemory-clause-notes
+returns-in-Err-OutOfMemory-clause-notes g c = (([], Appends-nil (g.N.Sink.taken c.args.notes.now), inl refl), refl)
+
 pub returns-in_err-paths-clause-notes : goal.returns-in_err-paths-clause-notes
 returns-in_err-paths-clause-notes g c =
     let p = err_from_is_err_and c.from_residual.result c.from_residual.ensures.1 in
-    read_failed (Vec (String Global) Global)
-    (λ paths lefts. IsPermutation (children [] (named_of c.in-Ok.found.1)) (texts paths.items ++ left_paths lefts) × All (IsUnlisted [] (named_of c.in-Ok.found.1)) lefts)
-    (g.F.HostFolder.known c.args.folder.now) c.args.options.now (g.N.Sink.taken c.args.notes.now) (g.N.Sink.taken c.children.new.notes)
+    let known = g.F.HostFolder.known c.args.folder.now in
+    let names = c.in-Ok.found.1 in
+    read_failed (Vec (String Global) Global) (λ paths lefts. UnlistedAtRoot names paths.items lefts)
+    known c.args.options.now (g.N.Sink.taken c.args.notes.now) (g.N.Sink.taken c.children.new.notes)
     (g.N.Sink.failures c.args.notes.now) (g.N.Sink.failures c.children.new.notes)
-    c.new-walk.result.left_out c.children.new.left_out c.in_err-paths.field-0.0 p.0 c.from_residual.result p.1 p.2 c.in_err-paths.ensures.told
+    c.new-walk.result.left_out c.children.new.left_out c.in_err-paths.field-0.0 p.0 c.from_residual.result p.1 p.2
+    (tells_as {X = Vec (String Global) Global} (λ paths lefts. UnlistedAtRoot names paths.items lefts) (λ paths lefts. UnlistedAtRoot names paths.items lefts)
+    (SomeUnlisted [] (named_of names)) (IsBeginning known c.args.options.now)
+    (g.N.Sink.taken c.args.notes.now) (g.N.Sink.taken c.children.new.notes) (g.N.Sink.failures c.args.notes.now) (g.N.Sink.failures c.children.new.notes)
+    c.new-walk.result.left_out c.children.new.left_out (Err c.in_err-paths.field-0.0) (λ _ _ _ h. h)
+    (λ lefts some. begins_in known c.args.options.now names lefts c.in-Ok.ensures.names some) c.in_err-paths.ensures.told)
+
+pub returns-in_err-put_off-clause-notes : goal.returns-in_err-put_off-clause-notes
+returns-in_err-put_off-clause-notes g c =
+    let p = err_from_is_err_and c.from_residual-in_err-put_off.result c.from_residual-in_err-put_off.ensures.1 in
+    let known = g.F.HostFolder.known c.args.folder.now in
+    let names = c.in-Ok.found.1 in
+    let paths = c.in_ok-paths.paths.items in
+    read_no_more (UnlistedAtRoot names paths) known c.args.options.now (g.N.Sink.taken c.args.notes.now) (g.N.Sink.taken c.children.new.notes)
+    (g.N.Sink.failures c.args.notes.now) (g.N.Sink.failures c.children.new.notes) c.new-walk.result.left_out c.children.new.left_out c.from_residual-in_err-put_off.result (p.1 ∙ ap (λ (f : Fault). Err f) p.2)
+    (λ lefts these. begins_in known c.args.options.now names lefts c.in-Ok.ensures.names ((texts paths, these.0), these.1)) c.in_ok-paths.ensures.told
 
 pub returns-in_err-visit-clause-notes : goal.returns-in_err-visit-clause-notes
 returns-in_err-visit-clause-notes g c =
     let p = err_from_is_err_and c.from_residual-in_err-visit.result c.from_residual-in_err-visit.ensures.1 in
     let known = g.F.HostFolder.known c.args.folder.now in
-    let told = tells_then {X = Unit {0}} (ReachesRightly known c.args.options.now c.loop.walk.items.items c.loop.walk.pending.items)
-    (λ _ lefts. GoesRightly (g.F.HostFolder.known c.loop.folder) c.args.options.now c.loop.walk.items.items (texts c.pop.new.self.items ++ string_bytes c.in-Some.path ∷ []) c.visit.new.self.items.items
-    (texts c.visit.new.self.pending.items) lefts) (λ _ _. Unit {0})
+    let here = g.F.HostFolder.known c.loop.folder in
+    let items = c.loop.walk.items.items in
+    let pending = texts c.pop.new.self.items ++ string_bytes c.in-Some.path ∷ [] in
+    let same : texts c.loop.walk.pending.items ≡ pending = ap texts c.in-Some.ensures.items ∙ map-append (λ (q : String Global). string_bytes q) c.pop.new.self.items (c.in-Some.path ∷ []) in
+    let told = tells_then {X = Unit {0}} (ReachesRightly known c.args.options.now items c.loop.walk.pending.items)
+    (λ _ lefts. GoesRightly here c.args.options.now items pending c.visit.new.self.items.items (texts c.visit.new.self.pending.items) lefts) (λ _ _. Unit {0})
+    (LeadsOn here c.args.options.now items pending) (IsBeginning known c.args.options.now)
     (g.N.Sink.taken c.args.notes.now) (g.N.Sink.taken c.loop.notes) (g.N.Sink.taken c.visit.new.notes)
     (g.N.Sink.failures c.args.notes.now) (g.N.Sink.failures c.loop.notes) (g.N.Sink.failures c.visit.new.notes)
-    0 c.loop.walk.left_out c.visit.new.self.left_out (Err c.in_err-visit.field-0.0) (λ _ _ _ _ _. tt) c.loop.invariant.told c.in_err-visit.ensures.told in
+    0 c.loop.walk.left_out c.visit.new.self.left_out (Err c.in_err-visit.field-0.0) (λ _ _ _ _ _. tt)
+    (λ before lefts covers leads. begins_on known here c.args.options.now items pending before lefts c.loop.invariant.kept
+    (subst (λ (l : List (List ℕ)). HasReached known c.args.options.now items l before) same
+    (walk_reached known c.args.options.now items c.loop.walk.pending.items before c.loop.invariant.fits covers.0 covers.1)) leads)
+    c.loop.invariant.told c.in_err-visit.ensures.told in
     read_failed (Unit {0}) (λ _ _. Unit {0}) known c.args.options.now (g.N.Sink.taken c.args.notes.now) (g.N.Sink.taken c.visit.new.notes)
     (g.N.Sink.failures c.args.notes.now) (g.N.Sink.failures c.visit.new.notes)
     0 c.visit.new.self.left_out c.in_err-visit.field-0.0 p.0 c.from_residual-in_err-visit.result p.1 p.2 told
+
+pub returns-clause-notes : goal.returns-clause-notes
+returns-clause-notes g c =
+    let known = g.F.HostFolder.known c.args.folder.now in
+    let items = c.loop.walk.items.items in
+    read_no_more (ReachesRightly known c.args.options.now items c.loop.walk.pending.items) known c.args.options.now (g.N.Sink.taken c.args.notes.now) (g.N.Sink.taken c.loop.notes)
+    (g.N.Sink.failures c.args.notes.now) (g.N.Sink.failures c.loop.notes) 0 c.loop.walk.left_out (Err ReadFault.OutOfMemory) refl
+    (λ lefts reaches. inr (items, texts c.loop.walk.pending.items, walk_reached known c.args.options.now items c.loop.walk.pending.items lefts c.loop.invariant.fits reaches.0 reaches.1))
+    c.loop.invariant.told

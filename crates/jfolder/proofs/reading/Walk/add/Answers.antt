@@ -1,4 +1,4 @@
-use Rattle.std.proofs.Common.{◌≡◌, ◌∙◌, ◌++◌, ◌∷◌, ℕ, List, [], subst, ap, reverse}
+use Rattle.std.proofs.Common.{◌≡◌, ◌∙◌, ◌++◌, ◌∷◌, ℕ, List, [], Err, subst, ap, reverse}
 use Rattle.std.specs.List.{All}
 use Rattle.std.specs.String.{string_bytes}
 use Rattle.std.specs.Prelude.{IsPermutation, IsSome, String}
@@ -9,6 +9,10 @@ use Rattle.jfolder.specs.Reasons.{IsUnlistedIn}
 use Rattle.jfolder.specs.Walking.{IsChild, item_of}
 use Rattle.jfolder.specs.declared.tree.Item.{Item}
 use Rattle.jfolder.proofs.CompleteLemmas.{pending_order, texts}
+use Rattle.std.proofs.lemmas.Result.{err_from_is_err_and}
+use Rattle.jfolder.specs.declared.fault.ReadFault.{ReadFault}
+use Rattle.jfolder.specs.SoFar.{SomeUnlistedIn}
+use Rattle.jfolder.proofs.NoteLemmas.{told_no_more}
 use Rattle.jfolder.proofs.WalkLemmas.{pending_after}
 use Rattle.jfolder.proofs.WalkOrderLemmas.{order_added}
 use Rattle.jfolder.proofs.reading.Walk.add.Goals as goal
@@ -61,3 +65,36 @@ returns-clause-order g c =
     (λ p h. h.1) c.in_ok-paths.paths.items given in
     order_added old.items.items c.put_off.new.self.items.items i old.pending.items c.put_off.new.self.pending.items c.in_ok-paths.paths.items more later
     c.requires.rise c.requires.next c.requires.path c.requires.pending children c.in_ok-paths.ensures.order c.requires.order
+
+pub returns-in_err-remember-clause-told : goal.returns-in_err-remember-clause-told
+returns-in_err-remember-clause-told g c =
+    let p = err_from_is_err_and c.from_residual-in_err-remember.result c.from_residual-in_err-remember.ensures.1 in
+    let path = c.as_str.result.now in
+    let names = c.args.found.names in
+    let paths = c.in_ok-paths.paths.items in
+    told_no_more (Unit {0}) (λ lefts. IsPermutation (children_of path names) (texts paths ++ left_paths lefts) × All (IsUnlistedIn path names) lefts) _ (SomeUnlistedIn (string_bytes c.args.path) names)
+    (g.N.Sink.taken c.args.notes.now) (g.N.Sink.taken c.paths_in.new.notes) (g.N.Sink.failures c.args.notes.now) (g.N.Sink.failures c.paths_in.new.notes)
+    c.args.self.now.left_out c.paths_in.new.self.left_out c.remember.new.self.left_out c.from_residual-in_err-remember.result (p.1 ∙ ap (λ (f : ReadFault). Err f) (p.2 ∙ c.in_err-remember.ensures.fault))
+    (λ lefts these. subst (λ (l : List ℕ). SomeUnlistedIn l names lefts) c.as_str.ensures.value ((texts paths, these.0), these.1)) c.in_ok-paths.ensures.told
+
+pub returns-in_err-push_item-clause-told : goal.returns-in_err-push_item-clause-told
+returns-in_err-push_item-clause-told g c =
+    let p = err_from_is_err_and c.from_residual-in_err-push_item.result c.from_residual-in_err-push_item.ensures.1 in
+    let path = c.as_str.result.now in
+    let names = c.args.found.names in
+    let paths = c.in_ok-paths.paths.items in
+    told_no_more (Unit {0}) (λ lefts. IsPermutation (children_of path names) (texts paths ++ left_paths lefts) × All (IsUnlistedIn path names) lefts) _ (SomeUnlistedIn (string_bytes c.args.path) names)
+    (g.N.Sink.taken c.args.notes.now) (g.N.Sink.taken c.paths_in.new.notes) (g.N.Sink.failures c.args.notes.now) (g.N.Sink.failures c.paths_in.new.notes)
+    c.args.self.now.left_out c.paths_in.new.self.left_out c.push_item.new.self.left_out c.from_residual-in_err-push_item.result (p.1 ∙ ap (λ (f : ReadFault). Err f) (p.2 ∙ c.in_err-push_item.ensures.fault))
+    (λ lefts these. subst (λ (l : List ℕ). SomeUnlistedIn l names lefts) c.as_str.ensures.value ((texts paths, these.0), these.1)) c.in_ok-paths.ensures.told
+
+pub returns-in_err-put_off-clause-told : goal.returns-in_err-put_off-clause-told
+returns-in_err-put_off-clause-told g c =
+    let p = err_from_is_err_and c.from_residual-in_err-put_off.result c.from_residual-in_err-put_off.ensures.1 in
+    let path = c.as_str.result.now in
+    let names = c.args.found.names in
+    let paths = c.in_ok-paths.paths.items in
+    told_no_more (Unit {0}) (λ lefts. IsPermutation (children_of path names) (texts paths ++ left_paths lefts) × All (IsUnlistedIn path names) lefts) _ (SomeUnlistedIn (string_bytes c.args.path) names)
+    (g.N.Sink.taken c.args.notes.now) (g.N.Sink.taken c.paths_in.new.notes) (g.N.Sink.failures c.args.notes.now) (g.N.Sink.failures c.paths_in.new.notes)
+    c.args.self.now.left_out c.paths_in.new.self.left_out c.put_off.new.self.left_out c.from_residual-in_err-put_off.result (p.1 ∙ ap (λ (f : ReadFault). Err f) p.2)
+    (λ lefts these. subst (λ (l : List ℕ). SomeUnlistedIn l names lefts) c.as_str.ensures.value ((texts paths, these.0), these.1)) c.in_ok-paths.ensures.told

@@ -1,4 +1,4 @@
-use Rattle.std.proofs.Common.{◌≡◌, ◌++◌, ◌∷◌, [], true, ℕ, List, subst, sym}
+use Rattle.std.proofs.Common.{◌≡◌, ◌++◌, ◌∷◌, [], true, ℕ, List, Err, refl, subst, sym}
 use Rattle.std.specs.Prelude.{IfOk, IfSome, IsPermutation}
 use Rattle.std.specs.List.{All}
 use Rattle.std.specs.String.{string_bytes}
@@ -13,7 +13,10 @@ use Rattle.jfolder.specs.WalkOrder.{IsInTurn}
 use Rattle.jfolder.specs.Walking.{IsToldAt, comes_next, item_of}
 use Rattle.jfolder.proofs.CompleteLemmas.{goes_on, leaves_out, texts}
 use Rattle.jfolder.proofs.LinkLemmas.{links_go_on, links_stay}
-use Rattle.jfolder.proofs.NoteLemmas.{tells_as}
+use Rattle.jfolder.specs.SoFar.{LeadsOn, SomeUnlistedIn}
+use Rattle.jfolder.specs.declared.fault.ReadFault.TheVariants as ReadFault
+use Rattle.jfolder.proofs.NoteLemmas.{tells_as, tells_no_more}
+use Rattle.jfolder.proofs.SoFarLemmas.{leads_into, leads_past_as, stays}
 use Rattle.jfolder.proofs.ReasonLemmas.{all_unlisted_right, grown, left_as, not_grown}
 use Rattle.jfolder.proofs.WalkLemmas.{walk_goes_on}
 use Rattle.jfolder.proofs.WalkOrderLemmas.{next_in_turn, order_left}
@@ -44,6 +47,7 @@ returns-in-Ok-clause-told g c =
     × All (IsUnlistedIn (string_bytes c.args.path) c.in-Ok.found.names) lefts)
     (λ _ lefts. StaysCovered known old.items.items (texts old.pending.items ++ string_bytes c.args.path ∷ []) c.add.new.self.items.items (texts c.add.new.self.pending.items) lefts
     × All (IsRight known c.args.options.now c.add.new.self.items.items) lefts)
+    (SomeUnlistedIn (string_bytes c.args.path) c.in-Ok.found.names) (LeadsOn known c.args.options.now old.items.items (texts old.pending.items ++ string_bytes c.args.path ∷ []))
     (g.N.Sink.taken c.args.notes.now) (g.N.Sink.taken c.add.new.notes) (g.N.Sink.failures c.args.notes.now) (g.N.Sink.failures c.add.new.notes)
     old.left_out c.add.new.self.left_out c.add.result
     (λ v lefts is moved. (
@@ -51,6 +55,12 @@ returns-in-Ok-clause-told g c =
           (subst (λ r. IfOk r (λ _. c.add.new.self.items.items ≡ old.items.items ++ item_of c.args.path c.in-Ok.found ∷ [])) is c.add.ensures.items) names moved.0,
       all_unlisted_right known c.args.options.now c.add.new.self.items.items (string_bytes c.args.path) c.in-Ok.found.what c.in-Ok.found.names lefts names moved.1,
     ))
+    (λ lefts some. leads_into known c.args.options.now old.items.items c.args.path c.in-Ok.found (texts old.pending.items) lefts names
+    (subst (λ (l : List ℕ). IsToldAt known.looked c.args.options.now (inside l) c.in-Ok.found.attributes) c.as_str.ensures.value c.in-Ok.ensures.told)
+    (record {
+      kind = subst (λ (l : List ℕ). IfSome (known.looked (inside l)) (λ told. IsOfKind told c.in-Ok.found.what)) c.as_str.ensures.value c.in-Ok.ensures.kind;
+      object = subst (λ (l : List ℕ). HasObject known (inside l) c.in-Ok.found.what) c.as_str.ensures.value c.in-Ok.ensures.object;
+    }) some)
     c.add.ensures.told
 
 pub returns-in-Err-LeftOut-clause-told : goal.returns-in-Err-LeftOut-clause-told
@@ -62,6 +72,7 @@ returns-in-Err-LeftOut-clause-told g c =
     subst (SkipsFor (λ why. IsRight known c.args.options.now old.items.items (c.as_str.result.now, why))) is c.in-Err-LeftOut.ensures.why in
     tells_as _ (λ _ lefts. StaysCovered known old.items.items (texts old.pending.items ++ string_bytes c.args.path ∷ []) old.items.items (texts old.pending.items) lefts
     × All (IsRight known c.args.options.now old.items.items) lefts)
+    _ (LeadsOn known c.args.options.now old.items.items (texts old.pending.items ++ string_bytes c.args.path ∷ []))
     (g.N.Sink.taken c.args.notes.now) (g.N.Sink.taken c.leave_out.new.notes) (g.N.Sink.failures c.args.notes.now) (g.N.Sink.failures c.leave_out.new.notes)
     old.left_out c.leave_out.new.count c.leave_out.result
     (λ v lefts is these. (
@@ -69,7 +80,17 @@ returns-in-Err-LeftOut-clause-told g c =
       left_as known c.args.options.now old.items.items (string_bytes c.args.path) c.as_bytes.result.now c.in-Err-LeftOut.reason _ lefts these c.as_bytes.ensures.value (cc)
           (subst (λ (l : List ℕ). IsRight known c.args.options.now old.items.items (l, c.in-Err-LeftOut.reason)) c.as_str.ensures.value right),
     ))
+    (λ lefts these. leads_past_as known c.args.options.now old.items.items (texts old.pending.items) (string_bytes c.args.path) c.as_bytes.result.now c.in-Err-LeftOut.reason _ lefts c.as_bytes.ensures.value these
+    (cc) (subst (λ (l : List ℕ). IsRight known c.args.options.now old.items.items (l, c.in-Err-LeftOut.reason)) c.as_str.ensures.value right))
     c.leave_out.ensures
+
+pub returns-clause-told : goal.returns-clause-told
+returns-clause-told g c =
+    let old = c.args.self.now in
+    let known = g.F.HostFolder.known c.args.folder.now in
+    let pending = texts old.pending.items ++ string_bytes c.args.path ∷ [] in
+    tells_no_more (Unit {0}) (λ _ _. Unit {0}) (LeadsOn known c.args.options.now old.items.items pending) (g.N.Sink.taken c.args.notes.now) (g.N.Sink.failures c.args.notes.now) old.left_out old.left_out
+    (Err ReadFault.OutOfMemory) refl (stays known c.args.options.now old.items.items pending)
 
 pub returns-in-Ok-clause-more : goal.returns-in-Ok-clause-more
 returns-in-Ok-clause-more g c =

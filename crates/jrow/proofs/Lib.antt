@@ -1,0 +1,13 @@
+pub mod ArrangedLemmas
+pub mod BlankLemmas
+pub mod BlockLemmas
+pub mod ExampleLemmas
+pub mod GlimpseLemmas
+pub mod MergeLemmas
+pub mod MergedLemmas
+pub mod MovedLemmas
+pub mod OrderLemmas
+pub mod RowLemmas
+pub mod SideLemmas
+pub mod TailLemmas
+pub mod WithRowLemmas

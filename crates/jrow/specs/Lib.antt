@@ -1,0 +1,10 @@
+pub mod Arranged
+pub mod Examples
+pub mod HeadlineInRow
+pub mod MergedLaws
+pub mod Merging
+pub mod Moved
+pub mod OrderLaws
+pub mod Row
+pub mod RowLaws
+pub mod RowLeft

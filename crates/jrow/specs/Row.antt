@@ -1,0 +1,24 @@
+-- The row of an image: its blank blocks, wherever they lie, as one flash that is written upwards.
+use Rattle.std.specs.Prelude.{ℕ, ◌+◌, ◌*◌, ◌/◌, ◌%◌, List, filter, flat_map, slice_index, Contains}
+use Rattle.flashbase.specs.Lists.{below}
+use Rattle.jnode.specs.declared.order.Endian.{Endian}
+use Rattle.jscan.specs.Blank.{is_blank}
+use Rattle.jscan.specs.Image.{block_of}
+
+-- the blank blocks of an image on a flash of so many blocks, in ascending order; one past the
+-- image's end is blank
+abbrev pub blank_blocks : Endian → ℕ → ℕ → List ℕ → List ℕ
+blank_blocks e size blocks image =
+    filter (λ b. is_blank e size (block_of size image b)) (below blocks)
+
+-- the blocks of a row, side by side
+abbrev pub side_by_side : ℕ → List ℕ → List ℕ → List ℕ
+side_by_side size row image = flat_map (block_of size image) row
+
+-- where an address of the row lies on the flash
+abbrev pub address_in : ℕ → List ℕ → ℕ → ℕ
+address_in size row at = slice_index row (at / size) * size + at % size
+
+-- an address of the flash lies in the row
+abbrev pub IsInRow : ℕ → List ℕ → ℕ → Type 0
+IsInRow size row at = Contains row (at / size)
