@@ -9,14 +9,14 @@ use Rattle.jmount.specs.Tree.{ObjectOf, object, type_bits, regular_bits}
 use Rattle.jmount.specs.Shown.{shown_outline}
 use Rattle.jmount.specs.declared.object.Object.{Object}
 use Rattle.jsteps.specs.Steps.{rewritten, reattributed, with_attributes, with_body, own_bytes}
-use Rattle.jsteps.specs.Nodes.{Indexed, advanced, advanced_all, object_at, no_object}
+use Rattle.jsteps.specs.Nodes.{Indexed, advanced, advanced_all, node_of, object_at, no_object}
 use Rattle.jsteps.specs.declared.op.Attributes.{Attributes}
 use Rattle.jsteps.specs.declared.step.Step.{Step}
 use Rattle.jsteps.specs.declared.step.Step.TheVariants as step
 use Rattle.jsteps.proofs.ConsistentLemmas.{tied}
 use Rattle.jsteps.proofs.PutsLemmas.{itself}
 use Rattle.jsteps.proofs.StepsLemmas.{kind_stays}
-use Rattle.jpacked.specs.Forms.{IsFileAt}
+use Rattle.jpacked.specs.Forms.{IsFileAt, IsOfFile}
 
 kind_of : Option (ObjectOf ℕ) → ℕ
 kind_of o = type_bits (unwrap_or o no_object).mode
@@ -96,3 +96,10 @@ new_file x (s ∷ steps) time mode uid gid i target first is regular =
           ∙ (ap (λ (b : Bool). type_bits (unwrap_or (cond b (Some made) (get x.tree.objects i)) no_object).mode) (ap (λ (j : ℕ). eq_by_cmp nat_cmp j x.tree.next) is ∙ itself x.tree.next)
           ∙ eqb-true _ _ regular);
     }))
+
+-- the nodes that give a regular file bytes
+pub made_is_of_file : (x : Indexed) (time mode uid gid : ℕ) (target : List ℕ) → IsTrue (type_bits mode == regular_bits) → IsOfFile (node_of x (step.MakeObject time mode uid gid target)) target
+made_is_of_file x time mode uid gid target regular = (_, refl, record { fill = refl; long = refl; regular = eqb-true _ _ regular })
+
+pub put_is_of_file : (x : Indexed) (time ino offset : ℕ) (new : List ℕ) → IsFileAt x ino → IsOfFile (node_of x (step.Put time ino offset new)) new
+put_is_of_file x time ino offset new at = (_, refl, record { fill = refl; long = refl; regular = at.regular })

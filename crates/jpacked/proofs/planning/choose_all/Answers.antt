@@ -13,17 +13,17 @@ use Rattle.jpacked.proofs.planning.choose_all.Goals as goal
 
 pub loop-i-init : goal.loop-i-init
 loop-i-init g c =
-    let none : c.with_capacity-streams.result.items ≡ [] = search rules in
+    let none : c.with_capacity.result.items ≡ [] = search rules in
     record {
       within = omega arith;
       packed = subst (λ (l : List (List ℕ)). ArePacked g.E.Order.order c.args.index.now [] c.args.held l c.args.held) (sym none) (none_packed g.E.Order.order c.args.index.now c.args.held c.requires.held);
     }
 
-pub choose-stream-requires : goal.choose-stream-requires
-choose-stream-requires g c = c.loop-i.invariant.packed.within
+pub choose-requires : goal.choose-requires
+choose-requires g c = c.loop-i.invariant.packed.within
 
-pub content_chosen-sum-requires-clause-step : goal.content_chosen-sum-requires-clause-step
-content_chosen-sum-requires-clause-step g c =
+pub content_chosen-requires : goal.content_chosen-requires
+content_chosen-requires g c =
     let e = g.E.Order.order in
     let a = c.args in
     let r = c.requires.steps in
@@ -49,11 +49,11 @@ loop-i-preserved g c =
     let more : ArePacked e x (take (suc i) a.steps.now) a.held (c.loop-i.streams.items ++ t ∷ []) (c.loop-i.sum + content_chosen s t) =
     packed_more r.0 e x a.steps.now a.held c.loop-i.sum c.loop-i.streams.items i s s t r.1 r.2 below is c.loop-i.invariant.packed chosen in
     let pushed : c.push.new.self.items ≡ c.loop-i.streams.items ++ t ∷ [] = search rules in
-    let sum : c.loop-i.sum + c.content_chosen-sum.result ≡ c.loop-i.sum + content_chosen s t = search rules in
+    let sum : c.loop-i.sum + c.content_chosen.result ≡ c.loop-i.sum + content_chosen s t = search rules in
     record {
       within = omega arith;
-      packed = subst (λ (n : ℕ). ArePacked e x (take n a.steps.now) a.held c.push.new.self.items (c.loop-i.sum + c.content_chosen-sum.result)) next
-          (subst (λ (l : List (List ℕ)). ArePacked e x (take (suc i) a.steps.now) a.held l (c.loop-i.sum + c.content_chosen-sum.result)) (sym pushed)
+      packed = subst (λ (n : ℕ). ArePacked e x (take n a.steps.now) a.held c.push.new.self.items (c.loop-i.sum + c.content_chosen.result)) next
+          (subst (λ (l : List (List ℕ)). ArePacked e x (take (suc i) a.steps.now) a.held l (c.loop-i.sum + c.content_chosen.result)) (sym pushed)
           (subst (ArePacked e x (take (suc i) a.steps.now) a.held (c.loop-i.streams.items ++ t ∷ [])) (sym sum) more));
     }
 
@@ -72,8 +72,8 @@ overflow_add-sum g c =
     let chosen : IsChosen (node_of y s) c.loop-i.sum t = search rules in
     let planned : IsPlanned r.0 e (node_of y s) = subst (λ (w : Step). IsPlanned r.0 e (node_of y w)) (sym is) (can_at r.0 e x a.steps.now i s r.2 below).node in
     let most : c.loop-i.sum + content_chosen s t ≤ greatest_contents = chosen_room r.0 e y s c.loop-i.sum t r.1 planned chosen c.loop-i.invariant.packed.within in
-    let same : c.content_chosen-sum.result ≡ content_chosen s t = search rules in
-    let far : c.loop-i.sum + c.content_chosen-sum.result ≤ 1073741824 = omega (arith, most, same) in
+    let same : c.content_chosen.result ≡ content_chosen s t = search rules in
+    let far : c.loop-i.sum + c.content_chosen.result ≤ 1073741824 = omega (arith, most, same) in
     search (rules, far)
 
 pub returns : goal.returns
