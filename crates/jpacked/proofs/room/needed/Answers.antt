@@ -52,8 +52,8 @@ form_len-requires-clause-stream g c =
     let small : form_len s t ≤ 16452 = omega (arith, same, short_at r.steps.0 e x a.steps.now a.streams.now i s t r.steps.1 r.steps.2 r.made below) in
     omega (arith, stream_short s t 16452 small)
 
-pub overflow_cast-sum : goal.overflow_cast-sum
-overflow_cast-sum g c =
+pub overflow_cast-form_len : goal.overflow_cast-form_len
+overflow_cast-form_len g c =
     let e = g.E.Order.order in
     let a = c.args in
     let r = c.requires in
@@ -88,8 +88,8 @@ overflow_add-sum g c =
     let same : form_len s t ≡ form_len (get_or a.steps.now i s) (get_or a.streams.now i t) = ap (λ (w : Step). form_len w t) is ∙ ap (form_len (get_or a.steps.now i s)) given in
     let small : form_len s t ≤ 16452 = omega (arith, same, short_at r.steps.0 e x a.steps.now a.streams.now i s t r.steps.1 r.steps.2 r.made below) in
     let few : length a.steps.now ≤ 1048577 = r.few in
-    let most : c.pad4.result ≤ 16456 = omega (arith, small, c.form_len.ensures, c.pad4.ensures, pad4_small c.form_len.result) in
-    let far : c.loop-i.sum + c.pad4.result ≤ 17300000000 = omega (arith, most, few, below, c.loop-i.invariant.small) in
+    let most : c.pad4-sum.result ≤ 16456 = omega (arith, small, c.form_len.ensures, c.pad4-sum.ensures, pad4_small c.form_len.result) in
+    let far : c.loop-i.sum + c.pad4-sum.result ≤ 17300000000 = omega (arith, most, few, below, c.loop-i.invariant.small) in
     search (rules, far)
 
 pub loop-i-preserved : goal.loop-i-preserved
@@ -112,8 +112,8 @@ loop-i-preserved g c =
     let next : suc i ≡ i + 1 = omega arith in
     record {
       within = omega arith;
-      sum_is = ap (λ (n : ℕ). c.loop-i.sum + n) c.pad4.ensures ∙ (needed_more forms i t c.loop-i.sum c.form_len.result under c.loop-i.invariant.sum_is long ∙ ap (λ (n : ℕ). needed (take n forms)) next);
-      small = omega (arith, small, c.form_len.ensures, c.pad4.ensures, pad4_small c.form_len.result, c.loop-i.invariant.small);
+      sum_is = ap (λ (n : ℕ). c.loop-i.sum + n) c.pad4-sum.ensures ∙ (needed_more forms i t c.loop-i.sum c.form_len.result under c.loop-i.invariant.sum_is long ∙ ap (λ (n : ℕ). needed (take n forms)) next);
+      small = omega (arith, small, c.form_len.ensures, c.pad4-sum.ensures, pad4_small c.form_len.result, c.loop-i.invariant.small);
     }
 
 pub returns : goal.returns
