@@ -1,9 +1,7 @@
 pub mod ChooseLemmas
-pub mod CountLemmas
 pub mod FileLemmas
 pub mod MadeLemmas
 pub mod Parts
 pub mod PutLemmas
 pub mod RoomLemmas
-pub mod RunLemmas
 pub mod StartLemmas

@@ -13,7 +13,7 @@ use Rattle.jpacked.proofs.planning.choose_all.Goals as goal
 
 pub loop-i-init : goal.loop-i-init
 loop-i-init g c =
-    let none : c.with_capacity.result.items ≡ [] = search rules in
+    let none : c.in_ok-streams.streams.items ≡ [] = search rules in
     record {
       within = omega arith;
       packed = subst (λ (l : List (List ℕ)). ArePacked g.E.Order.order c.args.index.now [] c.args.held l c.args.held) (sym none) (none_packed g.E.Order.order c.args.index.now c.args.held c.requires.held);

@@ -1,5 +1,0 @@
-//! Tests of sessions that pack.
-#![tactic(auto)]
-
-#[cfg(test)]
-mod sessions;
