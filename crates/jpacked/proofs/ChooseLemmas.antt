@@ -1,19 +1,15 @@
 -- What is chosen for a node makes a form of it.
-use Rattle.std.proofs.Common.{◌≡◌, ◌≢◌, ℕ, zero, suc, ◌+◌, ◌-◌, ◌*◌, ◌%◌, ◌^◌, ◌<◌, ◌≤◌, Bool, true, false, cond, List, [], ◌∷◌, ◌++◌, length, map, take, get_or, length-append, refl, sym, ap, ap₂, subst, ◌∙◌, arith, Option, None, Some, inl, inr, ⊎_elim, IsTrue}
-use Rattle.std.specs.Prelude.{◌==◌, IfOk, Result, Ok, Err, not, option_and_then, nat_lt, nat_le, unwrap_or, slice_get}
-use Rattle.std.specs.List.{AllByRecursion, flat_map}
-use Rattle.std.proofs.lemmas.Bool.{eqb-true, eq-eqb, cases_Bool, cond-true, cond-false, and_parts, ltb-true}
+use Rattle.std.proofs.Common.{◌≡◌, ℕ, ◌+◌, ◌%◌, ◌^◌, ◌<◌, ◌≤◌, cond, List, [], ◌∷◌, ◌++◌, length, length-append, refl, sym, ap, ap₂, subst, ◌∙◌, arith, Option, None, Some, inr, ⊎_elim}
+use Rattle.std.specs.Prelude.{◌==◌, IfOk, Result, Ok, Err, option_and_then, unwrap_or}
+use Rattle.std.proofs.lemmas.Bool.{eqb-true, eq-eqb, cases_Bool, cond-true, cond-false}
 use Rattle.std.proofs.lemmas.List.{append-nil}
-use Rattle.std.proofs.lemmas.Grind.{flat_map-append}
-use Rattle.flashbase.specs.Bytes.{pad4_of}
 use Rattle.flashbase.proofs.BytesLemmas.{pad4_words}
 use Rattle.jcompr.specs.Answer.{of_length}
 use Rattle.jcompr.specs.Zlib.{zlib_of}
 use Rattle.jcompr.specs.declared.method.Method.TheVariants.{Zlib}
 use Rattle.jnode.specs.Compressed.{canonical_compressed, compressed_of, FitsCompressed, IsWritableCompressed, ReadsCompressedNode}
-use Rattle.jnode.specs.Header.{magic}
 use Rattle.jnode.specs.Reading.{inode_len, seen_of, ReadsCompressed}
-use Rattle.jnode.specs.Writing.{canonical, filled, stored_bytes, FitsInode, IsWritable}
+use Rattle.jnode.specs.Writing.{canonical, filled, stored_bytes, FitsInode}
 use Rattle.jnode.specs.declared.node.CompressedNode.{CompressedNode}
 use Rattle.jnode.specs.declared.node.Fill.{Fill}
 use Rattle.jnode.specs.declared.node.Fill.TheVariants.{Data}
@@ -28,23 +24,20 @@ use Rattle.jnode.proofs.HeaderLemmas.{good_found}
 use Rattle.jnode.proofs.ReadingLemmas.{seen_compressed}
 use Rattle.jnode.proofs.TileLemmas.{IsHeaded, tile_headed}
 use Rattle.jnode.proofs.WritingLemmas.{length-filled, length-canonical_inode, writable_is_computed}
-use Rattle.jmount.specs.Tree.{type_bits, regular_bits}
 use Rattle.jscan.specs.Pages.{IsPage}
 use Rattle.jsteps.specs.Laws.{IsPlanned}
 use Rattle.jsteps.specs.Nodes.{Indexed, node_of}
 use Rattle.jsteps.specs.declared.step.Step.{Step}
 use Rattle.jexpand.specs.Expanded.{unpacked, node_content, with_content}
 use Rattle.jview.specs.Through.{greatest_contents, content_by}
-use Rattle.jlog.specs.LeftLaws.{IsLoggable}
-use Rattle.jlog.specs.Packed.{StandsFor, IsPackedForm, IsNodeForm}
+use Rattle.jlog.specs.Packed.{StandsFor}
 use Rattle.jlog.specs.Running.{node_len}
 use Rattle.jlog.specs.SessionAs.{content_len}
 use Rattle.jlog.specs.Through.{form_content}
 use Rattle.jlog.proofs.HeadlineLemmas.{planned_loggable}
-use Rattle.jlog.proofs.PackedLemmas.{own_contents, canonical_length, fewer_words}
+use Rattle.jlog.proofs.PackedLemmas.{own_contents, fewer_words}
 use Rattle.jlog.proofs.RoomCode.{node_len_is}
-use Rattle.jexpand.specs.Expanded.{node_length}
-use Rattle.jpacked.specs.Forms.{IsStreamOf, IsFileNode, IsOfFile, IsChosen, node_with_stream, form_with, IsMadeOf, content_chosen, form_len}
+use Rattle.jpacked.specs.Forms.{IsStreamOf, IsFileNode, IsOfFile, IsChosen, node_with_stream, form_with, IsMadeOf, content_chosen}
 
 -- ---- the compressed node stands for the node
 

@@ -1,5 +1,5 @@
 -- A number that is one of a regular file stays it.
-use Rattle.std.proofs.Common.{◌≡◌, ℕ, ◌+◌, ◌<◌, ◌≤◌, Bool, true, false, cond, List, [], ◌∷◌, length, refl, sym, ap, subst, ◌∙◌, arith, Option, Some, None}
+use Rattle.std.proofs.Common.{◌≡◌, ℕ, ◌<◌, ◌≤◌, Bool, true, false, cond, List, [], ◌∷◌, length, refl, sym, ap, subst, ◌∙◌, arith, Option, Some, None}
 use Rattle.std.specs.Prelude.{◌==◌, IsTrue, option_map, unwrap_or, slice_get}
 use Rattle.std.specs.Ordering.{nat_cmp, eq_by_cmp}
 use Rattle.std.specs.Cmp.{nat_cmp_total}
@@ -9,7 +9,7 @@ use Rattle.jmount.specs.Tree.{ObjectOf, object, type_bits, regular_bits}
 use Rattle.jmount.specs.Shown.{shown_outline}
 use Rattle.jmount.specs.declared.object.Object.{Object}
 use Rattle.jsteps.specs.Steps.{rewritten, reattributed, with_attributes, with_body, own_bytes}
-use Rattle.jsteps.specs.Nodes.{Indexed, advanced, advanced_all, node_of, object_at, no_object}
+use Rattle.jsteps.specs.Nodes.{Indexed, advanced, advanced_all, node_of, no_object}
 use Rattle.jsteps.specs.declared.op.Attributes.{Attributes}
 use Rattle.jsteps.specs.declared.step.Step.{Step}
 use Rattle.jsteps.specs.declared.step.Step.TheVariants as step

@@ -1,5 +1,5 @@
 -- The forms that packed data make of nodes.
-use Rattle.std.proofs.Common.{◌≡◌, ◌≢◌, ℕ, zero, suc, ◌+◌, ◌*◌, ◌%◌, ◌<◌, ◌≤◌, Bool, true, false, List, [], ◌∷◌, ◌++◌, length, map, take, drop, get_or, length-append, refl, sym, ap, ap₂, subst, ◌∙◌, arith, Option, None, Some, inl, inr, IsTrue, take-append-drop}
+use Rattle.std.proofs.Common.{◌≡◌, ℕ, zero, suc, ◌+◌, ◌<◌, ◌≤◌, List, [], ◌∷◌, ◌++◌, length, take, get_or, length-append, refl, sym, ap, subst, ◌∙◌, arith, inl, inr}
 use Rattle.std.specs.List.{AllByRecursion, flat_map}
 use Rattle.std.proofs.lemmas.Grind.{flat_map-append}
 use Rattle.std.proofs.Math.Seq.{take-suc}
@@ -17,7 +17,7 @@ use Rattle.jview.specs.Through.{greatest_contents}
 use Rattle.jlog.specs.Laws.{FitsBlock}
 use Rattle.jlog.specs.LeftLaws.{IsLoggable}
 use Rattle.jlog.specs.Packed.{IsNodeForm, AreNodeForms}
-use Rattle.jlog.specs.Running.{node_len, CanWrite, CanWriteAll}
+use Rattle.jlog.specs.Running.{CanWrite, CanWriteAll}
 use Rattle.jlog.specs.SessionAs.{content_len}
 use Rattle.jlog.specs.Through.{form_content}
 use Rattle.jlog.proofs.DoneLemmas.{nodes_on}

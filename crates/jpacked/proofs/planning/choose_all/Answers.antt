@@ -1,4 +1,4 @@
-use Rattle.std.proofs.Common.{rules, ◌≡◌, ◌≤◌, ◌+◌, ◌<◌, [], ◌∷◌, ◌++◌, List, length, ℕ, take, take_all, get_or, suc, arith, subst, sym, ap, ◌∙◌}
+use Rattle.std.proofs.Common.{rules, ◌≡◌, ◌≤◌, ◌+◌, ◌<◌, [], ◌∷◌, ◌++◌, List, length, ℕ, take, take_all, get_or, suc, arith, subst, sym}
 use Rattle.jsteps.specs.Laws.{IsPlanned}
 use Rattle.jsteps.specs.Nodes.{Indexed, node_of, advanced_all}
 use Rattle.jsteps.specs.declared.step.Step.{Step}

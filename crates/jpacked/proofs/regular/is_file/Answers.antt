@@ -1,6 +1,5 @@
-use Rattle.std.proofs.Common.{rules, ◌≡◌, ◌<◌, ◌==◌, ℕ, IsTrue, Some, sym, subst, ◌∙◌, arith}
+use Rattle.std.proofs.Common.{rules, ◌≡◌, ◌<◌, IsTrue, Some, sym, subst, ◌∙◌}
 use Rattle.std.specs.Prelude.{slice_get}
-use Rattle.jmount.specs.Tree.{type_bits, regular_bits}
 use Rattle.jsteps.specs.declared.step.Step.TheVariants as step
 use Rattle.jpacked.proofs.FileLemmas.{files_stay, known_file, new_file}
 use Rattle.jpacked.proofs.regular.is_file.Goals as goal

@@ -1,4 +1,4 @@
-use Rattle.std.proofs.Common.{◌≡◌, IsTrue, sym, subst}
+use Rattle.std.proofs.Common.{IsTrue, sym, subst}
 use Rattle.jsteps.specs.Nodes.{advanced_all, node_of}
 use Rattle.jsteps.specs.declared.step.Step.{Step}
 use Rattle.jpacked.specs.Forms.{IsOfFile}

@@ -1,6 +1,5 @@
-use Rattle.std.proofs.Common.{rules, ◌≡◌, ◌≤◌, ◌+◌, ◌*◌, ◌%◌, ◌<◌, [], ◌∷◌, List, length, ℕ, take, take_all, get_or, suc, arith, subst, sym, ap, ◌∙◌, refl, Some, None, IsTrue}
+use Rattle.std.proofs.Common.{rules, ◌≡◌, ◌≤◌, ◌+◌, ◌*◌, ◌%◌, ◌<◌, List, length, ℕ, take, take_all, get_or, suc, arith, subst, sym, ap, ◌∙◌, Some, IsTrue}
 use Rattle.std.specs.List.{AllByRecursion}
-use Rattle.flashbase.specs.Bytes.{pad4_of}
 use Rattle.jsteps.specs.Nodes.{Indexed, nodes_of}
 use Rattle.jsteps.specs.declared.step.Step.{Step}
 use Rattle.jlog.specs.Laws.{FitsBlock}
@@ -11,7 +10,6 @@ use Rattle.jlog.proofs.StepLemmas.{pad4_small, size_words}
 use Rattle.jlog.specs.Running.{node_len}
 use Rattle.jpacked.specs.Forms.{form_len, step_forms}
 use Rattle.jpacked.proofs.MadeLemmas.{made_forms, made_many, many_forms, many_nodes, long_at, short_at, forms_fit_blocks}
-use Rattle.jpacked.proofs.PutLemmas.{within_at}
 use Rattle.jpacked.proofs.RoomLemmas.{stream_short, Room, more_room, no_room, first_within}
 use Rattle.jpacked.proofs.room.has_room.Goals as goal
 

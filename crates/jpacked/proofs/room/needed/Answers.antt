@@ -1,18 +1,13 @@
-use Rattle.std.proofs.Common.{rules, ◌≡◌, ◌≤◌, ◌+◌, ◌*◌, ◌%◌, ◌<◌, [], ◌∷◌, List, length, ℕ, take, take_all, get_or, suc, arith, subst, sym, ap, ◌∙◌, refl, Some, None, IsTrue}
-use Rattle.std.specs.List.{AllByRecursion}
-use Rattle.flashbase.specs.Bytes.{pad4_of}
+use Rattle.std.proofs.Common.{rules, ◌≡◌, ◌≤◌, ◌+◌, ◌<◌, List, length, ℕ, take, take_all, get_or, suc, arith, subst, sym, ap, ◌∙◌}
 use Rattle.jsteps.specs.Nodes.{Indexed, nodes_of}
 use Rattle.jsteps.specs.declared.step.Step.{Step}
-use Rattle.jlog.specs.Laws.{FitsBlock}
-use Rattle.jlog.specs.Places.{fit, needed, place_within}
-use Rattle.jlog.proofs.CodeLemmas.{flash_limits}
+use Rattle.jlog.specs.Places.{needed}
 use Rattle.jlog.proofs.RoomCode.{len_at}
-use Rattle.jlog.proofs.StepLemmas.{pad4_small, size_words}
+use Rattle.jlog.proofs.StepLemmas.{pad4_small}
 use Rattle.jlog.specs.Running.{node_len}
 use Rattle.jpacked.specs.Forms.{form_len, step_forms}
-use Rattle.jpacked.proofs.MadeLemmas.{made_forms, made_many, many_forms, many_nodes, long_at, short_at, forms_fit_blocks}
-use Rattle.jpacked.proofs.PutLemmas.{within_at}
-use Rattle.jpacked.proofs.RoomLemmas.{stream_short, Room, more_room, no_room, needed_more, first_within}
+use Rattle.jpacked.proofs.MadeLemmas.{made_many, many_forms, many_nodes, long_at, short_at}
+use Rattle.jpacked.proofs.RoomLemmas.{stream_short, needed_more}
 use Rattle.jpacked.proofs.room.needed.Goals as goal
 
 pub form_len-requires-clause-step : goal.form_len-requires-clause-step

@@ -1,4 +1,4 @@
-use Rattle.std.proofs.Common.{rules, ◌≡◌, true, false, ap, subst}
+use Rattle.std.proofs.Common.{rules, ◌≡◌, true, false, subst}
 use Rattle.jlog.specs.Headline.{is_flash_of}
 use Rattle.jlog.specs.Resuming.{page_fits}
 use Rattle.jlog.proofs.ResumeLemmas.{resumes}

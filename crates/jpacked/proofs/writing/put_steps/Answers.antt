@@ -1,4 +1,4 @@
-use Rattle.std.proofs.Common.{rules, ◌≡◌, ◌≤◌, ◌+◌, ◌*◌, ◌%◌, ◌<◌, [], ◌∷◌, List, length, ℕ, take, take_all, get_or, suc, arith, subst, sym, ap, ◌∙◌, refl, Err}
+use Rattle.std.proofs.Common.{rules, ◌≡◌, ◌≤◌, ◌+◌, ◌*◌, ◌%◌, ◌<◌, List, length, ℕ, take, take_all, get_or, suc, arith, subst, sym, ap, ◌∙◌, refl, Err}
 use Rattle.std.specs.List.{AllByRecursion}
 use Rattle.flashbase.specs.Device.{next_count}
 use Rattle.jsteps.specs.Nodes.{Indexed, node_of, nodes_of, advanced_all}
