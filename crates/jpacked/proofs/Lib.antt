@@ -1,7 +1,11 @@
+pub mod AcceptLemmas
+pub mod BeginLemmas
 pub mod ChooseLemmas
+pub mod CountLemmas
 pub mod FileLemmas
 pub mod MadeLemmas
 pub mod Parts
 pub mod PutLemmas
 pub mod RoomLemmas
+pub mod RunLemmas
 pub mod StartLemmas

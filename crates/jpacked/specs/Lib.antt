@@ -1,2 +1,4 @@
+pub mod Accepting
 pub mod Forms
+pub mod View
 pub mod Writing

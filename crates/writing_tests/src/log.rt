@@ -9,7 +9,7 @@
 mod cut_tests;
 mod growth;
 mod place_tests;
-mod plain;
+pub mod plain;
 mod refusal_tests;
 mod sessions;
 mod sink_tests;

@@ -1,0 +1,10 @@
+//! Sessions that pack: what they put, and what mounts through after a cut, against a plain file
+//! system.
+//!
+//! `sessions` runs operations onto an image, `cases` are operations and their steps, `cut_tests`
+//! mounts what a stop at each byte leaves, and `growth` refuses memory.
+
+mod cases;
+mod cut_tests;
+mod growth;
+mod sessions;

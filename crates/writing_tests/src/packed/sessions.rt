@@ -1,0 +1,65 @@
+//! Operations run packed onto an image. What may fail while a mounted image or a session lives is a
+//! call of its own: each `?` proves anew that all that lives is dropped.
+
+ghost use Rattle.jview.specs.Through.{IsMountThroughOf};
+
+use jlog::{Flash, RunReport, SessionFault};
+use jmount::Mounted;
+use jnode::Order;
+use jpacked::PackingSession;
+use jsteps::Op;
+use jthrough::mount_through;
+use std::alloc::Global;
+use std::test::Fail;
+use test_support::Taker;
+
+/// What a run put, where that begins, and what it reported.
+#[derive(Drop)]
+pub struct Outcome {
+    pub from: u32,
+    pub output: Vec<u8>,
+    pub report: RunReport,
+}
+
+fn session_on<E: Order>(
+    alloc: Global,
+    mounted: &Mounted<'_>,
+    flash: Flash,
+) -> Result<PackingSession<E, Taker>, SessionFault>
+    requires { IsMountThroughOf E.order flash.geometry.block mounted.now }
+{
+    match PackingSession::<E, Taker>::resume(alloc, mounted, flash, Taker::new(alloc)) {
+        Ok(session) => Ok(session),
+        Err((fault, _)) => Err(fault),
+    }
+}
+
+fn run_on<E: Order>(
+    alloc: Global,
+    mounted: &Mounted<'_>,
+    flash: Flash,
+    ops: &[Op<'_>],
+) -> Result<Outcome, Fail>
+    requires { IsMountThroughOf E.order flash.geometry.block mounted.now }
+{
+    let mut session = session_on::<E>(alloc, mounted, flash)?;
+    let from = session.cursor();
+    let report = session.run(alloc, ops);
+    Ok(Outcome {
+        from,
+        output: session.finish().bytes,
+        report,
+    })
+}
+
+/// Runs operations packed onto an image.
+pub fn run_packed<E: Order>(
+    alloc: Global,
+    image: &[u8],
+    flash: Flash,
+    ops: &[Op<'_>],
+) -> Result<Outcome, Fail> {
+    let mut contents = Vec::new(alloc);
+    let mounted = mount_through::<E>(alloc, image, flash.geometry, &mut contents)?;
+    run_on::<E>(alloc, &mounted, flash, ops)
+}
