@@ -104,7 +104,7 @@ flat_map-flat_map : {A B C : Type 0} (h : B → List C) (g : A → List B) (xs :
 flat_map-flat_map h g [] = refl
 flat_map-flat_map h g (x ∷ xs) = flat_map-append h (g x) (flat_map g xs) ∙ ap (λ ys. flat_map h (g x) ++ ys) (flat_map-flat_map h g xs)
 
-same_for_each : {A B : Type 0} (f g : A → List B) (xs : List A) → ((x : A) → f x ≡ g x) → flat_map f xs ≡ flat_map g xs
+pub same_for_each : {A B : Type 0} (f g : A → List B) (xs : List A) → ((x : A) → f x ≡ g x) → flat_map f xs ≡ flat_map g xs
 same_for_each f g [] same = refl
 same_for_each {B = B} f g (x ∷ xs) same = ap₂ (λ (a b : List B). a ++ b) (same x) (same_for_each f g xs same)
 

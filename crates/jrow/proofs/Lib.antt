@@ -1,3 +1,4 @@
+pub mod AddressLemmas
 pub mod ArrangedLemmas
 pub mod BlankLemmas
 pub mod BlockLemmas
@@ -7,7 +8,10 @@ pub mod MergeLemmas
 pub mod MergedLemmas
 pub mod MovedLemmas
 pub mod OrderLemmas
+pub mod PlacingLemmas
+pub mod RowCodeLemmas
 pub mod RowLemmas
 pub mod SideLemmas
 pub mod TailLemmas
 pub mod WithRowLemmas
+pub mod WrittenLemmas

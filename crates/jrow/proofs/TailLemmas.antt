@@ -57,7 +57,7 @@ seen_turned e size image other same = record {
   refused = sym same.refused;
 }
 
-mounts_same : (e : Endian) (size : ℕ) (image other : List ℕ) (s : State) → AreSeenSame e size image other → IsScannable size other → MountsThroughAs e size image s → MountsThroughAs e size other s
+pub mounts_same : (e : Endian) (size : ℕ) (image other : List ℕ) (s : State) → AreSeenSame e size image other → IsScannable size other → MountsThroughAs e size image s → MountsThroughAs e size other s
 mounts_same e size image other s same scannable mounts =
     let make = order_does_not_matter (expanded_nodes e size image) (expanded_nodes e size other) same.nodes mounts.sound.apart in
     record {
@@ -130,7 +130,7 @@ base_is_arranged e size blocks base ok =
 
 -- ---- what is left
 
-tail_byte : (e : Endian) (size blocks : ℕ) (base image : List ℕ) (j i : ℕ) → j < length (blank_blocks e size blocks base) → i < size
+pub tail_byte : (e : Endian) (size blocks : ℕ) (base image : List ℕ) (j i : ℕ) → j < length (blank_blocks e size blocks base) → i < size
     → get_or (arranged e size blocks base image) ((length (taken_blocks e size blocks base) + j) * size + i) 0xFF
     ≡ get_or (side_by_side size (blank_blocks e size blocks base) image) (j * size + i) 0xFF
 tail_byte e size blocks base image j i inside small =

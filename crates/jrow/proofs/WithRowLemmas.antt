@@ -21,7 +21,7 @@ use Rattle.jrow.proofs.SideLemmas.{side_long, side_byte, made_long, made_byte, d
 
 -- ---- the row
 
-below_ascends : (n : ℕ) → AllPairs (λ a b. a < b) (below n)
+pub below_ascends : (n : ℕ) → AllPairs (λ a b. a < b) (below n)
 below_ascends zero = λ i j d less inside. absurd (omega (arith, inside))
 below_ascends (suc n) =
     all_pairs_push (λ a b. a < b) (below n) n (below_ascends n)
@@ -38,19 +38,19 @@ row_is_of_blank_blocks e size blocks image = record {
 
 -- ---- where a block stands in it
 
-not_same : (a b : ℕ) → (a ≡ b → ⊥) → (a == b) ≡ false
+pub not_same : (a b : ℕ) → (a ≡ b → ⊥) → (a == b) ≡ false
 not_same a b differ = elim (cases_Bool (a == b)) [
   | inl same ↦ absurd (differ (eqb-true a b same))
   | inr not ↦ not
 ]
 
-index_of_none : (row : List ℕ) (b : ℕ) → (Contains row b → ⊥) → index_in row b ≡ None
+pub index_of_none : (row : List ℕ) (b : ℕ) → (Contains row b → ⊥) → index_in row b ≡ None
 index_of_none [] b out_of = refl
 index_of_none (c ∷ row) b out_of =
     let differ : (c == b) ≡ false = not_same c b (λ same. out_of (subst (λ (d : ℕ). Contains (c ∷ row) d) same (Contains-here c row))) in
     rw differ (ap (option_map (λ index. index + 1)) (index_of_none row b (λ has. out_of (Contains-there c row b has))))
 
-index_is : (row : List ℕ) (j : ℕ) → AllPairs (λ a b. a < b) row → j < length row → index_in row (get_or row j 0) ≡ Some j
+pub index_is : (row : List ℕ) (j : ℕ) → AllPairs (λ a b. a < b) row → j < length row → index_in row (get_or row j 0) ≡ Some j
 index_is [] j up inside = absurd (omega arith)
 index_is (c ∷ row) zero up inside =
     let same : (c == c) ≡ true = eq-eqb c c refl in
@@ -65,14 +65,14 @@ index_is (c ∷ row) (suc j) up inside =
 
 -- ---- the flash after bytes were written to it
 
-with_long : (size : ℕ) (base row written : List ℕ) (b : ℕ) → length (block_with size base row written b) ≡ size
+pub with_long : (size : ℕ) (base row written : List ℕ) (b : ℕ) → length (block_with size base row written b) ≡ size
 with_long size base row written b = by (index_in row b)
   where
     by : (o : Option ℕ) → length (unwrap_or (option_map (block_of size written) o) (block_of size base b)) ≡ size
     by None = block_length size base b
     by (Some j) = block_length size written j
 
-with_byte : (size blocks : ℕ) (base row written : List ℕ) (b i : ℕ) → b < blocks → i < size
+pub with_byte : (size blocks : ℕ) (base row written : List ℕ) (b i : ℕ) → b < blocks → i < size
     → get_or (with_row size blocks base row written) (b * size + i) 0xFF ≡ get_or (block_with size base row written b) i 0xFF
 with_byte size blocks base row written b i inside small =
     made_byte size (block_with size base row written) (with_long size base row written) (below blocks) b i (omega (arith, inside, length-below blocks)) small

@@ -1,6 +1,6 @@
 -- A flash with its blocks in another order: the blank blocks of a base last. What is written to
 -- them is then written to a tail, so that all that is known of a log there holds of it.
-use Rattle.std.specs.Prelude.{◌≡◌, ◌↔◌, ℕ, ◌*◌, ◌<◌, ◌≤◌, not, IsTrue, List, [], ◌++◌, length, take, filter, Ok}
+use Rattle.std.specs.Prelude.{◌≡◌, ◌↔◌, ℕ, ◌*◌, ◌<◌, ◌≤◌, not, IsTrue, List, [], ◌++◌, length, take, filter, Some, Ok}
 use Rattle.flashbase.specs.Lists.{below}
 use Rattle.flashbase.specs.Ranges.{AreBytes}
 use Rattle.jnode.specs.declared.order.Endian.{Endian}
@@ -16,14 +16,14 @@ use Rattle.jexpand.specs.Expanded.{expanded_nodes}
 use Rattle.jview.specs.Through.{MountsThroughAs, IsMountThroughOf}
 use Rattle.jlog.specs.Places.{places}
 use Rattle.jlog.specs.Output.{output}
-use Rattle.jlog.specs.Left.{IsLeft, count_whole}
+use Rattle.jlog.specs.Left.{flash_byte, IsLeft, count_whole}
 use Rattle.jlog.specs.Forms.{NoFormWeak}
 use Rattle.jlog.specs.Headline.{is_flash_of, resume_address}
 use Rattle.jlog.specs.HeadlineThrough.{state_through, IsBaseThrough, index_through, SurvivesAs}
 use Rattle.jlog.specs.DoneThrough.{GoesOnAs}
 use Rattle.jlog.specs.Resuming.{resumes_at}
 use Rattle.jlog.specs.Session.{Flash, IsGoing}
-use Rattle.jrow.specs.Row.{blank_blocks, side_by_side}
+use Rattle.jrow.specs.Row.{blank_blocks, side_by_side, start_of_row, address_of}
 use Rattle.jrow.specs.RowLeft.{IsLeftInRow}
 
 -- the blocks that are not blank, in ascending order
@@ -73,6 +73,17 @@ RowIsTail = (e : Endian) (size blocks k : ℕ) (base out image : List ℕ) → 0
     → IsLeftInRow e size blocks base (blank_blocks e size blocks base) out k image
     → IsLeft e size blocks (arranged e size blocks base base) (row_start e size blocks base) out k
     (arranged e size blocks base image)
+
+-- An address of its row is one of the image, where it holds the same byte,
+abbrev pub RowAddressHolds : Type 0
+RowAddressHolds = (e : Endian) (size blocks at address : ℕ) (base image : List ℕ) → 0 < size
+    → address_of size blocks (blank_blocks e size blocks base) at ≡ Some address
+    → flash_byte (arranged e size blocks base image) at ≡ flash_byte image address
+
+-- and the row begins where the number of its blocks says.
+abbrev pub RowStarts : Type 0
+RowStarts = (e : Endian) (size blocks : ℕ) (base : List ℕ)
+    → row_start e size blocks base ≡ start_of_row size blocks (blank_blocks e size blocks base)
 
 -- ---- a log
 

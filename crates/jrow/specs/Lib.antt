@@ -8,3 +8,4 @@ pub mod OrderLaws
 pub mod Row
 pub mod RowLaws
 pub mod RowLeft
+pub mod Written

@@ -1,5 +1,5 @@
 -- The row of an image: its blank blocks, wherever they lie, as one flash that is written upwards.
-use Rattle.std.specs.Prelude.{ℕ, ◌+◌, ◌*◌, ◌/◌, ◌%◌, List, filter, flat_map, slice_index, Contains}
+use Rattle.std.specs.Prelude.{ℕ, ◌+◌, ◌-◌, ◌*◌, ◌/◌, ◌%◌, ◌<◌, ◌&&◌, nat_le, nat_lt, List, length, filter, flat_map, slice_index, AllPairs, Contains, Option, Some, None, if◌then◌else◌}
 use Rattle.flashbase.specs.Lists.{below}
 use Rattle.jnode.specs.declared.order.Endian.{Endian}
 use Rattle.jscan.specs.Blank.{is_blank}
@@ -22,3 +22,21 @@ address_in size row at = slice_index row (at / size) * size + at % size
 -- an address of the flash lies in the row
 abbrev pub IsInRow : ℕ → List ℕ → ℕ → Type 0
 IsInRow size row at = Contains row (at / size)
+
+-- ---- any blocks of a flash
+
+-- These are numbers of blocks of a flash that has so many, upwards.
+pub record IsRowOf (blocks : ℕ) (row : List ℕ) : Type 0 where
+  pub ascending : AllPairs (λ a b. a < b) row
+  pub within : (index : ℕ) → index < length row → slice_index row index < blocks
+
+-- The flash with the blocks of the row last: where these begin,
+abbrev pub start_of_row : ℕ → ℕ → List ℕ → ℕ
+start_of_row size blocks row = (blocks - length row) * size
+
+-- and where on the flash an address of theirs lies.
+abbrev pub address_of : ℕ → ℕ → List ℕ → ℕ → Option ℕ
+address_of size blocks row at =
+    let start = start_of_row size blocks row in
+    if nat_le start at && nat_lt at (blocks * size) then Some
+    (address_in size row (at - start)) else None

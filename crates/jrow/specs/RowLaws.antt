@@ -6,7 +6,7 @@ use Rattle.jnode.specs.declared.order.Endian.{Endian}
 use Rattle.jscan.specs.Blank.{is_blank}
 use Rattle.jscan.specs.Image.{is_block_size, block_of}
 use Rattle.jexpand.specs.Expanded.{expanded_nodes, unpacked_bytes}
-use Rattle.jrow.specs.Row.{blank_blocks, side_by_side, address_in}
+use Rattle.jrow.specs.Row.{blank_blocks, side_by_side, address_in, IsRowOf}
 
 -- ---- which blocks are in it
 
@@ -19,6 +19,11 @@ pub record AreBlankBlocks (e : Endian) (size blocks : ℕ) (image row : List ℕ
 abbrev pub RowIsOfBlankBlocks : Type 0
 RowIsOfBlankBlocks = (e : Endian) (size blocks : ℕ) (image : List ℕ)
     → AreBlankBlocks e size blocks image (blank_blocks e size blocks image)
+
+-- So they are blocks of the flash, and no more than it has.
+abbrev pub BlankBlocksAreRow : Type 0
+BlankBlocksAreRow = (e : Endian) (size blocks : ℕ) (image : List ℕ)
+    → let row = blank_blocks e size blocks image in IsRowOf blocks row × (length row ≤ blocks)
 
 -- ---- the bytes of a row
 

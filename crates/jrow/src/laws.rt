@@ -1,12 +1,13 @@
 //! Laws of a row. Each function's contract is a law, and its body is empty.
 
-ghost use Rattle.jrow.specs.Arranged.{BaseIsArranged, ArrangedMounts, RowIsTail, ArrangedBegins, ArrangedSurvives};
+ghost use Rattle.jrow.specs.Arranged.{BaseIsArranged, ArrangedMounts, RowIsTail, RowAddressHolds, RowStarts, ArrangedBegins, ArrangedSurvives};
 ghost use Rattle.jrow.specs.HeadlineInRow.{FormsSurviveInRow};
 ghost use Rattle.jrow.specs.MergedLaws.{RowIsMerged};
 ghost use Rattle.jrow.specs.Moved.{LogIsMoved};
 ghost use Rattle.jrow.specs.OrderLaws.{OrderDoesNotMatter, MergedMakeSame};
-ghost use Rattle.jrow.specs.RowLaws.{RowIsSideBySide, RowIsOfBlankBlocks, ImageIsOfBlocks, RowIsOfBlocks};
+ghost use Rattle.jrow.specs.RowLaws.{RowIsSideBySide, RowIsOfBlankBlocks, BlankBlocksAreRow, ImageIsOfBlocks, RowIsOfBlocks};
 ghost use Rattle.jrow.specs.RowLeft.{OtherBlocksStay, WrittenIsLeftInRow, LeftInRowExpands, WholeInRowExpands};
+ghost use Rattle.jrow.specs.Written.{WithRowIsWhole, SameIsLeftInRow, SameMountsThrough, ImageWithRowIsLeft};
 
 /// Nodes of which no two clash make the same file system in whatever order they come.
 pub fn order_does_not_matter()
@@ -34,7 +35,8 @@ pub fn row_is_merged()
 
 /// The row is the blank blocks, all of them, upwards.
 pub fn row_is_of_blank_blocks()
-    ensures { RowIsOfBlankBlocks }
+    ensures each { RowIsOfBlankBlocks }
+    ensures row { BlankBlocksAreRow }
 {}
 
 /// What went out to the row may always be left.
@@ -75,4 +77,25 @@ pub fn row_is_tail()
 /// on: so what goes out to the row goes out to the tail that the row then is.
 pub fn log_is_moved()
     ensures { LogIsMoved }
+{}
+
+/// Of the flash with the blank blocks of an image last: where they begin, and that an address there
+/// is one of the image.
+pub fn row_has_addresses()
+    ensures start { RowStarts }
+    ensures address { RowAddressHolds }
+{}
+
+/// Images of a flash that differ only in how many erased bytes they lack at its end are left by the
+/// same stops, and mount through as the same.
+pub fn erased_ends_do_not_matter()
+    ensures left { SameIsLeftInRow }
+    ensures mounts { SameMountsThrough }
+{}
+
+/// What is put of an image with bytes in its row is the flash that has them there, and a stop may
+/// leave it.
+pub fn image_with_row_is_left()
+    ensures whole { WithRowIsWhole }
+    ensures left { ImageWithRowIsLeft }
 {}

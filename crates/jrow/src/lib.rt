@@ -1,17 +1,30 @@
 //! A log that is written to the blank blocks of an image, wherever they lie, in the order of their
 //! addresses, as if they lay side by side.
 //!
-//! It has no code. It is built on `jlog` (what a log is, and what a write to the tail of an image
-//! leaves) and `jview` (what an image shows through its compression). It says the same of a row of
-//! blocks: after a cut at any byte the image mounts through as the file system after the steps
-//! whose nodes are whole, and every block that is not of the row is as it was.
+//! It is built on `jlog` (what a log is, and what a write to the tail of an image leaves) and
+//! `jview` (what an image shows through its compression). It says the same of a row of blocks:
+//! after a cut at any byte the image mounts through as the file system after the steps whose nodes
+//! are whole, and every block that is not of the row is as it was.
+//!
+//! - `Row`: the blank blocks of an image, where they begin on the flash that has them last, and
+//!   where each address lies. Finding them takes one `u32` of memory a block.
+//! - `put_with_row`: an image with bytes in its row, put block by block without a copy of it;
+//!   `written_len` says how long it is then.
+//! - `laws`, each the contract of a function that does nothing, and `examples`, a worked row.
+//!
+//! No call here writes the log itself: that is a session's part, and none does so yet.
 //!
 //! `specs/Row.antt` says what the row is, `specs/RowLeft.antt` what may be left of a write to it,
-//! and `specs/HeadlineInRow.antt` what survives. Nodes make the same file system in whatever order
-//! they come (`specs/OrderLaws.antt`), and the nodes of an image are those of its blocks
-//! (`specs/RowLaws.antt`). So a log in the row is one in the tail of the flash with its blank
-//! blocks last (`specs/Arranged.antt`), of which `jlog` says what survives.
+//! `specs/Written.antt` what is put, and `specs/HeadlineInRow.antt` what survives. Nodes make the
+//! same file system in whatever order they come (`specs/OrderLaws.antt`), and the nodes of an image
+//! are those of its blocks (`specs/RowLaws.antt`). So a log in the row is one in the tail of the
+//! flash with its blank blocks last (`specs/Arranged.antt`), of which `jlog` says what survives.
 #![tactic(auto)]
 
 pub mod examples;
 pub mod laws;
+mod placing;
+mod row;
+
+pub use crate::placing::{RowOnFlash, put_with_row, written_len};
+pub use crate::row::Row;
