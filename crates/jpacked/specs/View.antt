@@ -1,5 +1,5 @@
 -- What contracts see of a session that packs.
-use Rattle.std.specs.Prelude.{◌≡◌, ℕ, ◌+◌, Bool, true, IsFalse, List, [], ◌∷◌, ◌++◌, take, length, IfOk, Option, Some, None, Result, Ok, Err}
+use Rattle.std.specs.Prelude.{◌≡◌, ℕ, ◌+◌, Bool, true, IsFalse, List, [], ◌∷◌, ◌++◌, take, length, IfOk, IsOk, Option, Some, None, Result, Ok, Err}
 use Rattle.byteorder.specs.declared.ByteOrder.{Ghosts as OfByteOrder}
 use Rattle.flashbase.specs.Ranges.{AreBytes}
 use Rattle.flashbase.specs.Sinks.{SinkChange, change_of}
@@ -24,7 +24,12 @@ use Rattle.jlog.specs.declared.report.Applied.{Applied}
 use Rattle.jlog.specs.declared.report.Place.{Place}
 use Rattle.jlog.specs.declared.report.RunReport.{RunReport}
 use Rattle.jlog.specs.declared.start.Flash.{Flash}
+use Rattle.jrow.specs.Arranged.{arranged, row_start}
 use Rattle.jpacked.specs.declared.session.PackingSession.{PackingSession}
+
+-- the bytes that were mounted
+abbrev pub base_of_mount : Mount → List ℕ
+base_of_mount mount = mount.image
 
 -- how one operation stopped a run, if it did
 abbrev pub stop_by : {T : Type 0} → Result T SessionFault → Option SessionFault
@@ -122,6 +127,16 @@ module _ {E : Type 0} {S : Type 0} {order : OfOrder E} {numbers : OfByteOrder E}
     pub of : IsSessionOf mount flash (cursor_of session) given session
     pub cursor : resumes order.order flash mount ≡ Ok (cursor_of session)
     pub begins : HasDone mount.image session [] []
+
+  -- It goes on in the row of the blank blocks of an image mounted through its compression, and
+  -- nothing was done yet: the base is the image with these blocks last.
+  pub record IsBegunInRow (mount : Mount) (flash : Flash) (given : S)
+      (session : PackingSession E S order numbers sinks) : Type 0 where
+    pub of : IsSessionOf mount flash
+        (row_start order.order flash.geometry.block flash.blocks mount.image) given session
+    pub resumes : IsOk (resumes order.order flash mount)
+    pub begins : HasDone (arranged order.order flash.geometry.block flash.blocks mount.image
+        mount.image) session [] []
 
   -- ---- what survives
 

@@ -6,6 +6,7 @@ ghost use Rattle.jscan.specs.Pages.{page_size};
 ghost use Rattle.jlog.specs.Places.{is_writable_flash};
 ghost use Rattle.jlog.specs.Resuming.{resumes};
 ghost use Rattle.jlog.specs.Session.{IsGoing};
+ghost use Rattle.jrow.specs.Row.{blank_blocks};
 ghost use Rattle.jview.specs.Through.{greatest_contents, IsMountThroughOf};
 ghost use Rattle.jlog.specs.declared.fault.SessionFault.TheVariants.{OutOfMemory};
 
@@ -18,6 +19,7 @@ use flashbase::Sink;
 use jlog::{Applied, Blocks, Flash, Place, RunReport, SessionFault, Stop};
 use jmount::Mounted;
 use jnode::{INODE_LEN, Order};
+use jrow::Row;
 use jscan::Page;
 use jsteps::{Index, Op};
 use std::alloc::{AllocError, Global};
@@ -67,7 +69,7 @@ fn index_and_buffer(
 
 impl<E: Order, S: Sink> PackingSession<E, S> {
     ghost use Rattle.std.specs.Prelude.{List, [], ◌∷◌};
-    ghost use Rattle.jpacked.specs.View.{block_size_of, blocks_of, page_of, cursor_of, index_of_log, held_of, is_broken, sink_of, IsBegunOn, IsSessionOf, AppliesTo, HasApplied, HasRun};
+    ghost use Rattle.jpacked.specs.View.{block_size_of, blocks_of, page_of, cursor_of, index_of_log, held_of, is_broken, sink_of, base_of_mount, IsBegunOn, IsBegunInRow, IsSessionOf, AppliesTo, HasApplied, HasRun};
     ghost use Rattle.jlog.specs.declared.report.Place.{Place};
 
     /// Goes on from an image mounted through its compression, on a flash, from the block on from
@@ -95,6 +97,43 @@ impl<E: Order, S: Sink> PackingSession<E, S> {
             Err(fault) => return Err((fault, sink)),
         };
         known_bytes(mounted.image());
+        match PackingSession::<E, S>::begin(alloc, mounted, flash, cursor, sink) {
+            Ok(session) => Ok(session),
+            Err((error, sink)) => Err((SessionFault::from(error), sink)),
+        }
+    }
+
+    /// Goes on from an image mounted through its compression, in the row of its blank blocks,
+    /// wherever they lie: the log is that of the flash with these blocks last, and the addresses of
+    /// what is put are those of that flash ([`Row::address`] says where they are). Nothing is put,
+    /// and a refusal hands the sink back. It is in `E`'s order and of the geometry that the image
+    /// was mounted with, and the row is that of its blank blocks on this flash.
+    ///
+    /// # Errors
+    /// As [`PackingSession::resume`].
+    pub fn resume_in_row(
+        alloc: Global,
+        mounted: &Mounted<'_>,
+        flash: Flash,
+        row: &Row,
+        sink: S,
+    ) -> Result<PackingSession<E, S>, (SessionFault, S)>
+        requires through { IsMountThroughOf E.order flash.geometry.block mounted.now }
+        requires row { row.now
+            ≡ blank_blocks E.order flash.geometry.block flash.blocks (base_of_mount mounted.now) }
+        ensures begun { IfOk result (IsBegunInRow mounted.now flash sink) }
+        ensures fault { IfErr result (λ refused. refused.0 ≢ OutOfMemory
+            → resumes E.order flash mounted.now ≡ Err refused.0) }
+        ensures memory { IfErr result (λ refused. refused.0 ≡ OutOfMemory
+            → IsOk (resumes E.order flash mounted.now)) }
+        ensures back { IfErr result (λ refused. refused.1 ≡ sink) }
+    {
+        let _tail = match start_at::<E>(mounted, flash.geometry, flash.blocks, flash.page) {
+            Ok(tail) => tail,
+            Err(fault) => return Err((fault, sink)),
+        };
+        known_bytes(mounted.image());
+        let cursor = row.start(flash.geometry, flash.blocks);
         match PackingSession::<E, S>::begin(alloc, mounted, flash, cursor, sink) {
             Ok(session) => Ok(session),
             Err((error, sink)) => Err((SessionFault::from(error), sink)),

@@ -2,9 +2,11 @@
 //! system.
 //!
 //! `sessions` runs operations onto an image, `cases` are operations and their steps, `cut_tests`
-//! mounts what a stop at each byte leaves, and `growth` refuses memory.
+//! mounts what a stop at each byte leaves of a log in the tail, `row_tests` of one in blank blocks
+//! before and behind a compressed base, and `growth` refuses memory.
 
 mod cases;
 mod cut_tests;
 mod growth;
+mod row_tests;
 mod sessions;

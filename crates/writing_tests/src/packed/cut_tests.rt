@@ -17,7 +17,7 @@ use std::test::Fail;
 use test_operations::{By, op_of};
 
 /// The operations of lines, asked for at the times 1, 2 and so on.
-fn ops_in_time(alloc: Global, lines: &[&'static str]) -> Result<Vec<Op<'static>>, Fail> {
+pub fn ops_in_time(alloc: Global, lines: &[&'static str]) -> Result<Vec<Op<'static>>, Fail> {
     let mut ops = Vec::new(alloc);
     let mut time = 0u32;
     for line in lines {
@@ -33,7 +33,7 @@ fn ops_in_time(alloc: Global, lines: &[&'static str]) -> Result<Vec<Op<'static>>
 }
 
 /// The flash up to where a base ends, and what the base's operations put there.
-fn base_of<E: Order>(alloc: Global, case: &Case) -> Result<Vec<u8>, Fail> {
+pub fn base_of<E: Order>(alloc: Global, case: &Case) -> Result<Vec<u8>, Fail> {
     let ops = ops_in_time(alloc, case.base)?;
     Ok(run_packed::<E>(alloc, &[], case.flash, &ops)?.output)
 }
@@ -47,7 +47,7 @@ fn take_all(alloc: Global, state: &mut Plain, changes: &[Change]) -> Result<(), 
 }
 
 /// The plain file systems after none of the steps, after one, and so on.
-fn states_of(alloc: Global, case: &Case) -> Result<Vec<Plain>, Fail> {
+pub fn states_of(alloc: Global, case: &Case) -> Result<Vec<Plain>, Fail> {
     let mut states = Vec::new(alloc);
     for count in 0..case.steps.len() + 1 {
         let mut state = Plain::new(alloc);
@@ -88,6 +88,24 @@ fn shows<E: Order>(alloc: Global, image: &[u8], geometry: Geometry, state: &Plai
     }
 }
 
+/// Whether an image that is left after `count` bytes mounts through as the state after the steps
+/// whose forms are whole.
+pub fn is_shown_after<E: Order>(
+    alloc: Global,
+    run: &Outcome,
+    states: &[Plain],
+    image: &[u8],
+    geometry: Geometry,
+    count: usize,
+) -> bool {
+    let places = run.report.places.as_slice();
+    let whole = places.iter().filter(|it| is_whole(run, it, count)).count();
+    match states.get(whole) {
+        Some(state) => shows::<E>(alloc, image, geometry, state),
+        None => false,
+    }
+}
+
 /// Whether each stop leaves the state after the steps whose forms are whole.
 fn survives<E: Order>(alloc: Global, case: &Case) -> Result<bool, Fail> {
     let base = base_of::<E>(alloc, case)?;
@@ -98,14 +116,9 @@ fn survives<E: Order>(alloc: Global, case: &Case) -> Result<bool, Fail> {
         && run.report.places.len() == case.steps.len()
         && run.output.len() <= case.most;
     for count in 0..run.output.len() + 1 {
-        let places = run.report.places.as_slice();
-        let whole = places.iter().filter(|it| is_whole(&run, it, count)).count();
-        let image = left_after(alloc, &base, &run, count)?;
+        let left = left_after(alloc, &base, &run, count)?;
         is_well = is_well
-            && match states.get(whole) {
-                Some(state) => shows::<E>(alloc, &image, case.flash.geometry, state),
-                None => false,
-            };
+            && is_shown_after::<E>(alloc, &run, &states, &left, case.flash.geometry, count);
     }
     Ok(is_well)
 }

@@ -1,12 +1,15 @@
 //! Operations run packed onto an image. What may fail while a mounted image or a session lives is a
 //! call of its own: each `?` proves anew that all that lives is dropped.
 
+ghost use Rattle.jrow.specs.Row.{blank_blocks};
+ghost use Rattle.jpacked.specs.View.{base_of_mount};
 ghost use Rattle.jview.specs.Through.{IsMountThroughOf};
 
 use jlog::{Flash, RunReport, SessionFault};
 use jmount::Mounted;
 use jnode::Order;
 use jpacked::PackingSession;
+use jrow::Row;
 use jsteps::Op;
 use jthrough::mount_through;
 use std::alloc::Global;
@@ -43,6 +46,45 @@ fn run_on<E: Order>(
     requires { IsMountThroughOf E.order flash.geometry.block mounted.now }
 {
     let mut session = session_on::<E>(alloc, mounted, flash)?;
+    let from = session.cursor();
+    let report = session.run(alloc, ops);
+    Ok(Outcome {
+        from,
+        output: session.finish().bytes,
+        report,
+    })
+}
+
+/// A session in the row of a mounted image.
+fn session_in_row<E: Order>(
+    alloc: Global,
+    mounted: &Mounted<'_>,
+    flash: Flash,
+    row: &Row,
+) -> Result<PackingSession<E, Taker>, SessionFault>
+    requires through { IsMountThroughOf E.order flash.geometry.block mounted.now }
+    requires row { row.now
+        ≡ blank_blocks E.order flash.geometry.block flash.blocks (base_of_mount mounted.now) }
+{
+    match PackingSession::<E, Taker>::resume_in_row(alloc, mounted, flash, row, Taker::new(alloc)) {
+        Ok(session) => Ok(session),
+        Err((fault, _)) => Err(fault),
+    }
+}
+
+/// Runs operations packed into the row of an image.
+pub fn run_in_row<E: Order>(
+    alloc: Global,
+    mounted: &Mounted<'_>,
+    flash: Flash,
+    row: &Row,
+    ops: &[Op<'_>],
+) -> Result<Outcome, Fail>
+    requires through { IsMountThroughOf E.order flash.geometry.block mounted.now }
+    requires row { row.now
+        ≡ blank_blocks E.order flash.geometry.block flash.blocks (base_of_mount mounted.now) }
+{
+    let mut session = session_in_row::<E>(alloc, mounted, flash, row)?;
     let from = session.cursor();
     let report = session.run(alloc, ops);
     Ok(Outcome {
