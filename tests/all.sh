@@ -58,6 +58,7 @@ tests/completions.py
 tests/kit.sh
 tests/trace.py
 tests/form.py
+tests/words.py
 SUITES
 wait $proofs
 count "$logs/proofs" $?
