@@ -1,11 +1,12 @@
 #!/usr/bin/env python3
 """Runs the commands of the documents as they stand: tests/commands.py [--try | --real] [PROGRAM]
 
-Of README.md and CONTRIBUTING.md these are the blocks that begin with ```sh, each begun at the top
-of the repository. A block ```text after one is what it prints, where a line `...` stands for any
-lines. Of the manual pages they are the literal blocks of QUICK START and EXAMPLES, in order, each
-section in a folder with a folder `tree`; 'It prints' tells the last line. Each block must end with
-status 0.
+In README.md, docs/GUIDE.md, docs/FAQ.md and CONTRIBUTING.md these are the blocks that begin with
+```sh, each begun at the top of the repository, one page after the other. The section 'Get it' of
+README.md is run first, as the others need the program. A block ```text after one is its output, in
+which a line `...` is any number of lines. Of the manual pages they are the literal blocks of QUICK
+START and EXAMPLES, in order, each section in a folder with a folder `tree`; 'It prints' has the last
+line. Each block must end with status 0.
 
 The commands get a copy of the repository, the program, and a home of their own. Proving takes an
 hour, and the gate does it by itself. So `rt` and the scripts of tests/ are stand-ins, which look
@@ -25,6 +26,9 @@ import tempfile
 ROOT = os.path.dirname(os.path.dirname(os.path.abspath(__file__)))
 PROGRAM = os.path.join(ROOT, "crates", "jffs2_image", "out", "jffs2_image")
 # What the repository has; beside it there may be what somebody made by the commands of README.md.
+PAGES = ("README.md", "docs/GUIDE.md", "docs/FAQ.md", "CONTRIBUTING.md")
+# the section that a reader of a page needs before all others
+FIRST = "Get it"
 PARTS = ("bench", "completions", "crates", "docs", "tests", "CHANGELOG.md",
          "CONTRIBUTING.md", "HANDLES", "README.md", "crates.txt")
 BLOCK = re.compile(r"^```(\w*)\n(.*?)^```$", re.M | re.S)
@@ -114,7 +118,9 @@ class Place:
 
 def blocks_of_page(text):
     """Each block of commands of a page in Markdown, with what it prints, or None."""
-    blocks = BLOCK.findall(text)
+    sections = re.split(r"^## ", text, flags=re.M)
+    sections.sort(key=lambda section: not section.startswith(FIRST))
+    blocks = BLOCK.findall("\n".join(sections))
     for (kind, commands), (next_kind, printed) in zip(blocks, blocks[1:] + [("", "")]):
         if kind == "sh":
             yield commands, printed if next_kind == "text" else None
@@ -169,7 +175,7 @@ def main():
     with tempfile.TemporaryDirectory() as folder:
         place = Place(folder, program, mode)
         runs = [(name, place.top, list(blocks_of_page(text_of(name))))
-                for name in ("README.md", "CONTRIBUTING.md")]
+                for name in PAGES]
         for page in ("jffs2_image.1", "jffs2_image.5"):
             for section, blocks in sections_of_manual(text_of("docs", page)):
                 where = os.path.join(folder, f"{page} {section}")
