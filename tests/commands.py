@@ -30,7 +30,8 @@ PAGES = ("README.md", "docs/GUIDE.md", "docs/FAQ.md", "CONTRIBUTING.md")
 # the section that a reader of a page needs before all others
 FIRST = "Get it"
 PARTS = ("bench", "completions", "crates", "docs", "tests", "CHANGELOG.md",
-         "CONTRIBUTING.md", "HANDLES", "README.md", "crates.txt")
+         "CONTRIBUTING.md", "HANDLES", "README.md", "RELEASING.md", "ROADMAP.md", "SECURITY.md",
+         "crates.txt")
 BLOCK = re.compile(r"^```(\w*)\n(.*?)^```$", re.M | re.S)
 LITERAL = re.compile(r"^\.Bd -literal.*?\n(.*?)^\.Ed$"
                      r"(?:\n\.Pp\nIt prints\n\.Ql (.*?) \.$)?", re.M | re.S)
