@@ -5,8 +5,8 @@ In README.md, docs/GUIDE.md, docs/FAQ.md and CONTRIBUTING.md these are the block
 ```sh, each begun at the top of the repository, one page after the other. The section 'Get it' of
 README.md is run first, as the others need the program. A block ```text after one is its output, in
 which a line `...` is any number of lines. Of the manual pages they are the literal blocks of QUICK
-START and EXAMPLES, in order, each section in a folder with a folder `tree`; 'It prints' has the last
-line. Each block must end with status 0.
+START and EXAMPLES and those after a line that begins with 'Example:', in order, each page in a
+folder with a folder `tree`; 'It prints' has the last line. Each block must end with status 0.
 
 The commands get a copy of the repository, the program, and a home of their own. Proving takes an
 hour, and the gate does it by itself. So `rt` and the scripts of tests/ are stand-ins, which look
@@ -16,6 +16,7 @@ the gate, each `rt try` is the toolchain's own. With --real nothing is a stand-i
 which is the gate; the documents build the program, so PROGRAM is not taken. The last line is 'N
 passed, M failed'.
 """
+import glob
 import os
 import re
 import shutil
@@ -33,8 +34,9 @@ PARTS = ("bench", "completions", "crates", "docs", "tests", "CHANGELOG.md",
          "CONTRIBUTING.md", "HANDLES", "README.md", "RELEASING.md", "ROADMAP.md", "SECURITY.md",
          "crates.txt")
 BLOCK = re.compile(r"^```(\w*)\n(.*?)^```$", re.M | re.S)
-LITERAL = re.compile(r"^\.Bd -literal.*?\n(.*?)^\.Ed$"
-                     r"(?:\n\.Pp\nIt prints\n\.Ql (.*?) \.$)?", re.M | re.S)
+LITERAL = re.compile(r"(?:^(?P<before>[^.\n][^\n]*)\n(?:\.Pp\n)?)?"
+                     r"^\.Bd -literal[^\n]*\n(?P<block>.*?)^\.Ed$"
+                     r"(?:\n\.Pp\nIt prints\n\.Ql (?P<told>[^\n]*) \.$)?", re.M | re.S)
 
 # What stands for rt: it knows the words of its own help, and the crates.
 RT = r"""#!/usr/bin/env python3
@@ -127,14 +129,14 @@ def blocks_of_page(text):
             yield commands, printed if next_kind == "text" else None
 
 
-def sections_of_manual(text):
-    """The sections with commands of a manual page: the name of each, and its blocks, each with the
-    last line that it prints, or None."""
+def blocks_of_manual(text):
+    """Each block of commands of a manual page, with the last line that it prints, or None."""
     for section in re.split(r"^\.Sh ", text, flags=re.M):
-        name = section.partition("\n")[0]
-        if name in ("EXAMPLES", "QUICK START"):
-            yield name, [(re.sub(r"\\e", r"\\", commands), f"...\n{told}\n" if told else None)
-                         for commands, told in LITERAL.findall(section)]
+        is_example = section.partition("\n")[0] in ("EXAMPLES", "QUICK START")
+        for found in LITERAL.finditer(section):
+            if is_example or (found["before"] or "").startswith("Example:"):
+                told = f"...\n{found['told']}\n" if found["told"] else None
+                yield re.sub(r"\\e", r"\\", found["block"]), told
 
 
 def is_as_told(printed, told):
@@ -177,11 +179,13 @@ def main():
         place = Place(folder, program, mode)
         runs = [(name, place.top, list(blocks_of_page(text_of(name))))
                 for name in PAGES]
-        for page in ("jffs2_image.1", "jffs2_image.5"):
-            for section, blocks in sections_of_manual(text_of("docs", page)):
-                where = os.path.join(folder, f"{page} {section}")
-                os.makedirs(os.path.join(where, "tree", "etc"))
-                runs.append((f"{page}, {section}", where, blocks))
+        for path in sorted(glob.glob(os.path.join(ROOT, "docs", "*.[157]"))):
+            page = os.path.basename(path)
+            where = os.path.join(folder, page)
+            os.makedirs(os.path.join(where, "tree", "etc"))
+            with open(os.path.join(where, "tree", "etc", "hostname"), "w", encoding="ascii") as file:
+                file.write("box\n")
+            runs.append((page, where, list(blocks_of_manual(text_of("docs", page)))))
         for name, where, blocks in runs:
             good, bad = run_blocks(place, where, name, blocks)
             passed += good
