@@ -59,6 +59,7 @@ tests/kit.sh
 tests/trace.py
 tests/form.py
 tests/words.py
+tests/pages.py
 SUITES
 wait $proofs
 count "$logs/proofs" $?
