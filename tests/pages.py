@@ -89,50 +89,83 @@ def front_page(crate):
 
 
 def clauses_of(lines):
-    """The clauses of a function's head: what each is, its name, and its formula in one line."""
-    text = "\n".join(lines)
-    parts = re.split(r"^\s*(?=(?:requires|ensures\*?|ghost)\b)", text, flags=re.M)
-    for part in parts[1:]:
-        if found := CLAUSE.match(part.strip()):
+    """The clauses of a function's head: what each is, its name, its formula in one line, and the
+    comment above it."""
+    parts, said = [], []
+    for line in lines:
+        bare = line.strip()
+        if bare.startswith("//"):
+            said.append(bare.lstrip("/ "))
+        elif re.match(r"(?:requires|ensures\*?|ghost)\b", bare):
+            parts.append((" ".join(said), [bare]))
+            said = []
+        elif parts:
+            parts[-1][1].append(bare)
+    for comment, part in parts:
+        if found := CLAUSE.match(" ".join(part)):
             kind, name, formula = found.groups()
-            yield kind.rstrip("*"), name, " ".join(formula.split())
+            yield kind.rstrip("*"), name, " ".join(formula.split()), comment
+
+
+def type_of(words):
+    """The name of the type, or of the trait, in the words after `impl` or `trait`."""
+    words = words.split(" where ")[0].partition(" for ")[2] or words
+    while words.lstrip().startswith("<"):
+        depth = 0
+        for at, letter in enumerate(words):
+            depth += (letter == "<") - (letter == ">" and words[at - 1] != "-")
+            if letter == ">" and depth == 0:
+                words = words[at + 1 :]
+                break
+        else:
+            return ""
+    found = re.search(r"\w+", words)
+    return found[0] if found else ""
+
+
+def signature_of(head):
+    """The signature of a function, without its clauses, in one line."""
+    text = re.split(r"\n\s*(?=(?:requires|ensures\*?|ghost)\b|//)", "\n".join(head))[0]
+    text = " ".join(text.split()).rstrip("{; ")
+    return text.replace("( ", "(").replace(", )", ")")
 
 
 def head_at(lines, at):
     """The lines of a function's head, from its first line to the one before its body."""
     indent = len(lines[at]) - len(lines[at].lstrip())
-    head = []
+    head, depth = [], 0
     for line in lines[at:]:
-        if re.match(rf" {{{indent}}}\{{", line) and head:
+        if depth == 0 and head and re.match(rf" {{{indent}}}\{{", line):
             break
         head.append(line)
-        if line.endswith((";", " {")) and not line.strip().startswith(("requires", "ensures")):
-            break
-        if line.endswith(";"):
+        depth += sum(line.count(it) for it in "({") - sum(line.count(it) for it in ")}")
+        is_clause = line.strip().startswith(("requires", "ensures", "ghost"))
+        opens_body = line.endswith(" {") and depth == 1 and not is_clause
+        if opens_body or (depth == 0 and line.endswith(";")):
             break
     return head
 
 
 def calls_of(text, with_private):
-    """Each public function of a source file: its name, its doc comment, its clauses. With private
-    functions those that have a contract."""
+    """Each public function of a source file: its name, its signature, its doc comment, its clauses.
+    With private functions those that have a contract."""
     lines, place, is_trait, doc = text.split("\n"), "", False, []
     for at, line in enumerate(lines):
         bare = line.strip()
         if found := re.match(r"(?:pub )?(?:unsafe )?(impl|trait)\b(.*?)(?: \{|$)", line):
             is_trait = line.startswith("pub trait")
-            named = re.sub(r"<.*", "", re.sub(r"^(?:<[^{]*?> )?(?=[A-Z])|^.* for ", "", found[2].strip()))
-            place = re.match(r"\w*", named.strip())[0]
+            place = type_of(found[2])
         elif line.startswith("}"):
             place, is_trait = "", False
         if bare.startswith("///"):
             doc.append(bare[3:].removeprefix(" "))
             continue
         if found := re.match(r"\s*(pub(?:\(crate\))? )?(?:const )?fn (\w+)", line):
-            clauses = list(clauses_of(head_at(lines, at)))
+            head = head_at(lines, at)
+            clauses = list(clauses_of(head))
             if found[1] == "pub " or is_trait or (with_private and clauses):
                 name = f"{place}::{found[2]}" if place and line.startswith(" ") else found[2]
-                yield name, "\n".join(doc), clauses
+                yield name, signature_of(head), "\n".join(doc), clauses
         if not bare.startswith("#["):
             doc = []
 
@@ -154,7 +187,8 @@ def calls_page():
 Every public function of the library and the program, with its comment and the clauses of its
 contract. A clause is proved for every input that meets what is *required*. Below a clause is the
 comment of the first definition that it cites. All definitions are in [NAMES.md](NAMES.md), and [PROOFS.md](PROOFS.md) says what it comes to. A
-function without a clause is only safe and total.
+function without a clause is only safe and total. Allocation needs an allocator, so a call that takes
+none takes memory only to grow a collection that it holds or is given.
 
 """]
     names = crates()
@@ -162,14 +196,18 @@ function without a clause is only safe and total.
     for crate in names:
         out.append(f"\n## {crate}\n\n{front_page(crate)}")
         for path in files_of(crate):
-            for call, doc, clauses in calls_of(text_of(path), crate in EDGE):
+            for call, signature, doc, clauses in calls_of(text_of(path), crate in EDGE):
                 module = os.path.relpath(path, f"crates/{crate}/src").removesuffix(".rt")
                 out.append(f"\n### `{call}` ({module})\n\n")
-                out.append(doc.strip() + "\n" + ("\n" if clauses else "") if doc else "")
-                for kind, label, formula in clauses:
+                doc = re.sub(r"^#+ (.*)$", r"**\1.**", doc.strip(), flags=re.M)
+                out.append(f"{doc}\n\n" if doc else "")
+                out.append(f"`{signature}`\n" + ("\n" if clauses else ""))
+                for kind, label, formula, comment in clauses:
                     head = "required" if kind == "requires" else f"`{label}`" if label else "always"
                     out.append(f"- {head}: `{formula}`\n")
-                    cited = (it for it in re.findall(r"\b[A-Z]\w+", formula) if comments.get(it))
+                    out.append(folded(comment, "  ", "  ") if comment else "")
+                    names_in = re.findall(r"\b[A-Z]\w+\b(?!\.)", formula)
+                    cited = (it for it in names_in if comments.get(it))
                     if name := next(cited, None):
                         out.append(folded(f"`{name}`: {comments[name]}", "  ", "  "))
     return "".join(out)
