@@ -183,7 +183,8 @@ def main():
             page = os.path.basename(path)
             where = os.path.join(folder, page)
             os.makedirs(os.path.join(where, "tree", "etc"))
-            with open(os.path.join(where, "tree", "etc", "hostname"), "w", encoding="ascii") as file:
+            name = os.path.join(where, "tree", "etc", "hostname")
+            with open(name, "w", encoding="ascii") as file:
                 file.write("box\n")
             runs.append((page, where, list(blocks_of_manual(text_of("docs", page)))))
         for name, where, blocks in runs:

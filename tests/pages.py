@@ -62,7 +62,7 @@ def crates():
 
 
 def folded(text, first, later):
-    """A text in lines of at most WIDTH columns: what the first one begins with, and the later ones."""
+    """A text in lines of at most WIDTH columns, with the beginnings of its first and later lines."""
     lines, line = [], first
     for word in text.split():
         if len(line) + 1 + len(word) > WIDTH and line.strip():
@@ -186,9 +186,10 @@ def calls_page():
     out = ["# Each call, with its clauses\n\n", MARK, """
 Every public function of the library and the program, with its comment and the clauses of its
 contract. A clause is proved for every input that meets what is *required*. Below a clause is the
-comment of the first definition that it cites. All definitions are in [NAMES.md](NAMES.md), and [PROOFS.md](PROOFS.md) says what it comes to. A
-function without a clause is only safe and total. Allocation needs an allocator, so a call that takes
-none takes memory only to grow a collection that it holds or is given.
+comment of the first definition that it cites. All definitions are in [NAMES.md](NAMES.md), and the
+theorems in [PROOFS.md](PROOFS.md). A function without a clause is only safe and total. Allocation
+needs an allocator, so a call that takes none takes memory only to grow a collection that it holds
+or is given.
 
 """]
     names = crates()
@@ -356,10 +357,11 @@ def trace_page():
         for rule in lines.get("rule", []):
             broken.setdefault(rule, []).append(name)
     out = ["# Where each rule is\n\n", MARK, """
-For each rule of the medium ([FORMAT.md](FORMAT.md) has them in words): the definition that contracts
-cite, the code whose contract says that it follows the definition, the laws and worked examples that
-show the definition right, and the edits of the code that the gate refuses. An entry without an edit
-has none that is about that rule alone. It is made of tags in `specs/` and in the edits.
+For each rule of the medium ([FORMAT.md](FORMAT.md) has them in words): the definition that
+contracts cite, and the code whose contract says that it follows the definition. Then come the laws
+and worked examples that show the definition right, and the edits of the code that the gate refuses.
+An entry without an edit has none that is about that rule alone. It is made of tags in `specs/` and
+in the edits.
 
 `crate.File.name` is a definition in `crates/crate/specs/File.antt`, `crate::module::name` an item
 of `crates/crate/src/module.rt`, and `crate/name` an edit, `crates/crate/must-fail/name.edit`.

@@ -1,12 +1,13 @@
 #!/usr/bin/env python3
-"""Puts what docs/TRACE.md and docs/WRONG-BODIES.md say by hand into the sources, as the tags of which
-tests/pages.py makes these pages: tests/tags.py [--look]
+"""Puts the rules of docs/TRACE.md and the bodies of docs/WRONG-BODIES.md into the sources, as the
+tags of which tests/pages.py makes these pages: tests/tags.py [--look]
 
 A rule of TRACE.md becomes a comment of specs/ above its first definition, and a line `rule` of each
 edit that it names. A body of WRONG-BODIES.md becomes a line `body` of its edits, and a line `test`.
 The list of bodies leaves WRONG-BODIES.md; those without an edit stay. Tags that are there are
 replaced, so it can be run again. With --look nothing is written. Run `tests/pages.py --write` after
-it. The last line is 'N passed, M failed': the rules and bodies that found their place, and the rest.
+it. The last line is 'N passed, M failed': the rules and bodies that found their place, and the
+others.
 """
 import collections
 import os
@@ -16,6 +17,7 @@ import sys
 import pages
 
 HEADS = r"(?:(?:pub|unfoldable|abbrev|record|data|opaque) )+"
+BODY = re.compile(r"- \*\*(.*?)\*\* Edit: (.*?)(?:\. | )(?:(\(.*?\))\. )?Test: (.*)")
 LISTED = ("## What a careless reader or writer would do", "## Further edits")
 
 
@@ -49,7 +51,7 @@ def bodies_of_page(text):
     for section, line in bullets(text):
         if f"## {section}" not in LISTED:
             continue
-        if found := re.match(r"- \*\*(.*?)\*\* Edit: (.*?)(?:\. | )(?:(\(.*?\))\. )?Test: (.*)", line):
+        if found := BODY.match(line):
             says, edits, more, test = found.groups()
             says += f" {more[1].upper()}{more[2:-1]}." if more else ""
             yield says, quoted(edits), test
@@ -58,8 +60,8 @@ def bodies_of_page(text):
 
 
 def place_of(definition):
-    """The file of a definition, the line above which a tag of it goes, and how far that is indented;
-    None if it is not there."""
+    """The file of a definition, the line above which a tag of it goes, and its indentation; None if
+    it is not there."""
     crate, name, word = definition.split(".")
     path = f"crates/{crate}/specs/{name}.antt"
     if not os.path.isfile(path):
@@ -105,7 +107,7 @@ def put_tags(rules, is_written):
 
 
 def put_lines(rules, bodies, is_written):
-    """Puts the lines `rule`, `body` and `test` into the edits. Returns the edits that are not there."""
+    """Puts the lines `rule`, `body` and `test` into the edits. Returns the edits that do not exist."""
     lines, lost = collections.defaultdict(list), []
     for _, words, lists in rules:
         for edit in lists.get("Edit", []):

@@ -3,10 +3,10 @@
 edit, and whether two files of specs/ define one name: tests/trace.py. The last line is 'N passed, M
 failed'.
 
-Names between backquotes in docs/TRACE.md, PROOFS.md, TESTED.md, WRONG-BODIES.md and GLOSSARY.md have
-three forms: `crate.File.name` is a definition in crates/crate/specs/File.antt, `crate::module::name` an
-item of crates/crate/src/module.rt, and `crate/name` an edit, crates/crate/must-fail/name.edit, or a
-module, crates/crate/src/name.rt.
+Names between backquotes in docs/TRACE.md, PROOFS.md, TESTED.md, WRONG-BODIES.md and GLOSSARY.md
+have three forms: `crate.File.name` is a definition in crates/crate/specs/File.antt,
+`crate::module::name` an item of crates/crate/src/module.rt, and `crate/name` an edit,
+crates/crate/must-fail/name.edit, or a module, crates/crate/src/name.rt.
 
 In docs/PROOFS.md the names in brackets after a call, as `jlog::session::apply` (`halted`), are its
 clauses, and a bare name after a call or a law, as `makes_once`, is an item of the same module.
@@ -33,6 +33,7 @@ CITED = re.compile(
     rf"`({WORD})::({WORD})::({WORD})`((?:(?:,| and) `{WORD}`)*)"
     rf"(?: \(((?:`{WORD}`(?:, )?)+)\))?"
 )
+
 
 def text_of(*path):
     try:
@@ -82,7 +83,7 @@ def clauses_of(text):
 
 
 def proofs_faults():
-    """Checks the bare names and the clauses in PROOFS.md. Returns how many are right, and faults."""
+    """Checks the bare names and clauses in PROOFS.md. Returns how many are right, and faults."""
     right, faults = 0, []
     for found in CITED.finditer(" ".join(text_of("docs", "PROOFS.md").split())):
         crate, module, name, more, labels = found.groups()

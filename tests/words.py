@@ -5,8 +5,8 @@ more than 40 words: tests/words.py [--list]
 It reads README.md, CONTRIBUTING.md, CHANGELOG.md, the pages of docs/ with the manual pages,
 bench/README.md and tests/README.md. Code, output, names in backquotes and the pages that a script
 generates do not count. For all pages together there may be a tenth of a pattern's count of
-2026-11-28, and no long sentence. If mandoc is there, it looks at the manual pages too. --list prints
-each place. The last line is 'N passed, M failed'.
+2026-11-28, and no long sentence; two pages have a greatest length. If mandoc is there, it looks at
+the manual pages too. --list prints each place. The last line is 'N passed, M failed'.
 """
 import glob
 import os
@@ -31,10 +31,13 @@ PATTERNS = {
     "Of X": (r"(?:^|[.:;] )Of [\w\"'(]", 9),
     "long sentences": (None, 0),
 }
-# what stands for a piece of code in prose: one word
+# pages that are to be read at once: how many lines they may have
+LENGTHS = {"README.md": 150, "docs/PROOFS.md": 250}
+# one word in prose for a piece of code
 NAME = "NAME"
 # macros of mdoc whose words are names, and those that begin a paragraph
 NAMES = {"Ar", "Cm", "Fl", "Li", "Nm", "Ql", "Pa", "Xr", "Sx", "Sq", "Em", "Pq", "Op"}
+SKIPPED = {"Dl", "D1", "Dd", "Dt", "Os", "Rs", "Re", "Bl"}
 BREAKS = {"Pp", "Sh", "Ss", "It", "Bl", "El", "Bd", "Ed", "Dl", "D1", "Rs", "Re", "Nd"}
 
 
@@ -106,7 +109,7 @@ def manual_paragraphs(text):
             yield number, " ".join(lines)
             lines = []
         in_block = macro == "Bd" or (in_block and macro != "Ed")
-        if in_block or macro in ("Dl", "D1", "Dd", "Dt", "Os", "Rs", "Re", "Bl") or not line.strip():
+        if in_block or macro in SKIPPED or not line.strip():
             continue
         if macro.startswith(("\\", "%")):
             continue
@@ -157,16 +160,26 @@ def places():
 def manual_faults():
     """What mandoc has against each manual page, except pages that this machine does not have."""
     for path in sorted(glob.glob("docs/*.[157]")):
-        done = subprocess.run(["mandoc", "-Tlint", path], capture_output=True, text=True, check=False)
-        lines = [line for line in done.stdout.split("\n") if line and "manual not found" not in line]
-        yield path, lines
+        words = ["mandoc", "-Tlint", path]
+        done = subprocess.run(words, capture_output=True, text=True, check=False)
+        lines = [line for line in done.stdout.split("\n") if "manual not found" not in line]
+        yield path, [line for line in lines if line]
+
+
+def length_faults():
+    """Each page with a greatest length: its name, and a fault if it is longer."""
+    for path, most in LENGTHS.items():
+        with open(path, encoding="utf-8") as file:
+            count = len(file.readlines())
+        yield path, [f"{path} has {count} lines, and {most} are allowed"] if count > most else []
 
 
 def main():
     os.chdir(ROOT)
     found, words = places()
     passed = failed = 0
-    for path, lines in manual_faults() if shutil.which("mandoc") else ():
+    looked = list(length_faults()) + list(manual_faults() if shutil.which("mandoc") else ())
+    for _, lines in looked:
         print("".join(f"FAILED: {line}\n" for line in lines), end="")
         passed += not lines
         failed += bool(lines)
