@@ -58,6 +58,8 @@ tests/completions.py
 tests/kit.sh
 tests/trace.py
 tests/form.py
+tests/words.py
+tests/pages.py
 SUITES
 wait $proofs
 count "$logs/proofs" $?

@@ -1,11 +1,12 @@
 #!/usr/bin/env python3
 """Runs the commands of the documents as they stand: tests/commands.py [--try | --real] [PROGRAM]
 
-Of README.md and CONTRIBUTING.md these are the blocks that begin with ```sh, each begun at the top
-of the repository. A block ```text after one is what it prints, where a line `...` stands for any
-lines. Of the manual pages they are the literal blocks of QUICK START and EXAMPLES, in order, each
-section in a folder with a folder `tree`; 'It prints' tells the last line. Each block must end with
-status 0.
+In README.md, docs/GUIDE.md, docs/FAQ.md and CONTRIBUTING.md these are the blocks that begin with
+```sh, each begun at the top of the repository, one page after the other. The section 'Get it' of
+README.md is run first, as the others need the program. A block ```text after one is its output, in
+which a line `...` is any number of lines. Of the manual pages they are the literal blocks of QUICK
+START and EXAMPLES and those after a line that begins with 'Example:', in order, each page in a
+folder with a folder `tree`; 'It prints' has the last line. Each block must end with status 0.
 
 The commands get a copy of the repository, the program, and a home of their own. Proving takes an
 hour, and the gate does it by itself. So `rt` and the scripts of tests/ are stand-ins, which look
@@ -15,6 +16,7 @@ the gate, each `rt try` is the toolchain's own. With --real nothing is a stand-i
 which is the gate; the documents build the program, so PROGRAM is not taken. The last line is 'N
 passed, M failed'.
 """
+import glob
 import os
 import re
 import shutil
@@ -25,11 +27,16 @@ import tempfile
 ROOT = os.path.dirname(os.path.dirname(os.path.abspath(__file__)))
 PROGRAM = os.path.join(ROOT, "crates", "jffs2_image", "out", "jffs2_image")
 # What the repository has; beside it there may be what somebody made by the commands of README.md.
+PAGES = ("README.md", "docs/GUIDE.md", "docs/FAQ.md", "CONTRIBUTING.md")
+# the section that a reader of a page needs before all others
+FIRST = "Get it"
 PARTS = ("bench", "completions", "crates", "docs", "tests", "CHANGELOG.md",
-         "CONTRIBUTING.md", "HANDLES", "README.md", "crates.txt")
+         "CONTRIBUTING.md", "HANDLES", "README.md", "RELEASING.md", "ROADMAP.md", "SECURITY.md",
+         "crates.txt")
 BLOCK = re.compile(r"^```(\w*)\n(.*?)^```$", re.M | re.S)
-LITERAL = re.compile(r"^\.Bd -literal.*?\n(.*?)^\.Ed$"
-                     r"(?:\n\.Pp\nIt prints\n\.Ql (.*?) \.$)?", re.M | re.S)
+LITERAL = re.compile(r"(?:^(?P<before>[^.\n][^\n]*)\n(?:\.Pp\n)?)?"
+                     r"^\.Bd -literal[^\n]*\n(?P<block>.*?)^\.Ed$"
+                     r"(?:\n\.Pp\nIt prints\n\.Ql (?P<told>[^\n]*) \.$)?", re.M | re.S)
 
 # What stands for rt: it knows the words of its own help, and the crates.
 RT = r"""#!/usr/bin/env python3
@@ -114,20 +121,22 @@ class Place:
 
 def blocks_of_page(text):
     """Each block of commands of a page in Markdown, with what it prints, or None."""
-    blocks = BLOCK.findall(text)
+    sections = re.split(r"^## ", text, flags=re.M)
+    sections.sort(key=lambda section: not section.startswith(FIRST))
+    blocks = BLOCK.findall("\n".join(sections))
     for (kind, commands), (next_kind, printed) in zip(blocks, blocks[1:] + [("", "")]):
         if kind == "sh":
             yield commands, printed if next_kind == "text" else None
 
 
-def sections_of_manual(text):
-    """The sections with commands of a manual page: the name of each, and its blocks, each with the
-    last line that it prints, or None."""
+def blocks_of_manual(text):
+    """Each block of commands of a manual page, with the last line that it prints, or None."""
     for section in re.split(r"^\.Sh ", text, flags=re.M):
-        name = section.partition("\n")[0]
-        if name in ("EXAMPLES", "QUICK START"):
-            yield name, [(re.sub(r"\\e", r"\\", commands), f"...\n{told}\n" if told else None)
-                         for commands, told in LITERAL.findall(section)]
+        is_example = section.partition("\n")[0] in ("EXAMPLES", "QUICK START")
+        for found in LITERAL.finditer(section):
+            if is_example or (found["before"] or "").startswith("Example:"):
+                told = f"...\n{found['told']}\n" if found["told"] else None
+                yield re.sub(r"\\e", r"\\", found["block"]), told
 
 
 def is_as_told(printed, told):
@@ -169,12 +178,15 @@ def main():
     with tempfile.TemporaryDirectory() as folder:
         place = Place(folder, program, mode)
         runs = [(name, place.top, list(blocks_of_page(text_of(name))))
-                for name in ("README.md", "CONTRIBUTING.md")]
-        for page in ("jffs2_image.1", "jffs2_image.5"):
-            for section, blocks in sections_of_manual(text_of("docs", page)):
-                where = os.path.join(folder, f"{page} {section}")
-                os.makedirs(os.path.join(where, "tree", "etc"))
-                runs.append((f"{page}, {section}", where, blocks))
+                for name in PAGES]
+        for path in sorted(glob.glob(os.path.join(ROOT, "docs", "*.[157]"))):
+            page = os.path.basename(path)
+            where = os.path.join(folder, page)
+            os.makedirs(os.path.join(where, "tree", "etc"))
+            name = os.path.join(where, "tree", "etc", "hostname")
+            with open(name, "w", encoding="ascii") as file:
+                file.write("box\n")
+            runs.append((page, where, list(blocks_of_manual(text_of("docs", page)))))
         for name, where, blocks in runs:
             good, bad = run_blocks(place, where, name, blocks)
             passed += good

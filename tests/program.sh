@@ -6,6 +6,7 @@ set -u
 samples=$top/crates/jffs2_image/data
 manual=$top/docs/jffs2_image.1
 formats=$top/docs/jffs2_image.5
+pages=("$top"/docs/jffs2_image*.[157])
 sources=$top/crates
 : > empty
 erased 4096 > block
@@ -39,10 +40,10 @@ hello_flash() {
 
 # told WORD PATTERN: a manual page has a line of this pattern.
 told() {
-    grep -qE -- "$2" "$manual" "$formats"
+    grep -qE -- "$2" "${pages[@]}"
     local missing=$?
     count $missing
-    [[ $missing == 0 ]] || echo "FAILED: the manual page tells of $1"
+    [[ $missing == 0 ]] || echo "FAILED: the manual pages describe $1"
 }
 
 help="*Usage: *Exit status:*0  done*1  a fault*2  the command line*3  check found*"
@@ -982,7 +983,7 @@ sed -n "/^# a user's folder/,/^\.Ed/p" "$formats" | sed '/^\.Ed/d; s/\\e/\\/g' >
 run build --blocks 1 example built; want 0 "accepted 5 nodes 7 bytes 440" ""
 run cat built '/home/start\x20here'; whole content
 lines listing 'mkdir 0755 /etc' 'create 0644 /etc/hostname' 'write /etc/hostname 0 626f780a'
-run build --blocks 64 listing built; want 0 "$(sed -n 's/^\.Ql \(accepted [0-9].*\) \.$/\1/p' "$manual")" ""
+run build --blocks 64 listing built; want 0 "$(sed -n 's/^\.Ql \(accepted [0-9].*\) \.$/\1/p' "${pages[@]}")" ""
 mkdir -p folder/a/b
 printf 'hello flash' > folder/a/file
 ln -s a/file folder/link

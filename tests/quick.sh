@@ -1,6 +1,6 @@
 #!/usr/bin/env bash
 # Runs the commands that a user types, and compares what they print and write with what the
-# documents tell: worked examples here, and by tests/commands.py the commands of README.md,
+# documents say: worked examples here, and by tests/commands.py the commands of README.md, GUIDE.md,
 # CONTRIBUTING.md and the manual pages as they stand. On a built program it takes seconds.
 # Usage: tests/quick.sh [PROGRAM], or tests/quick.sh --try to have `rt try` build one first, without
 # a proof (about a minute). The last line is 'N passed, M failed'.

@@ -3,14 +3,13 @@
 edit, and whether two files of specs/ define one name: tests/trace.py. The last line is 'N passed, M
 failed'.
 
-Names between backquotes in docs/TRACE.md, PROOFS.md, WRONG-BODIES.md and GLOSSARY.md have three
-forms: `crate.File.name` is a definition in crates/crate/specs/File.antt, `crate::module::name` an
-item of crates/crate/src/module.rt, and `crate/name` an edit, crates/crate/must-fail/name.edit, or a
-module, crates/crate/src/name.rt.
+Names between backquotes in docs/TRACE.md, PROOFS.md, TESTED.md, WRONG-BODIES.md and GLOSSARY.md
+have three forms: `crate.File.name` is a definition in crates/crate/specs/File.antt,
+`crate::module::name` an item of crates/crate/src/module.rt, and `crate/name` an edit,
+crates/crate/must-fail/name.edit, or a module, crates/crate/src/name.rt.
 
-docs/PROOFS.md has a section for each crate. In it a heading names functions, types or traits of
-this crate. A point begins with the names of clauses of these functions, or with functions of the
-crate, as the laws.
+In docs/PROOFS.md the names in brackets after a call, as `jlog::session::apply` (`halted`), are its
+clauses, and a bare name after a call or a law, as `makes_once`, is an item of the same module.
 
 The first words of the lines of a listing, each of which crates/jlisting/src/forms.rt reads by a
 function, stand in the manual page of section 5, in the help and in docs/FORMAT.md.
@@ -23,14 +22,17 @@ import sys
 
 ROOT = os.path.dirname(os.path.dirname(os.path.abspath(__file__)))
 CRATES = os.path.join(ROOT, "crates")
-DOCUMENTS = ("TRACE.md", "PROOFS.md", "WRONG-BODIES.md", "GLOSSARY.md")
+DOCUMENTS = ("TRACE.md", "PROOFS.md", "TESTED.md", "WRONG-BODIES.md", "GLOSSARY.md")
 WORD = r"[A-Za-z_][A-Za-z0-9_]*"
 DEFINITION = re.compile(rf"({WORD})\.({WORD})\.({WORD})")
 ITEM = re.compile(rf"({WORD})::((?:{WORD}::)+)({WORD})")
 EDIT = re.compile(rf"({WORD})/({WORD})")
 QUOTED = re.compile(r"`([^`]+)`")
-# The names at the front of a point, up to the colon or to 'on Ok', 'at S1', 'field `x`'.
-LABELS = re.compile(r"- ((?:`[\w:]+`(?:,\s+)?)+)(?::|, (?:on|at|field) )")
+# A call or a law with its module, the bare names after it, and the clauses in brackets.
+CITED = re.compile(
+    rf"`({WORD})::({WORD})::({WORD})`((?:(?:,| and) `{WORD}`)*)"
+    rf"(?: \(((?:`{WORD}`(?:, )?)+)\))?"
+)
 
 
 def text_of(*path):
@@ -80,53 +82,19 @@ def clauses_of(text):
     return clauses
 
 
-def methods_of(text, name):
-    """The clauses of the functions in the blocks `impl .. name` and `trait name`."""
-    clauses = set()
-    for head in re.finditer(rf"^(?:pub )?(?:impl\b[^\n{{]*\b{name}\b|trait {name}\b)", text, re.M):
-        end = text.find("\n}\n", head.end())
-        clauses |= set(re.findall(r"\bensures\*? (\w+) \{", text[head.end():end]))
-        clauses |= set(re.findall(rf"\bfn ({WORD})", text[head.end():end]))
-    return clauses
-
-
-class Crate:
-    """What the sources of a crate define."""
-
-    def __init__(self, name):
-        paths = glob.glob(os.path.join(CRATES, name, "src", "**", "*.rt"), recursive=True)
-        self.texts = [text_of(path) for path in paths]
-        self.items = set().union(*map(items_of, self.texts))
-
-    def labels(self, heads):
-        """The names that points below these headings may begin with."""
-        labels = set(self.items)
-        for text in self.texts:
-            clauses = clauses_of(text)
-            for head in heads:
-                labels |= clauses.get(head, set()) | methods_of(text, head)
-        return labels
-
-
 def proofs_faults():
-    """Checks the headings and points of PROOFS.md. Returns how many names are right, and faults."""
-    right, faults, crate, labels = 0, [], None, set()
-    text = re.sub(r"\n +(?!- )", " ", text_of("docs", "PROOFS.md"))
-    for line in text.split("\n"):
-        if line.startswith("## "):
-            name = line.removeprefix("## ")
-            crate = Crate(name) if os.path.isdir(os.path.join(CRATES, name)) else None
-        elif line.startswith("### ") and crate:
-            heads = [name.split("::")[-1] for name in QUOTED.findall(line)]
-            labels = crate.labels(heads)
-            missing = [name for name in heads if name not in crate.items]
-            faults += [f"PROOFS.md: no source of the crate has `{name}`" for name in missing]
-            right += len(heads) - len(missing)
-        elif (found := LABELS.match(line.strip())) and crate:
-            names = [name.split("::")[-1] for name in QUOTED.findall(found[1])]
-            missing = [name for name in names if name not in labels]
-            faults += [f"PROOFS.md: `{name}` is no clause there: {line[:60]}" for name in missing]
-            right += len(names) - len(missing)
+    """Checks the bare names and clauses in PROOFS.md. Returns how many are right, and faults."""
+    right, faults = 0, []
+    for found in CITED.finditer(" ".join(text_of("docs", "PROOFS.md").split())):
+        crate, module, name, more, labels = found.groups()
+        text = text_of("crates", crate, "src", f"{module}.rt")
+        names = [name, *QUOTED.findall(more)]
+        missing = [it for it in names if it not in items_of(text)]
+        faults += [f"PROOFS.md: {crate}::{module} has no `{it}`" for it in missing]
+        clauses = set().union(*(clauses_of(text).get(it, set()) for it in names))
+        absent = [it for it in QUOTED.findall(labels or "") if it not in clauses]
+        faults += [f"PROOFS.md: `{it}` is no clause of {crate}::{module}::{name}" for it in absent]
+        right += len(names) - len(missing) + len(QUOTED.findall(labels or "")) - len(absent)
     return right, faults
 
 
