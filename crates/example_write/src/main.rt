@@ -1,5 +1,6 @@
 //! Writes files into an image in memory, cuts it as a power failure would, and mounts what is left.
-//! Then the same with an image whose data are compressed, which is mounted as it is.
+//! Then the same with an image whose data are compressed as they are written, which is mounted as it
+//! is.
 //!
 //! For each length it prints the names of the file system that is left, and the sizes of their
 //! files. The end of an image that is missing counts as erased flash.
@@ -7,12 +8,19 @@
 
 use anyhow::{Context, Result};
 use jffs2::{
-    FromWriter, Geometry, HostFiles, LittleEndian, Mounted, Session, compress, listing, mount,
-    mount_through, operations,
+    Flash, FromWriter, Geometry, HostFiles, LittleEndian, Mounted, PackingSession, Page, Session,
+    listing, mount, mount_through, operations,
 };
 use std::alloc::Global;
 
 const GEOMETRY: Geometry = Geometry { block: 8192 };
+
+/// One such block.
+const FLASH: Flash = Flash {
+    geometry: GEOMETRY,
+    blocks: 1,
+    page: Page::P4096,
+};
 
 /// Two files, each an empty one that is written then.
 const LISTING: &[u8] =
@@ -35,13 +43,21 @@ fn build(alloc: Global, text: &[u8]) -> Result<Vec<u8>> {
     Ok(session.finish().into_writer())
 }
 
-/// The bytes of an image of the same nodes, whose data are compressed.
-fn packed(alloc: Global, image: &[u8]) -> Result<Vec<u8>> {
+/// The same, with data compressed where that is shorter.
+fn build_packed(alloc: Global, text: &[u8]) -> Result<Vec<u8>> {
+    let parts = HostFiles::new(alloc);
+    let ops = operations::<LittleEndian>(alloc, listing(alloc, text)?, &parts)?;
+    let mut contents = Vec::new(alloc);
+    let empty = mount_through::<LittleEndian>(alloc, &[], GEOMETRY, &mut contents)?;
     let sink = FromWriter::new(Vec::new(alloc));
-    match compress::<LittleEndian, _>(alloc, image, GEOMETRY, sink) {
-        Ok((sink, _)) => Ok(sink.into_writer()),
-        Err((fault, _)) => Err(fault.into()),
+    let mut session = match PackingSession::<LittleEndian, _>::resume(alloc, &empty, FLASH, sink) {
+        Ok(session) => session,
+        Err((fault, _)) => return Err(fault.into()),
+    };
+    for op in &ops {
+        session.apply(alloc, op)?;
     }
+    Ok(session.finish().into_writer())
 }
 
 /// Prints the names of an image, each with the size of its file.
@@ -83,7 +99,7 @@ fn main(rt: HostRuntime) -> Result<()> {
     // The same file as it is, and compressed; then a cut inside its compressed bytes.
     let plain = build(rt.alloc(), EVEN)?;
     print_cut(&rt, rt.alloc(), &plain, plain.len())?;
-    let even = packed(rt.alloc(), &plain)?;
+    let even = build_packed(rt.alloc(), EVEN)?;
     for length in [even.len(), even.len().saturating_sub(5)] {
         print_packed(&rt, rt.alloc(), &even, length)?;
     }
