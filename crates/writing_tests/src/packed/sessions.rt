@@ -1,6 +1,7 @@
 //! Operations run packed onto an image. What may fail while a mounted image or a session lives is a
 //! call of its own: each `?` proves anew that all that lives is dropped.
 
+ghost use Rattle.std.specs.Prelude.{◌≡◌};
 ghost use Rattle.jrow.specs.Row.{blank_blocks};
 ghost use Rattle.jpacked.specs.View.{base_of_mount};
 ghost use Rattle.jview.specs.Through.{IsMountThroughOf};
