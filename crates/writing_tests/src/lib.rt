@@ -11,6 +11,8 @@ mod convert;
 #[cfg(test)]
 mod log;
 #[cfg(test)]
+mod row;
+#[cfg(test)]
 mod steps;
 #[cfg(test)]
 mod through;
