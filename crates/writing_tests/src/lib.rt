@@ -12,6 +12,7 @@ mod convert;
 mod log;
 #[cfg(test)]
 mod packed;
+mod row;
 #[cfg(test)]
 mod steps;
 #[cfg(test)]
