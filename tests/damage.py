@@ -5,8 +5,9 @@ Usage: tests/damage.py [PROGRAM]. Three images, in both orders. Of each byte tha
 the paths at which `diff` of the two images has a line, or nothing where it has none; a damaged name is told by its fields, as the
 report of the sound image has them; any other damaged node is unknown; what is no part of a node, or was its header, is not told.
 The names without objects are as many as `check` has. Then images with many damaged nodes of few files, with many names of one, and
-with directories that lie in one another: what is told is what a model has that tries each place of each node. The last line is
-'N passed, M failed'.
+with directories that lie in one another: what is told is what a model has that tries each place of each node. Then images in which
+directories have several names, at random: each path that `ls` lists is told, and a model that walks as it does has the same. The
+last line is 'N passed, M failed'.
 """
 import random
 import re
@@ -256,5 +257,61 @@ def ring_images():
         rings(length, "big")
 
 
+def entered_paths(entries, folders):
+    """The path by which a walk enters each directory: name by name in byte order, what lies in one before what lies beside it."""
+    paths, left = {1: ""}, [(1, entry) for entry in sorted(entries.get(1, {}).items(), reverse=True)]
+    while left:
+        parent, (name, ino) = left.pop()
+        if ino in folders and ino not in paths:
+            paths[ino] = f"{paths[parent]}/{name.decode()}"
+            left += [(ino, entry) for entry in sorted(entries.get(ino, {}).items(), reverse=True)]
+    return paths
+
+
+def tangled(seed, order):
+    """Directories with names anywhere, some of which lie in what is no directory or are damaged; damaged nodes of what lies in them."""
+    chance, make = random.Random(seed), images.Maker("<" if order == "little" else ">")
+    count = chance.randrange(2, 9)
+    folders = {ino for ino in range(2, 2 + count) if chance.random() < 0.8}
+    nodes = [make.inode(ino, 1, b"", 0, mode=0o40755 if ino in folders else 0o100644) for ino in range(2, 2 + count)]
+    entries, wanted, versions = {}, {}, 0
+    for ino in [*range(1, 2 + count), *range(100, 103)] + [chance.randrange(2, 2 + count) for _ in range(count)]:
+        for _ in range(chance.choice((0, 0, 1)) if ino == 1 else chance.choice((0, 1, 1, 2))):
+            parent, name, versions = chance.choice((1, *range(2, 3 + count))), b"%c" % chance.randrange(97, 107), versions + 1
+            node = make.entry(parent, versions, ino, name)
+            if chance.random() < 0.15:
+                wanted[len(nodes)] = f"name-crc pino {parent} version {versions} ino {ino} lost"
+                node = node[:40] + bytes((node[40] ^ 1,)) + node[41:]
+            else:
+                entries.setdefault(parent, {})[name] = ino
+            nodes.append(node)
+    paths = entered_paths(entries, folders)
+    for ino in (1, *sorted(folders), 100, 101, 102):
+        mode = 0o100644 if ino >= 100 else 0o40755
+        nodes += [make.inode(ino, 2, b"x", 1, mode=mode), damaged_at(make.inode(ino, 3, b"y", 1, mode=mode))]
+        start = f"data-crc ino {ino} version 3 bytes 0 to 1"
+        found = ["/"] if ino == 1 else []
+        found += [f"{paths[p]}/{n.decode()}" for p in sorted(entries) if p in paths for n, i in sorted(entries[p].items()) if i == ino]
+        wanted[len(nodes) - 1] = [f"{start} hides {path}" for path in found] or [f"{start} has no path"]
+    told, places = told_of("tangled.img", order, nodes)
+    lines = []
+    for index, line in sorted(wanted.items()):
+        if isinstance(line, str):
+            parent = int(line.split()[2])
+            line = [line + (f" in {paths[parent] or '/'}" if parent in paths else "")]
+        lines += [f"{places[index]:08x} {end}" for end in line]
+    listed = run("ls", "--block", "65536", "--endian", order, "tangled.img").stdout.decode().splitlines()
+    rows = [line.removesuffix(" (again)").split(" ") for line in listed]
+    seen = sorted((row[6], row[7]) for row in rows if int(row[6]) in (1, *folders, 100, 101, 102))
+    shown = sorted((line.split()[3], line.split(" hides ")[1]) for line in told if " hides /" in line)
+    verdict(f"tangled image {seed}, {order}: {told}", told[:-1] == lines and told[-1:] == [total_of(told)])
+    verdict(f"tangled image {seed}, {order}, as ls: {listed}", shown == seen)
+
+
+def tangled_images():
+    for seed in range(200):
+        tangled(seed, ("little", "big")[seed % 2])
+
+
 if __name__ == "__main__":
-    sys.exit(run_all((little_images, big_image, crowded_images, named_images, ring_images)))
+    sys.exit(run_all((little_images, big_image, crowded_images, named_images, ring_images, tangled_images)))

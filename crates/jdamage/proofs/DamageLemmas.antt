@@ -1,5 +1,5 @@
 -- What is told of damaged nodes, one by one.
-use Rattle.std.proofs.Common.{◌≡◌, ℕ, zero, suc, ◌+◌, ◌-◌, ◌^◌, ◌<◌, ◌≤◌, Bool, true, List, [], ◌∷◌, ◌++◌, length, length-append, append_assoc, take, get_or, refl, sym, ap, ◌∙◌, arith, nat_lt, false, subst, Option, Some, None}
+use Rattle.std.proofs.Common.{◌≡◌, ℕ, zero, suc, ◌+◌, ◌-◌, ◌^◌, ◌<◌, Bool, true, List, [], ◌∷◌, ◌++◌, length, length-append, append_assoc, take, get_or, refl, sym, ap, ◌∙◌, arith, nat_lt, false, subst, Option, Some, None}
 use Rattle.std.specs.Io.KnownBytes.{Appends}
 use Rattle.std.specs.Prelude.{filter, filter_map, flat_map, map, min, sum_by, is_some, Err, IfOk, IsErr, Ok, Result, ◌==◌, ◌&&◌, cond, option_and_then}
 use Rattle.std.specs.BTreeSet.{BTreeSet, contains}
@@ -15,7 +15,6 @@ use Rattle.std.proofs.lemmas.List.Concat.{flat_map-cons}
 use Rattle.std.proofs.lemmas.List.Elements.{All-head, All-tail}
 use Rattle.std.proofs.lemmas.List.Sums.{sum_by-append}
 use Rattle.flashbase.specs.Device.{Puts, PutsPart, next_count}
-use Rattle.flashbase.proofs.DeviceLemmas.{part_before}
 use Rattle.jnode.specs.declared.order.Endian.{Endian}
 use Rattle.jnode.specs.declared.node.Damage.{Damage}
 use Rattle.jnode.specs.declared.node.Damage.TheVariants.{NodeCrc, NameCrc, DataCrc, Length, Range}
@@ -27,7 +26,8 @@ use Rattle.jdamage.specs.Fields.{damaged_nodes, stretch_at, stretches}
 use Rattle.jdamage.specs.Lines.{hides_line, totals_shown}
 use Rattle.jdamage.specs.Telling.{HasListedNumber, HaveNumbers, is_kept, lost_paths, lost_text, missing_texts, named_text, own_paths, own_text, own_totals, own_whole, path_text_if}
 use Rattle.jdamage.specs.Hidden.{AreHidden, IsHidden}
-use Rattle.jdamage.specs.Ways.{HeldName, NameOf, climbed, first_name, is_led, name_held, names_led, path_if, path_to_name, paths_to, root_paths, steps_at_most}
+use Rattle.jdamage.specs.Entered.{entry_name}
+use Rattle.jdamage.specs.Ways.{HeldName, NameOf, climbed, is_led, name_held, names_led, path_if, path_to_name, paths_to, root_paths, steps_at_most}
 use Rattle.flashbase.specs.declared.source.DeviceFault.{DeviceFault}
 use Rattle.jdamage.specs.declared.fault.DamageFault.{DamageFault}
 use Rattle.jdamage.specs.declared.fields.Stretch.{Stretch}
@@ -71,14 +71,14 @@ each_more {X} P xs i e less before here k d below = by (nat_lt k i) refl
 -- ---- the paths of an object
 
 -- whether a way leads on does not hang on the names that come after it
-same_way : (s : State) (steps dir : ℕ) (xs ys : List (List ℕ)) → is_some (climbed s steps dir xs) ≡ is_some (climbed s steps dir ys)
+same_way : (s : State) (up : ℕ → Option NameOf) (steps dir : ℕ) (xs ys : List (List ℕ)) → is_some (climbed s up steps dir xs) ≡ is_some (climbed s up steps dir ys)
 unfolding climbed
-same_way s zero dir xs ys = refl
-same_way s (suc steps) dir xs ys = by (is_directory s dir) (dir == 1) (first_name s dir) (λ x. same_way s steps x.0 (x.1 ∷ xs) (x.1 ∷ ys))
+same_way s up zero dir xs ys = refl
+same_way s up (suc steps) dir xs ys = by (is_directory s dir) (dir == 1) (up dir) (λ x. same_way s up steps x.0 (x.1 ∷ xs) (x.1 ∷ ys))
   where
-    by : (d r : Bool) (o : Option NameOf) → ((x : NameOf) → is_some (climbed s steps x.0 (x.1 ∷ xs)) ≡ is_some (climbed s steps x.0 (x.1 ∷ ys)))
-        → is_some (cond d (cond r (Some xs) (option_and_then (λ (x : NameOf). climbed s steps x.0 (x.1 ∷ xs)) o)) None)
-        ≡ is_some (cond d (cond r (Some ys) (option_and_then (λ (x : NameOf). climbed s steps x.0 (x.1 ∷ ys)) o)) None)
+    by : (d r : Bool) (o : Option NameOf) → ((x : NameOf) → is_some (climbed s up steps x.0 (x.1 ∷ xs)) ≡ is_some (climbed s up steps x.0 (x.1 ∷ ys)))
+        → is_some (cond d (cond r (Some xs) (option_and_then (λ (x : NameOf). climbed s up steps x.0 (x.1 ∷ xs)) o)) None)
+        ≡ is_some (cond d (cond r (Some ys) (option_and_then (λ (x : NameOf). climbed s up steps x.0 (x.1 ∷ ys)) o)) None)
     by false r o above = refl
     by true true o above = refl
     by true false None above = refl
@@ -86,7 +86,7 @@ same_way s (suc steps) dir xs ys = by (is_directory s dir) (dir == 1) (first_nam
 
 module _ (s : State) (i : ℕ) where
   is_led_by : (n : NameOf) → is_led s i n ≡ ((n.2 == i) && is_some (path_to_name s n))
-  is_led_by n = ap (λ (b : Bool). (n.2 == i) && b) (same_way s (steps_at_most s) n.0 [] (n.1 ∷ []))
+  is_led_by n = ap (λ (b : Bool). (n.2 == i) && b) (same_way s (entry_name s) (steps_at_most s) n.0 [] (n.1 ∷ []))
 
   -- the paths of the first names that are led to are the first paths
   led_first : (xs : List NameOf) (k : ℕ) → filter_map (path_to_name s) (take k (filter (is_led s i) xs)) ≡ take k (filter_map (path_if s i) xs)

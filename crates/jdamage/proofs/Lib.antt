@@ -1,5 +1,6 @@
 pub mod CoverageLemmas
 pub mod DamageLemmas
+pub mod EnteredLemmas
 pub mod GroupLemmas
 pub mod LawLemmas
 pub mod NodeLemmas
@@ -12,5 +13,6 @@ pub mod WithoutLemmas
 pub mod StateWithoutLemmas
 pub mod ImageWithoutLemmas
 pub mod WouldChangeLemmas
+pub mod PathLemmas
 pub mod RoomLemmas
 pub mod RangeLemmas

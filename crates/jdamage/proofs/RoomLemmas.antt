@@ -10,20 +10,21 @@ use Rattle.jnode.specs.declared.node.Damage.{Damage}
 use Rattle.jnode.specs.declared.node.Damage.TheVariants.{NodeCrc, NameCrc, DataCrc, Length, Range}
 use Rattle.jmount.specs.Mount.{Mount}
 use Rattle.jmount.specs.Tree.{State, is_directory}
+use Rattle.jdamage.specs.Entered.{entry_name}
 use Rattle.jdamage.specs.Room.{HeldPathsFit, NodePathsFit, PathsFit, names_told}
-use Rattle.jdamage.specs.Ways.{HeldName, NameOf, climbed, depth, first_name, name_held, names_led, path_below, path_length, steps_at_most}
+use Rattle.jdamage.specs.Ways.{HeldName, NameOf, climbed, depth, name_held, names_led, path_below, path_length, steps_at_most}
 
 -- names that are put in front go on with the path
-longer : (s : State) (steps dir : ℕ) (names more : List (List ℕ)) (n : ℕ) → length more ≡ length names + n
-    → path_length (climbed s steps dir more) ≤ path_length (climbed s steps dir names) + n
+longer : (s : State) (up : ℕ → Option NameOf) (steps dir : ℕ) (names more : List (List ℕ)) (n : ℕ) → length more ≡ length names + n
+    → path_length (climbed s up steps dir more) ≤ path_length (climbed s up steps dir names) + n
 unfolding climbed
-longer s zero dir names more n is = omega arith
-longer s (suc steps) dir names more n is =
-    by (is_directory s dir) (dir == 1) (first_name s dir) (λ x. longer s steps x.0 (x.1 ∷ names) (x.1 ∷ more) n (omega (arith, is)))
+longer s up zero dir names more n is = omega arith
+longer s up (suc steps) dir names more n is =
+    by (is_directory s dir) (dir == 1) (up dir) (λ x. longer s up steps x.0 (x.1 ∷ names) (x.1 ∷ more) n (omega (arith, is)))
   where
-    by : (d r : Bool) (o : Option NameOf) → ((x : NameOf) → path_length (climbed s steps x.0 (x.1 ∷ more)) ≤ path_length (climbed s steps x.0 (x.1 ∷ names)) + n)
-        → path_length (cond d (cond r (Some more) (option_and_then (λ (x : NameOf). climbed s steps x.0 (x.1 ∷ more)) o)) None)
-        ≤ path_length (cond d (cond r (Some names) (option_and_then (λ (x : NameOf). climbed s steps x.0 (x.1 ∷ names)) o)) None) + n
+    by : (d r : Bool) (o : Option NameOf) → ((x : NameOf) → path_length (climbed s up steps x.0 (x.1 ∷ more)) ≤ path_length (climbed s up steps x.0 (x.1 ∷ names)) + n)
+        → path_length (cond d (cond r (Some more) (option_and_then (λ (x : NameOf). climbed s up steps x.0 (x.1 ∷ more)) o)) None)
+        ≤ path_length (cond d (cond r (Some names) (option_and_then (λ (x : NameOf). climbed s up steps x.0 (x.1 ∷ names)) o)) None) + n
     by false r o above = omega arith
     by true true o above = omega (arith, is)
     by true false None above = omega arith
@@ -32,31 +33,31 @@ longer s (suc steps) dir names more n is =
 -- the path of a name in a directory is one name longer than that of the directory
 pub name_fits : (s : State) (dir room : ℕ) (name : List ℕ) → depth s dir < room → path_length (path_below s dir (name ∷ [])) ≤ room
 name_fits s dir room name below =
-    let more = longer s (steps_at_most s) dir [] (name ∷ []) 1 (omega arith) in
+    let more = longer s (entry_name s) (steps_at_most s) dir [] (name ∷ []) 1 (omega arith) in
     omega (arith, more, below)
 
 -- no path has fewer names than it begins with
-names_within : (s : State) (steps dir : ℕ) (names path : List (List ℕ)) → climbed s steps dir names ≡ Some path → length names ≤ length path
+names_within : (s : State) (up : ℕ → Option NameOf) (steps dir : ℕ) (names path : List (List ℕ)) → climbed s up steps dir names ≡ Some path → length names ≤ length path
 unfolding climbed
-names_within s zero dir names path is = absurd (false≢true (ap is_some is))
-names_within s (suc steps) dir names path is =
-    by (is_directory s dir) (dir == 1) (first_name s dir) (λ x. names_within s steps x.0 (x.1 ∷ names) path) is
+names_within s up zero dir names path is = absurd (false≢true (ap is_some is))
+names_within s up (suc steps) dir names path is =
+    by (is_directory s dir) (dir == 1) (up dir) (λ x. names_within s up steps x.0 (x.1 ∷ names) path) is
   where
-    by : (d r : Bool) (o : Option NameOf) → ((x : NameOf) → climbed s steps x.0 (x.1 ∷ names) ≡ Some path → length (x.1 ∷ names) ≤ length path)
-        → cond d (cond r (Some names) (option_and_then (λ (x : NameOf). climbed s steps x.0 (x.1 ∷ names)) o)) None ≡ Some path → length names ≤ length path
+    by : (d r : Bool) (o : Option NameOf) → ((x : NameOf) → climbed s up steps x.0 (x.1 ∷ names) ≡ Some path → length (x.1 ∷ names) ≤ length path)
+        → cond d (cond r (Some names) (option_and_then (λ (x : NameOf). climbed s up steps x.0 (x.1 ∷ names)) o)) None ≡ Some path → length names ≤ length path
     by false r o above found = absurd (false≢true (ap is_some found))
     by true true o above found = omega (arith, ap path_length found)
     by true false None above found = absurd (false≢true (ap is_some found))
     by true false (Some x) above found = omega (arith, above x found)
 
 -- where there is no room for one more name no way leads on
-pub no_room : (s : State) (steps dir : ℕ) (name : List ℕ) (names : List (List ℕ)) → path_length (climbed s steps dir (name ∷ names)) ≤ length names
-    → climbed s steps dir (name ∷ names) ≡ None
-no_room s steps dir name names few = by (climbed s steps dir (name ∷ names)) refl few
+pub no_room : (s : State) (up : ℕ → Option NameOf) (steps dir : ℕ) (name : List ℕ) (names : List (List ℕ)) → path_length (climbed s up steps dir (name ∷ names)) ≤ length names
+    → climbed s up steps dir (name ∷ names) ≡ None
+no_room s up steps dir name names few = by (climbed s up steps dir (name ∷ names)) refl few
   where
-    by : (o : Option (List (List ℕ))) → climbed s steps dir (name ∷ names) ≡ o → path_length o ≤ length names → o ≡ None
+    by : (o : Option (List (List ℕ))) → climbed s up steps dir (name ∷ names) ≡ o → path_length o ≤ length names → o ≡ None
     by None is most = refl
-    by (Some path) is most = absurd (omega (arith, names_within s steps dir (name ∷ names) path is, most))
+    by (Some path) is most = absurd (omega (arith, names_within s up steps dir (name ∷ names) path is, most))
 
 -- ---- names as they are held
 

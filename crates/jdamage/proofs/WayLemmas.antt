@@ -19,14 +19,14 @@ use Rattle.jdamage.specs.Ways.{AreFirsts, HeldName, NameOf, climbed, first_if, f
 use Rattle.jdamage.proofs.GroupLemmas.{no_group}
 
 -- a step, by what is met
-pub climb_step : (s : State) (left steps dir : ℕ) (names : List (List ℕ)) → left ≡ suc steps
-    → climbed s left dir names ≡ cond (is_directory s dir) (cond (dir == 1) (Some names) (option_and_then (λ n. climbed s steps n.0 (n.1 ∷ names)) (first_name s dir))) None
+pub climb_step : (s : State) (up : ℕ → Option NameOf) (left steps dir : ℕ) (names : List (List ℕ)) → left ≡ suc steps
+    → climbed s up left dir names ≡ cond (is_directory s dir) (cond (dir == 1) (Some names) (option_and_then (λ n. climbed s up steps n.0 (n.1 ∷ names)) (up dir))) None
 unfolding climbed
-climb_step s left steps dir names is = ap (λ (n : ℕ). climbed s n dir names) is
+climb_step s up left steps dir names is = ap (λ (n : ℕ). climbed s up n dir names) is
 
-pub climb_none : (s : State) (left dir : ℕ) (names : List (List ℕ)) → left ≡ 0 → climbed s left dir names ≡ None
+pub climb_none : (s : State) (up : ℕ → Option NameOf) (left dir : ℕ) (names : List (List ℕ)) → left ≡ 0 → climbed s up left dir names ≡ None
 unfolding climbed
-climb_none s left dir names is = ap (λ (n : ℕ). climbed s n dir names) is
+climb_none s up left dir names is = ap (λ (n : ℕ). climbed s up n dir names) is
 
 pub not_one : (n : ℕ) → n ≢ 1 → (n == 1) ≡ false
 not_one n other = grind (arith, nat_tests)
@@ -34,33 +34,33 @@ not_one n other = grind (arith, nat_tests)
 is_one : (n : ℕ) → n ≡ 1 → (n == 1) ≡ true
 is_one n same = ap (λ (k : ℕ). k == 1) same
 
-module _ (s : State) (left here : ℕ) (names : List (List ℕ)) (more : 0 < left) where
-  step : climbed s left here names ≡ cond (is_directory s here) (cond (here == 1) (Some names) (option_and_then (λ n. climbed s (left - 1) n.0 (n.1 ∷ names)) (first_name s here))) None
-  step = climb_step s left (left - 1) here names (omega arith)
+module _ (s : State) (up : ℕ → Option NameOf) (left here : ℕ) (names : List (List ℕ)) (more : 0 < left) where
+  step : climbed s up left here names ≡ cond (is_directory s here) (cond (here == 1) (Some names) (option_and_then (λ n. climbed s up (left - 1) n.0 (n.1 ∷ names)) (up here))) None
+  step = climb_step s up left (left - 1) here names (omega arith)
 
-  pub climb_gone : is_directory s here ≡ false → climbed s left here names ≡ None
+  pub climb_gone : is_directory s here ≡ false → climbed s up left here names ≡ None
   climb_gone gone =
-      step ∙ ap (λ (b : Bool). cond b (cond (here == 1) (Some names) (option_and_then (λ n. climbed s (left - 1) n.0 (n.1 ∷ names)) (first_name s here))) None) gone
+      step ∙ ap (λ (b : Bool). cond b (cond (here == 1) (Some names) (option_and_then (λ n. climbed s up (left - 1) n.0 (n.1 ∷ names)) (up here))) None) gone
 
-  inside : is_directory s here ≡ true → climbed s left here names ≡ cond (here == 1) (Some names) (option_and_then (λ n. climbed s (left - 1) n.0 (n.1 ∷ names)) (first_name s here))
+  inside : is_directory s here ≡ true → climbed s up left here names ≡ cond (here == 1) (Some names) (option_and_then (λ n. climbed s up (left - 1) n.0 (n.1 ∷ names)) (up here))
   inside there =
-      step ∙ ap (λ (b : Bool). cond b (cond (here == 1) (Some names) (option_and_then (λ n. climbed s (left - 1) n.0 (n.1 ∷ names)) (first_name s here))) None) there
+      step ∙ ap (λ (b : Bool). cond b (cond (here == 1) (Some names) (option_and_then (λ n. climbed s up (left - 1) n.0 (n.1 ∷ names)) (up here))) None) there
 
-  pub climb_root : is_directory s here ≡ true → here ≡ 1 → climbed s left here names ≡ Some names
+  pub climb_root : is_directory s here ≡ true → here ≡ 1 → climbed s up left here names ≡ Some names
   climb_root there root =
-      inside there ∙ ap (λ (b : Bool). cond b (Some names) (option_and_then (λ n. climbed s (left - 1) n.0 (n.1 ∷ names)) (first_name s here))) (is_one here root)
+      inside there ∙ ap (λ (b : Bool). cond b (Some names) (option_and_then (λ n. climbed s up (left - 1) n.0 (n.1 ∷ names)) (up here))) (is_one here root)
 
-  above : is_directory s here ≡ true → here ≢ 1 → climbed s left here names ≡ option_and_then (λ n. climbed s (left - 1) n.0 (n.1 ∷ names)) (first_name s here)
+  above : is_directory s here ≡ true → here ≢ 1 → climbed s up left here names ≡ option_and_then (λ n. climbed s up (left - 1) n.0 (n.1 ∷ names)) (up here)
   above there other =
-      inside there ∙ ap (λ (b : Bool). cond b (Some names) (option_and_then (λ n. climbed s (left - 1) n.0 (n.1 ∷ names)) (first_name s here))) (not_one here other)
+      inside there ∙ ap (λ (b : Bool). cond b (Some names) (option_and_then (λ n. climbed s up (left - 1) n.0 (n.1 ∷ names)) (up here))) (not_one here other)
 
-  pub climb_nameless : is_directory s here ≡ true → here ≢ 1 → first_name s here ≡ None → climbed s left here names ≡ None
+  pub climb_nameless : is_directory s here ≡ true → here ≢ 1 → up here ≡ None → climbed s up left here names ≡ None
   climb_nameless there other none =
-      above there other ∙ ap (option_and_then (λ n. climbed s (left - 1) n.0 (n.1 ∷ names))) none
+      above there other ∙ ap (option_and_then (λ n. climbed s up (left - 1) n.0 (n.1 ∷ names))) none
 
-  pub climb_on : (n : NameOf) → is_directory s here ≡ true → here ≢ 1 → first_name s here ≡ Some n → climbed s left here names ≡ climbed s (left - 1) n.0 (n.1 ∷ names)
+  pub climb_on : (n : NameOf) → is_directory s here ≡ true → here ≢ 1 → up here ≡ Some n → climbed s up left here names ≡ climbed s up (left - 1) n.0 (n.1 ∷ names)
   climb_on n there other is =
-      above there other ∙ ap (option_and_then (λ n. climbed s (left - 1) n.0 (n.1 ∷ names))) is
+      above there other ∙ ap (option_and_then (λ n. climbed s up (left - 1) n.0 (n.1 ∷ names))) is
 
 -- ---- names as they are pushed
 

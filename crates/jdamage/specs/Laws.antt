@@ -1,5 +1,5 @@
 -- Laws of what is told. Each is a statement: it holds since a public function's contract names it.
-use Rattle.std.specs.Prelude.{◌≡◌, ◌≢◌, ℕ, ◌≤◌, Bool, true, false, not, List, [], ◌∷◌, ◌++◌, map, filter, Contains, option_map}
+use Rattle.std.specs.Prelude.{◌≡◌, ◌≢◌, ℕ, ◌≤◌, ◌^◌, Bool, true, false, not, List, [], ◌∷◌, ◌++◌, length, map, filter, Contains, Some, Ok, is_some, option_map}
 use Rattle.jnode.specs.Writing.{HoldsRange}
 use Rattle.jnode.specs.declared.order.Endian.{Endian}
 use Rattle.jnode.specs.declared.node.InodeNode.{InodeNode}
@@ -11,11 +11,13 @@ use Rattle.jmount.specs.Mount.{Mount}
 use Rattle.jmount.specs.Mounts.{IsSound, IsMountOf, MountsAs, plain_nodes}
 use Rattle.jmount.specs.Shown.{shown}
 use Rattle.jmount.specs.StateOf.{inodes, object_of, state_of, tops_of}
-use Rattle.jmount.specs.Tree.{dangling}
+use Rattle.jmount.specs.Find.{walk}
+use Rattle.jmount.specs.Tree.{State, all_entries, dangling, is_directory}
 use Rattle.jdamage.specs.Coverage.{hides_nothing}
 use Rattle.jdamage.specs.Damage.{size_shown, changes_nothing, damage_text}
 use Rattle.jdamage.specs.Fields.{stretch_at, stretch_of, stretches, damaged_nodes}
 use Rattle.jdamage.specs.Lines.{no_damage, totals_shown}
+use Rattle.jdamage.specs.Ways.{path_below}
 use Rattle.jdamage.specs.declared.fields.Stretch.{Stretch}
 
 -- of an image without damaged nodes, whose names all lead to objects, nothing is told but the
@@ -96,3 +98,16 @@ ObjectWouldChange = (front back : List InodeNode) (lost : Stretch) → HoldRange
     ≡ false
     → (node : InodeNode) × (stretch_of node ≡ lost) × HoldsRange node.fill node.dsize
     × (object_of (front ++ node ∷ back) lost.ino ≢ object_of (front ++ back) lost.ino)
+
+-- ---- the path of a directory
+
+-- it leads there
+abbrev pub DirectoryPathLeads : Type 0
+DirectoryPathLeads = (s : State) (dir : ℕ) (path : List (List ℕ)) → path_below s dir [] ≡ Some path
+    → walk s path (Ok 1) ≡ Ok dir
+
+-- each directory to which names lead has one, where there are no more names than numbers
+abbrev pub DirectoryHasPath : Type 0
+DirectoryHasPath = (s : State) (dir : ℕ) (names : List (List ℕ))
+    → length (all_entries s) ≤ 2 ^ 32 → walk s names (Ok 1) ≡ Ok dir → is_directory s dir ≡ true
+    → is_some (path_below s dir []) ≡ true

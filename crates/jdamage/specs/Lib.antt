@@ -1,5 +1,7 @@
 pub mod Coverage
 pub mod Damage
+pub mod Entered
+pub mod Entering
 pub mod Fields
 pub mod Groups
 pub mod Laws

@@ -1,38 +1,37 @@
 -- The paths that lead to a number.
-use Rattle.std.specs.Prelude.{◌≡◌, ℕ, ◌&&◌, Bool, is_some, true, zero, suc, ◌+◌, ◌^◌, ◌==◌, min, Vec, List, [], ◌∷◌, ◌++◌, length, map, filter, filter_map, Option, Some, None, option_and_then, option_map, if◌then◌else◌}
+use Rattle.std.specs.Prelude.{◌≡◌, ℕ, ◌&&◌, ◌||◌, Bool, is_some, true, zero, suc, ◌+◌, ◌^◌, ◌==◌, min, Vec, List, [], ◌∷◌, ◌++◌, length, map, filter, filter_map, Option, Some, None, option_and_then, option_map, if◌then◌else◌}
 use Rattle.std.specs.Borrow.{Bor}
 use Rattle.std.specs.BTreeMap.{BTreeMap, get}
 use Rattle.std.specs.BTreeSet.{BTreeSet, contains}
 use Rattle.std.specs.Ordering.{nat_cmp}
 use Rattle.std.specs.declared.alloc.Global.{Global}
-use Rattle.std.specs.List.{find}
+pub use Rattle.jdamage.specs.Entered.{NameOf}
+use Rattle.jdamage.specs.Entered.{entry_name, first_among}
 use Rattle.jdamage.specs.Groups.{group_of}
 use Rattle.jmount.specs.Tree.{State, is_directory, all_entries}
 
--- a name: its directory's number, its bytes, and the number that it stands for
-abbrev pub NameOf : Type 0
-NameOf = ℕ × List ℕ × ℕ
-
 -- the first name that stands for a number, in order of the directory's number and then in byte
--- order; in a tree that has its shape a directory has no other
+-- order
 unfoldable pub first_name : State → ℕ → Option NameOf
-first_name s i = find (λ n. n.2 == i) (all_entries s)
+first_name s i = first_among (all_entries s) i
 
--- The names from the root to a directory, and after them these: the directory's first name is put
--- in front, and then that of the directory that it is in, in at most so many steps up to the root.
-unfoldable pub climbed : State → ℕ → ℕ → List (List ℕ) → Option (List (List ℕ))
-climbed s zero dir names = None
-climbed s (suc steps) dir names = if is_directory s dir then
+-- The names from the root to a directory, and after them these: the name by which the way goes up
+-- from the directory is put in front, and then that of the directory that it is in, in at most so
+-- many steps up to the root.
+unfoldable pub climbed : State → (ℕ → Option NameOf) → ℕ → ℕ → List (List ℕ)
+    → Option (List (List ℕ))
+climbed s up zero dir names = None
+climbed s up (suc steps) dir names = if is_directory s dir then
     (if dir == 1 then Some names
-    else option_and_then (λ n. climbed s steps n.0 (n.1 ∷ names)) (first_name s dir)) else None
+    else option_and_then (λ n. climbed s up steps n.0 (n.1 ∷ names)) (up dir)) else None
 
 -- no way up to the root has more steps: there are no more names, and no more numbers
 abbrev pub steps_at_most : State → ℕ
 steps_at_most s = min (length (all_entries s)) (2 ^ 32) + 1
 
--- these names, below a directory, as a path
+-- these names, below a directory, as a path, by the names by which `ls` enters directories
 abbrev pub path_below : State → ℕ → List (List ℕ) → Option (List (List ℕ))
-path_below s dir names = climbed s (steps_at_most s) dir names
+path_below s dir names = climbed s (entry_name s) (steps_at_most s) dir names
 
 -- whether a way leads to a directory
 abbrev pub leads_to : State → ℕ → Bool
@@ -104,10 +103,30 @@ abbrev pub or_else : Option NameOf → Option NameOf → Option NameOf
 or_else None later = later
 or_else (Some n) later = Some n
 
+-- ---- by which names a way goes up: by first names, or where directories were walked through by
+-- those by which they were entered
+
+abbrev pub name_up : State → Bool → ℕ → Option NameOf
+name_up s walked dir = if walked then entry_name s dir else first_name s dir
+
+-- the name is held of each of these directories, and of all where they were walked through
+abbrev pub AreNamesUp : State → Bool → BTreeSet ℕ → BTreeMap ℕ HeldName → Type 0
+AreNamesUp s walked dirs names =
+    (i : ℕ) → (walked || contains nat_cmp dirs i) ≡ true → held_first names i ≡ name_up s walked i
+
+-- these ways up lead to the paths of all directories
+abbrev pub LeadsUp : State → (ℕ → Option NameOf) → Type 0
+LeadsUp s up = (dir : ℕ) (names : List (List ℕ))
+    → climbed s up (steps_at_most s) dir names ≡ path_below s dir names
+
 -- ---- directories from which no way leads up to the root
 
-abbrev pub IsNowhere : State → ℕ → Type 0
-IsNowhere s dir = (steps : ℕ) (names : List (List ℕ)) → climbed s steps dir names ≡ None
+abbrev pub IsNowhere : State → (ℕ → Option NameOf) → ℕ → Type 0
+IsNowhere s up dir = (steps : ℕ) (names : List (List ℕ)) → climbed s up steps dir names ≡ None
 
-abbrev pub LeadNowhere : State → BTreeSet ℕ → Type 0
-LeadNowhere s dirs = (dir : ℕ) → contains nat_cmp dirs dir ≡ true → IsNowhere s dir
+abbrev pub LeadNowhere : State → (ℕ → Option NameOf) → BTreeSet ℕ → Type 0
+LeadNowhere s up dirs = (dir : ℕ) → contains nat_cmp dirs dir ≡ true → IsNowhere s up dir
+
+-- by first names
+abbrev pub FirstsLeadNowhere : State → BTreeSet ℕ → Type 0
+FirstsLeadNowhere s dirs = LeadNowhere s (first_name s) dirs

@@ -1,6 +1,6 @@
 //! Laws of what is told. Each function's contract is a law, and its body is empty.
 
-ghost use Rattle.jdamage.specs.Laws.{ImageIsSameWithout, ObjectIsSameWithout, ObjectWouldChange, SoundHasNoLines, StateIsSameWithout};
+ghost use Rattle.jdamage.specs.Laws.{DirectoryHasPath, DirectoryPathLeads, ImageIsSameWithout, ObjectIsSameWithout, ObjectWouldChange, SoundHasNoLines, StateIsSameWithout};
 
 /// Of an image without damaged nodes, whose names all lead to objects, nothing is told but the
 /// totals, and these are 0.
@@ -20,4 +20,14 @@ pub fn same_without()
 /// object, version and range would have changed the object.
 pub fn would_change()
     ensures { ObjectWouldChange }
+{}
+
+/// The path that is told of a directory leads there.
+pub fn directory_path_leads()
+    ensures { DirectoryPathLeads }
+{}
+
+/// A directory to which names lead from the root has a path.
+pub fn directory_has_path()
+    ensures { DirectoryHasPath }
 {}

@@ -7,13 +7,15 @@
 //! is missing, and the totals.
 //!
 //! `specs/Fields.antt` says what is read of a damaged node, `specs/Coverage.antt` when it hides
-//! nothing, `specs/Ranges.antt` on which sound nodes that hangs, `specs/Ways.antt` which paths lead
-//! to a number, `specs/Lines.antt` how the lines are spelled, and `specs/Damage.antt` which lines
-//! there are. `laws` says what follows from these.
+//! nothing, `specs/Ranges.antt` on which sound nodes that hangs, `specs/Entered.antt` by which name
+//! `ls` enters a directory, `specs/Ways.antt` which paths lead to a number, `specs/Lines.antt` how the
+//! lines are spelled, and `specs/Damage.antt` which lines there are. `laws` says what follows from
+//! these.
 #![tactic(auto)]
 
 mod coverage;
 mod damage;
+mod entered;
 mod fault;
 mod fields;
 mod firsts;

@@ -4,7 +4,7 @@ ghost use Rattle.std.specs.Prelude.{◌≡◌, ◌⊎◌, ℕ, true, false, IfOk
 ghost use Rattle.std.specs.BTreeSet.{IsEmpty, contains};
 ghost use Rattle.std.specs.Ordering.{nat_cmp};
 ghost use Rattle.jmount.specs.Tree as tree;
-ghost use Rattle.jdamage.specs.Ways.{LeadNowhere};
+ghost use Rattle.jdamage.specs.Ways.{FirstsLeadNowhere};
 
 use crate::firsts::is_directory;
 use jmount::{Mounted, ROOT};
@@ -47,9 +47,9 @@ fn goes_up(
     nowhere: &BTreeSet<u32>,
     met: &mut BTreeSet<u32>,
 ) -> Result<bool, AllocError>
-    requires nowhere { LeadNowhere mounted.now.state nowhere.now }
+    requires nowhere { FirstsLeadNowhere mounted.now.state nowhere.now }
     requires none { IsEmpty met.old }
-    ensures { IfOk result (λ is_up. is_up ≡ false → LeadNowhere mounted.now.state met.new) }
+    ensures { IfOk result (λ is_up. is_up ≡ false → FirstsLeadNowhere mounted.now.state met.new) }
 {
     let mut here = dir;
     let mut left = 1u64 << 32;
@@ -79,8 +79,8 @@ fn note_way(
     up: &mut BTreeSet<u32>,
     nowhere: &mut BTreeSet<u32>,
 ) -> Result<(), AllocError>
-    requires { LeadNowhere mounted.now.state nowhere.old }
-    ensures { OnOk result (LeadNowhere mounted.now.state nowhere.new) }
+    requires { FirstsLeadNowhere mounted.now.state nowhere.old }
+    ensures { OnOk result (FirstsLeadNowhere mounted.now.state nowhere.new) }
 {
     let mut met = BTreeSet::new(alloc);
     if goes_up(mounted, dir, up, nowhere, &mut met)? {
@@ -97,7 +97,7 @@ pub(crate) fn nowhere_of(
     dirs: &BTreeSet<u32>,
     up: &mut BTreeSet<u32>,
 ) -> Result<BTreeSet<u32>, AllocError>
-    ensures { IfOk result (λ nowhere. LeadNowhere mounted.now.state nowhere) }
+    ensures { IfOk result (λ nowhere. FirstsLeadNowhere mounted.now.state nowhere) }
 {
     let mut nowhere = BTreeSet::new(alloc);
     for dir in dirs.iter() {

@@ -1,8 +1,10 @@
 //! The ways up from directories to the root.
 
 ghost use Rattle.std.specs.Prelude.{◌≡◌, ◌∷◌, ◌^◌, ◌<◌, ◌≤◌, ℕ, List, [], true, None, Some, IfOk, IfSome, IsFalse, IsTrue, length, option_map, reverse, vec_capacity};
-ghost use Rattle.jdamage.specs.Ways.{AreFirsts, LeadNowhere, depth, first_name, leads_to, name_held, names_held, path_below, path_length, steps_at_most};
+ghost use Rattle.jmount.specs.Shape.{HasShape};
+ghost use Rattle.jdamage.specs.Ways.{AreNamesUp, LeadNowhere, LeadsUp, depth, leads_to, name_held, name_up, names_held, path_below, path_length, steps_at_most};
 
+use crate::entered::entered_names;
 use crate::firsts::{Firsts, Name, find_name, firsts_of, is_directory};
 use crate::nowhere::nowhere_of;
 use jmount::{Mounted, ROOT};
@@ -24,18 +26,64 @@ fn most_steps(mounted: &Mounted<'_>) -> u64
 #[derive(Drop)]
 pub(crate) struct WaysUp<'m, 'a> {
     pub mounted: &'m Mounted<'a>,
-    /// Directories on the ways.
+    /// Whether `names` has all directories that a walk from the root enters.
+    walked: bool,
+    /// Directories on the ways, where it has these alone.
     up: BTreeSet<u32>,
-    firsts: Firsts<'m>,
+    /// The names by which the ways go up.
+    names: Firsts<'m>,
     nowhere: BTreeSet<u32>,
     steps: u64,
     ghost counted: { steps ≡ steps_at_most mounted.now.state },
-    ghost firsts_are: { AreFirsts mounted.now.state up firsts },
-    ghost nowhere_is: { LeadNowhere mounted.now.state nowhere },
+    ghost names_are: { AreNamesUp mounted.now.state walked up names },
+    ghost leads: { LeadsUp mounted.now.state (name_up mounted.now.state walked) },
+    ghost nowhere_is: { LeadNowhere mounted.now.state (name_up mounted.now.state walked) nowhere },
+}
+
+/// The ways up by first names, where no directory has two.
+fn by_first_names<'m, 'a>(
+    alloc: Global,
+    mounted: &'m Mounted<'a>,
+    dirs: &BTreeSet<u32>,
+) -> Result<WaysUp<'m, 'a>, AllocError>
+    requires { HasShape mounted.now.state }
+    ensures { IfOk result (λ ways. ways.mounted.now ≡ mounted.now) }
+{
+    let mut up = BTreeSet::new(alloc);
+    let nowhere = nowhere_of(alloc, mounted, dirs, &mut up)?;
+    let names = firsts_of(alloc, mounted, &up)?;
+    let steps = most_steps(mounted);
+    Ok(WaysUp {
+        mounted,
+        walked: false,
+        up,
+        names,
+        nowhere,
+        steps,
+    })
+}
+
+/// The ways up by the names by which a walk from the root enters directories.
+fn by_walk<'m, 'a>(alloc: Global, mounted: &'m Mounted<'a>) -> Result<WaysUp<'m, 'a>, AllocError>
+    ensures { IfOk result (λ ways. ways.mounted.now ≡ mounted.now) }
+{
+    let names = entered_names(alloc, mounted)?;
+    let steps = most_steps(mounted);
+    let up = BTreeSet::new(alloc);
+    let nowhere = BTreeSet::new(alloc);
+    Ok(WaysUp {
+        mounted,
+        walked: true,
+        up,
+        names,
+        nowhere,
+        steps,
+    })
 }
 
 impl<'m, 'a> WaysUp<'m, 'a> {
-    /// The ways up from these directories. Takes memory for the directories on them.
+    /// The ways up from these directories. Takes memory for the directories on them; in a tree that
+    /// has not its shape, for all that a walk from the root enters.
     pub(crate) fn new(
         alloc: Global,
         mounted: &'m Mounted<'a>,
@@ -43,26 +91,20 @@ impl<'m, 'a> WaysUp<'m, 'a> {
     ) -> Result<WaysUp<'m, 'a>, AllocError>
         ensures { IfOk result (λ ways. ways.mounted.now ≡ mounted.now) }
     {
-        let mut up = BTreeSet::new(alloc);
-        let nowhere = nowhere_of(alloc, mounted, dirs, &mut up)?;
-        let firsts = firsts_of(alloc, mounted, &up)?;
-        let steps = most_steps(mounted);
-        Ok(WaysUp {
-            mounted,
-            up,
-            firsts,
-            nowhere,
-            steps,
-        })
+        if mounted.has_shape() {
+            return by_first_names(alloc, mounted, dirs);
+        }
+        by_walk(alloc, mounted)
     }
 
-    /// The first name of a directory. It is kept for the directories on the ways up; for any other
-    /// directory, all names are searched.
-    fn first_name(&self, dir: u32) -> Option<Name<'m>>
-        ensures { option_map name_held result ≡ first_name self.now.mounted.now.state dir }
+    /// The name by which the way goes up from a directory. It is kept for the directories on the
+    /// ways up; for any other directory, all names are searched.
+    fn name_up(&self, dir: u32) -> Option<Name<'m>>
+        ensures { option_map name_held result
+            ≡ name_up self.now.mounted.now.state self.now.walked dir }
     {
-        if self.up.contains(&dir) {
-            return self.firsts.get(&dir).copied();
+        if self.walked || self.up.contains(&dir) {
+            return self.names.get(&dir).copied();
         }
         find_name(self.mounted, dir)
     }
@@ -93,7 +135,7 @@ impl<'m, 'a> WaysUp<'m, 'a> {
             if here == ROOT {
                 return Some(self.steps - left);
             }
-            let Some((above, _, _)) = self.first_name(here) else {
+            let Some((above, _, _)) = self.name_up(here) else {
                 return None;
             };
             here = above;
@@ -171,7 +213,7 @@ fn climb<'m>(ways: &WaysUp<'m, '_>, dir: u32, path: &mut Vec<&'m [u8]>) -> bool
             path.reverse();
             return true;
         }
-        let Some((pino, name, _)) = ways.first_name(here) else {
+        let Some((pino, name, _)) = ways.name_up(here) else {
             return false;
         };
         if path.push(name).is_err() {

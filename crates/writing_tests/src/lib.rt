@@ -12,6 +12,7 @@ mod convert;
 mod log;
 #[cfg(test)]
 mod packed;
+#[cfg(test)]
 mod row;
 #[cfg(test)]
 mod steps;

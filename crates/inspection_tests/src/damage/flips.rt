@@ -112,7 +112,7 @@ pub(crate) fn put<T: Sink>(
 /// The places that are flipped, the lines, and the totals.
 pub(crate) type Row = (&'static [usize], &'static str, (usize, u64, usize));
 
-fn totals((damaged, paths, missing): (usize, u64, usize)) -> Totals {
+pub(crate) fn totals((damaged, paths, missing): (usize, u64, usize)) -> Totals {
     Totals {
         damaged,
         paths,

@@ -1,7 +1,8 @@
 //! A growth that is refused is told as such, and nothing is put.
 
 use crate::checks::equal;
-use crate::damage::flips::{GEOMETRY, flipped, rows};
+use crate::damage::flips::{GEOMETRY, flipped, flipped_of, rows};
+use crate::damage::several_names::cases;
 use byteorder::LittleEndian;
 use jdamage::{DamageFault, put_damage};
 use jmount::mount;
@@ -30,6 +31,20 @@ fn fault(alloc: Global, image: &[u8], text: &str) -> Option<(DamageFault, bool)>
 fn refused_growth_of_damage(rt: HostRuntime) {
     for &(places, text, _) in rows() {
         let Ok(image) = flipped(rt.alloc(), places) else {
+            return;
+        };
+        if let Some(why) = fault(rt.alloc(), &image, text) {
+            equal(&rt, why, (DamageFault::OutOfMemory, false));
+            equal(&rt, fault(rt.alloc(), &image, text), None);
+        }
+    }
+}
+
+/// The same where a walk finds out by which names directories are entered.
+#[test]
+fn refused_growth_of_walked_damage(rt: HostRuntime) {
+    for &(nodes, places, text, _) in cases() {
+        let Ok(image) = flipped_of(rt.alloc(), nodes, places) else {
             return;
         };
         if let Some(why) = fault(rt.alloc(), &image, text) {

@@ -1,4 +1,4 @@
-use Rattle.std.proofs.Common.{ℕ, [], get_or, refl, arith, ◌∙◌, subst}
+use Rattle.std.proofs.Common.{[], get_or, refl, arith, ◌∙◌, subst}
 use Rattle.std.specs.Io.KnownBytes.{Appends}
 use Rattle.std.proofs.KnownBytes.{Appends-trans}
 use Rattle.jline.proofs.TurnLemmas.{flat_map-next, item_failed}
