@@ -23,7 +23,20 @@ use Rattle.jfolder.specs.declared.tree.Item.{Item}
 abbrev pub IsWrongText : List ℕ → Reason → Type 0
 IsWrongText name reason.LongName = 254 < length name
 IsWrongText name reason.BadName = is_name name ≡ false
-IsWrongText name _ = ⊥
+IsWrongText name reason.Refused = ⊥
+IsWrongText name reason.NoText = ⊥
+IsWrongText name reason.Output = ⊥
+IsWrongText name (reason.Unnamed others) = ⊥
+IsWrongText name reason.Repeated = ⊥
+IsWrongText name reason.CharacterDevice = ⊥
+IsWrongText name reason.BlockDevice = ⊥
+IsWrongText name reason.UnknownKind = ⊥
+IsWrongText name reason.Large = ⊥
+IsWrongText name reason.Owner = ⊥
+IsWrongText name reason.Time = ⊥
+IsWrongText name reason.Target = ⊥
+IsWrongText name reason.NotDirectory = ⊥
+IsWrongText name reason.Symlink = ⊥
 
 -- the path of such a name in the directory of this path
 abbrev pub IsWrongChild : List ℕ → List (List ℕ) → LeftOut → Type 0
@@ -54,7 +67,9 @@ ComesAgain items left = (left.1 ≡ reason.Repeated) × Contains (item_paths ite
 -- a call that refuses says this
 abbrev pub Refuses : Type 0 → FolderFault → Type 0
 Refuses says folder.OutOfMemory = ⊤
-Refuses says _ = says
+Refuses says folder.Refused = says
+Refuses says folder.NoText = says
+Refuses says folder.Output = says
 
 -- nothing is known of what the host tells
 abbrev pub IsUntold : {X : Type 0} → Option X → FolderFault → Type 0
@@ -69,13 +84,39 @@ abbrev pub IsRefusal : Type 0 → Reason → Type 0
 IsRefusal says reason.Refused = says
 IsRefusal says reason.NoText = says
 IsRefusal says reason.Output = says
-IsRefusal says _ = ⊥
+IsRefusal says (reason.Unnamed others) = ⊥
+IsRefusal says reason.BadName = ⊥
+IsRefusal says reason.LongName = ⊥
+IsRefusal says reason.Repeated = ⊥
+IsRefusal says reason.CharacterDevice = ⊥
+IsRefusal says reason.BlockDevice = ⊥
+IsRefusal says reason.UnknownKind = ⊥
+IsRefusal says reason.Large = ⊥
+IsRefusal says reason.Owner = ⊥
+IsRefusal says reason.Time = ⊥
+IsRefusal says reason.Target = ⊥
+IsRefusal says reason.NotDirectory = ⊥
+IsRefusal says reason.Symlink = ⊥
 
 -- ---- what an object is
 
 abbrev pub IsKindWhy : ℕ → Reason → Type 0
 IsKindWhy kind reason.UnknownKind = All (λ k. kind ≢ k) (1 ∷ 2 ∷ 4 ∷ 6 ∷ 8 ∷ 10 ∷ 12 ∷ [])
-IsKindWhy kind _ = ⊥
+IsKindWhy kind reason.Refused = ⊥
+IsKindWhy kind reason.NoText = ⊥
+IsKindWhy kind reason.Output = ⊥
+IsKindWhy kind (reason.Unnamed others) = ⊥
+IsKindWhy kind reason.BadName = ⊥
+IsKindWhy kind reason.LongName = ⊥
+IsKindWhy kind reason.Repeated = ⊥
+IsKindWhy kind reason.CharacterDevice = ⊥
+IsKindWhy kind reason.BlockDevice = ⊥
+IsKindWhy kind reason.Large = ⊥
+IsKindWhy kind reason.Owner = ⊥
+IsKindWhy kind reason.Time = ⊥
+IsKindWhy kind reason.Target = ⊥
+IsKindWhy kind reason.NotDirectory = ⊥
+IsKindWhy kind reason.Symlink = ⊥
 
 -- a kind that a listing has
 abbrev pub HasListedKind : Looked → Type 0
@@ -87,7 +128,20 @@ IsAttributesWhy options told reason.Owner =
     (options.owner ≡ None) × ((65535 < told.uid) ⊎ (65535 < told.gid))
 IsAttributesWhy options told reason.Time =
     (options.time ≡ None) × ((t : ℕ) → t < 2 ^ 32 → pos t ≢ told.time)
-IsAttributesWhy options told _ = ⊥
+IsAttributesWhy options told reason.Refused = ⊥
+IsAttributesWhy options told reason.NoText = ⊥
+IsAttributesWhy options told reason.Output = ⊥
+IsAttributesWhy options told (reason.Unnamed others) = ⊥
+IsAttributesWhy options told reason.BadName = ⊥
+IsAttributesWhy options told reason.LongName = ⊥
+IsAttributesWhy options told reason.Repeated = ⊥
+IsAttributesWhy options told reason.CharacterDevice = ⊥
+IsAttributesWhy options told reason.BlockDevice = ⊥
+IsAttributesWhy options told reason.UnknownKind = ⊥
+IsAttributesWhy options told reason.Large = ⊥
+IsAttributesWhy options told reason.Target = ⊥
+IsAttributesWhy options told reason.NotDirectory = ⊥
+IsAttributesWhy options told reason.Symlink = ⊥
 
 -- the file is too large, or it is not known to have a name that is not empty, or to be opened
 abbrev pub IsFileWhy : Known → List ℕ → ℕ → Reason → Type 0
@@ -106,7 +160,20 @@ IsTargetWhy known path why = IsRefusal (known.target path ≡ None) why
 abbrev pub IsDeviceWhy : Looked → Reason → Type 0
 IsDeviceWhy told reason.CharacterDevice = (kind_bits told.mode ≡ 2) × IsWide told.special
 IsDeviceWhy told reason.BlockDevice = (kind_bits told.mode ≡ 6) × IsWide told.special
-IsDeviceWhy told _ = ⊥
+IsDeviceWhy told reason.Refused = ⊥
+IsDeviceWhy told reason.NoText = ⊥
+IsDeviceWhy told reason.Output = ⊥
+IsDeviceWhy told (reason.Unnamed others) = ⊥
+IsDeviceWhy told reason.BadName = ⊥
+IsDeviceWhy told reason.LongName = ⊥
+IsDeviceWhy told reason.Repeated = ⊥
+IsDeviceWhy told reason.UnknownKind = ⊥
+IsDeviceWhy told reason.Large = ⊥
+IsDeviceWhy told reason.Owner = ⊥
+IsDeviceWhy told reason.Time = ⊥
+IsDeviceWhy told reason.Target = ⊥
+IsDeviceWhy told reason.NotDirectory = ⊥
+IsDeviceWhy told reason.Symlink = ⊥
 
 abbrev pub IsObjectWhy : Known → List ℕ → Looked → Reason → Type 0
 IsObjectWhy known path told why =
@@ -138,7 +205,20 @@ IsRight known options items left = HasWrongName known left
 abbrev pub IsNoDirectory : ℕ → Reason → Type 0
 IsNoDirectory kind reason.Symlink = kind ≡ 10
 IsNoDirectory kind reason.NotDirectory = (kind ≢ 4) × (kind ≢ 10)
-IsNoDirectory kind _ = ⊥
+IsNoDirectory kind reason.Refused = ⊥
+IsNoDirectory kind reason.NoText = ⊥
+IsNoDirectory kind reason.Output = ⊥
+IsNoDirectory kind (reason.Unnamed others) = ⊥
+IsNoDirectory kind reason.BadName = ⊥
+IsNoDirectory kind reason.LongName = ⊥
+IsNoDirectory kind reason.Repeated = ⊥
+IsNoDirectory kind reason.CharacterDevice = ⊥
+IsNoDirectory kind reason.BlockDevice = ⊥
+IsNoDirectory kind reason.UnknownKind = ⊥
+IsNoDirectory kind reason.Large = ⊥
+IsNoDirectory kind reason.Owner = ⊥
+IsNoDirectory kind reason.Time = ⊥
+IsNoDirectory kind reason.Target = ⊥
 
 -- The host refuses to tell of the folder, or tells no directory, or an owner or a time that no
 -- listing says, or refuses to tell the names in it.

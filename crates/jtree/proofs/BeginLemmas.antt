@@ -1,5 +1,5 @@
 -- The empty file system, and the operation that gives its root attributes.
-use Rattle.std.proofs.Common.{◌≡◌, ℕ, ◌+◌, ◌≤◌, Bool, true, false, cond, List, [], ◌∷◌, Option, Some, None, Ok, refl, inl, ap, sym, ◌∙◌, subst, arith}
+use Rattle.std.proofs.Common.{◌≡◌, ℕ, ◌+◌, ◌<◌, ◌≤◌, Bool, true, false, cond, List, [], ◌∷◌, Option, Some, None, Ok, refl, inl, ap, sym, ◌∙◌, subst, arith}
 use Rattle.std.specs.Prelude.{Contains, IsTrue, option_map, is_some, unwrap_or, not, ◌||◌, ◌&&◌, ◌==◌}
 use Rattle.std.specs.List.{list_any}
 use Rattle.std.specs.Ordering.{eq_by_cmp, nat_cmp}
@@ -11,7 +11,7 @@ use Rattle.jmount.specs.Shape.{HasShape}
 use Rattle.jmount.specs.StateOf.{default_root, state_of, top}
 use Rattle.jmount.specs.Tree.{ObjectOf, State, named, object, has_bits, directory_bits, is_directory, sized}
 use Rattle.jmount.proofs.NumbersLemmas.{object-state_of, named-state_of}
-use Rattle.jmount.proofs.ShapeLemmas.{walk_step}
+use Rattle.jmount.proofs.ShapeLemmas.{same_ok, walk_step}
 use Rattle.jsteps.specs.Nodes.{index_of, nodes_of}
 use Rattle.jscan.specs.Pages.{IsPage}
 use Rattle.jsteps.specs.Planning.{steps_of}
@@ -28,6 +28,7 @@ use Rattle.jfolder.specs.declared.tree.Attributes.{Attributes}
 use Rattle.jtree.specs.Holding.{root_object}
 use Rattle.jtree.proofs.AcceptLemmas.{IsFree, accept, and_false}
 use Rattle.jtree.proofs.CountLemmas.{none_past, not_above}
+use Rattle.jtree.proofs.NodesLemmas.{Writes, none_elsewhere}
 use Rattle.jtree.proofs.RewriteLemmas.{itself}
 use Rattle.jtree.proofs.RunLemmas.{IsAt, Reaches, at_object, reaches_one}
 use Rattle.jtree.proofs.StandLemmas.{Stands}
@@ -92,13 +93,20 @@ only_root k new e =
     (either (eq_by_cmp nat_cmp k 1) (k == 1) new (get (state_of []).objects k) (unsigned_tied k 1) (object-state_of [] k)
     (sym (ap is_some (get-insert nat_cmp_total (state_of []).objects 1 new k)) ∙ e))
 
+-- the root has these attributes, and nothing else is there
+abbrev with_root : Attributes → State
+with_root a =
+    let s = state_of [] in
+    record { objects = insert s.objects 1 (with_attributes default_root a.time (root_given a)); names = s.names; next = s.next }
+
+root_after : (a : Attributes) → after bytes (state_of []) (step.SetAttributes a.time 1 (root_given a) ∷ []) ≡ with_root a
+root_after a = ap (reattributed (state_of []) 1 a.time (root_given a)) root_there
+
 root_stands : (a : Attributes) → AttributesFit a → Stands (root_object a) [] (after bytes (state_of []) (step.SetAttributes a.time 1 (root_given a) ∷ []))
 root_stands a fits =
     let s = state_of [] in
     let new = with_attributes default_root a.time (root_given a) in
-    let t : State = record { objects = insert s.objects 1 new; names = s.names; next = s.next } in
-    let is : after bytes s (step.SetAttributes a.time 1 (root_given a) ∷ []) ≡ t = ap (reattributed s 1 a.time (root_given a)) root_there in
-    subst (Stands (root_object a) []) (sym is)
+    subst (Stands (root_object a) []) (sym (root_after a))
     (record {
       root_is = get-insert nat_cmp_total s.objects 1 new 1
           ∙ cond-true (eq_by_cmp nat_cmp 1 1) (Some new) (get s.objects 1) (itself 1)
@@ -107,6 +115,24 @@ root_stands a fits =
       names_are = λ dir name i e. none_some (named s dir name) i (no_names dir name) e;
       apart = λ m o among other i e f. no_element m among;
       objects_are = λ k e. inl (only_root k new e);
+    })
+
+-- no names lead to anything but the root
+none_below : {P : Type 0} (names : List (List ℕ)) (k : ℕ) → 1 < k → walk (state_of []) names (Ok 1) ≡ Ok k → P
+none_below [] k some e = let root : 1 ≡ k = same_ok 1 k e in absurd (omega arith)
+none_below (name ∷ names) k some e =
+    let s = walk_step (state_of []) 1 name names k e in
+    none_some (named (state_of []) 1 name) s.to (no_names 1 name) s.entry
+
+root_writes : (a : Attributes) → Writes (index_of []) (state_of []) (after bytes (state_of []) (step.SetAttributes a.time 1 (root_given a) ∷ [])) (step.SetAttributes a.time 1 (root_given a) ∷ [])
+root_writes a =
+    let steps = step.SetAttributes a.time 1 (root_given a) ∷ [] in
+    subst (λ (t : State). Writes (index_of []) (state_of []) t steps) (sym (root_after a))
+    (record {
+      next = omega arith;
+      keeps = λ names k some e. none_below names k some e;
+      kept = λ k some less. let over : 1 < k = some in none_elsewhere 1 k (index_of []) steps (refl, tt) (λ (e : k ≡ 1). omega arith);
+      fresh = λ k some le. let over : 1 < k = some in none_elsewhere 1 k (index_of []) steps (refl, tt) (λ (e : k ≡ 1). omega arith);
     })
 
 root_free : (page : ℕ) (a : Attributes) → AttributesFit a → IsFree page (index_of []) (root_op a)
@@ -138,3 +164,4 @@ root_reaches page a is_page fits =
     (accept page x (root_op a) steps (root_free page a fits) refl room)
     (root_stands a fits)
     (omega arith)
+    (root_writes a)

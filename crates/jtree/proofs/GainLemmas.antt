@@ -53,7 +53,7 @@ pub record Makes (s t : State) (dir : ℕ) (name : List ℕ) (o : ObjectOf (List
   pub now : object t s.next ≡ Some o
   pub others : (k : ℕ) → k ≢ s.next → object t k ≡ object s k
 
-new_gains : (s t : State) (dir : ℕ) (name : List ℕ) (o : ObjectOf (List ℕ)) → Makes s t dir name o → ((k : ℕ) → is_there s k ≡ true → k < s.next)
+pub new_gains : (s t : State) (dir : ℕ) (name : List ℕ) (o : ObjectOf (List ℕ)) → Makes s t dir name o → ((k : ℕ) → is_there s k ≡ true → k < s.next)
     → named s dir name ≡ None → Gains s t dir name s.next
 new_gains s t dir name o makes numbered none =
     let names = subst (λ all. OneMore s.names all dir name s.next) (sym makes.names) (one_more s.names dir name s.next none) in
@@ -116,7 +116,7 @@ new_stands root made s t way name dir o stands some makes numbered leads there n
 abbrev pub with_name : State → ℕ → List ℕ → ℕ → State
 with_name s dir name i = record { objects = s.objects; names = insert s.names (dir, name) i; next = s.next }
 
-name_gains : (s : State) (dir : ℕ) (name : List ℕ) (i : ℕ) → is_there s i ≡ true → i < s.next → named s dir name ≡ None
+pub name_gains : (s : State) (dir : ℕ) (name : List ℕ) (i : ℕ) → is_there s i ≡ true → i < s.next → named s dir name ≡ None
     → Gains s (with_name s dir name i) dir name i
 name_gains s dir name i there below none =
     let names = one_more s.names dir name i none in

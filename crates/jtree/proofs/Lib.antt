@@ -4,6 +4,7 @@ pub mod AcceptLemmas
 pub mod StandLemmas
 pub mod RewriteLemmas
 pub mod AppendLemmas
+pub mod NodesLemmas
 pub mod RunLemmas
 pub mod RoomLemmas
 pub mod GainLemmas

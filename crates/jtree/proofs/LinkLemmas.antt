@@ -1,5 +1,5 @@
 -- The operation of a further name, and what it reaches.
-use Rattle.std.proofs.Common.{◌≡◌, ◌≢◌, ℕ, ◌+◌, ◌≤◌, true, false, List, [], ◌∷◌, ◌++◌, Option, Some, Ok, Result, ap, sym, ◌∙◌, ⊎_elim, arith}
+use Rattle.std.proofs.Common.{◌≡◌, ◌≢◌, ℕ, ◌+◌, ◌≤◌, true, false, List, [], ◌∷◌, ◌++◌, Option, Some, Ok, Result, refl, ap, sym, ◌∙◌, ⊎_elim, arith}
 use Rattle.std.specs.Prelude.{Contains, ◌==◌, option_map, unwrap_or}
 use Rattle.flashbase.specs.Ranges.{IsWord}
 use Rattle.jmount.specs.Find.{IsPath, walk}
@@ -14,13 +14,13 @@ use Rattle.jsteps.specs.Where.{last_name, end_or_zero, number_or_zero}
 use Rattle.jsteps.specs.declared.op.Op.TheVariants as op
 use Rattle.jsteps.specs.declared.step.Step.TheVariants as step
 use Rattle.jtree.proofs.AcceptLemmas.{IsFile, accept, link_free}
-use Rattle.jtree.proofs.GainLemmas.{name_stands}
+use Rattle.jtree.proofs.GainLemmas.{name_gains, name_stands, with_name}
 use Rattle.jtree.proofs.ItemLemmas.{IsAhead, ahead_placed}
 use Rattle.jtree.proofs.MakeLemmas.{few_numbers, not_spent, some_numbers}
 use Rattle.jtree.proofs.RoomLemmas.{HasRoom, Passes}
 use Rattle.jtree.proofs.RunLemmas.{IsAt, Reaches, at_directory, at_named, at_numbered, at_object, at_walk, reaches_one}
 use Rattle.jtree.proofs.StandLemmas.{Made, Stands}
-use Rattle.jtree.proofs.WayLemmas.{has_long, placed, walk_last}
+use Rattle.jtree.proofs.WayLemmas.{has_long, placed, walk_extends, walk_last}
 
 -- a regular file that stands, which a link is a further name of
 pub record IsTarget (made : List Made) (path : List ℕ) (f : Made) : Type 0 where
@@ -63,9 +63,16 @@ link_reaches page n x s time old new f m root made is_page at stands t a now nam
     let owner : a.dir ≤ 0xFFFFFFFF = few_numbers n x s at a.dir (at_numbered n x s at a.dir (there_of_directory s a.dir a.directory)) (omega arith) in
     not_spent page n x s (op.Link time old new) steps at all (owner, tt) (omega arith))
     (λ (pass : Passes page x (op.Link time old new)). pass.room) has in
+    let gains = name_gains s a.dir a.name ino l.steps.there h.used a.free in
     reaches_one page n x s (op.Link time old new) steps root (made ++ m ∷ []) 1 is_page at now
     (accept page x (op.Link time old new) steps
     (link_free page x time old new l.dir t.name ino (sized f.object_is) a.dir a.name p file q (at_named n x s at a.dir a.name ∙ a.free)) all room)
     (name_stands root made s a.way a.name a.dir f m stands (some_numbers n x s at) t.among t.first origin names other a.leads a.directory a.free
     (ap has_long names ∙ a.short) l.steps.there)
     (omega arith)
+    (record {
+      next = omega arith;
+      keeps = λ names k some e. walk_extends s (with_name s a.dir a.name ino) names 1 k gains.extends e;
+      kept = λ k some less. refl;
+      fresh = λ k some le. refl;
+    })

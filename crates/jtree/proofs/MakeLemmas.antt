@@ -1,5 +1,5 @@
 -- The operation of a new object, and what it reaches.
-use Rattle.std.proofs.Common.{◌≡◌, ℕ, suc, ◌+◌, ◌-◌, ◌*◌, ◌/◌, ◌<◌, ◌≤◌, Bool, true, false, cond, List, [], ◌∷◌, ◌++◌, length, take, drop, Some, None, Result, Ok, refl, ap, sym, ◌∙◌, subst, ⊎_elim, length-append, length-drop, arith}
+use Rattle.std.proofs.Common.{◌≡◌, ◌≢◌, ℕ, suc, ◌+◌, ◌-◌, ◌*◌, ◌/◌, ◌<◌, ◌≤◌, Bool, true, false, cond, List, [], ◌∷◌, ◌++◌, length, take, drop, Some, None, Result, Ok, refl, ap, sym, ◌∙◌, subst, ⊎_elim, length-append, length-drop, arith}
 use Rattle.std.specs.Prelude.{◌==◌, flat_map, nat_lt}
 use Rattle.std.specs.List.{list_any, AllByRecursion}
 use Rattle.std.specs.Ordering.{eq_by_cmp, nat_cmp}
@@ -30,9 +30,10 @@ use Rattle.jtree.proofs.AppendLemmas.{after-append, write_appends, write_few}
 use Rattle.jtree.proofs.CountLemmas.{HasOwner, none_past}
 use Rattle.jtree.proofs.RewriteLemmas.{insert_other, itself, untied}
 use Rattle.jtree.proofs.RoomLemmas.{HasRoom, Passes}
-use Rattle.jtree.proofs.WayLemmas.{IsPlaced, has_long}
+use Rattle.jtree.proofs.WayLemmas.{IsPlaced, has_long, walk_extends}
 use Rattle.jtree.proofs.StandLemmas.{Made, Stands}
-use Rattle.jtree.proofs.GainLemmas.{Makes, own, new_stands}
+use Rattle.jtree.proofs.GainLemmas.{Makes, own, new_gains, new_stands}
+use Rattle.jtree.proofs.NodesLemmas.{IsOn, inodes_at, made_elsewhere}
 use Rattle.jtree.proofs.RunLemmas.{IsAt, Reaches, at_next, at_numbered, reaches_one}
 
 pub some_numbers : (n : ℕ) (x : Indexed) (s : State) → IsAt n x s → 1 < s.next
@@ -57,17 +58,27 @@ pub not_spent : (page n : ℕ) (x : Indexed) (s : State) (o : Op) (steps : List 
 not_spent page n x s o steps at are owners few = ap (λ ss. list_any is_past (nodes_of x ss)) are ∙ none_past n x steps at.counted owners few
 
 -- an operation that makes one object and its name, by as many steps as it takes
-pub made_reaches : (page n : ℕ) (x : Indexed) (s : State) (o : Op) (steps : List Step) (new : ObjectOf (List ℕ)) (way : List (List ℕ)) (name : List ℕ)
+abbrev pub made_reaches : (page n : ℕ) (x : Indexed) (s : State) (o : Op) (steps : List Step) (new : ObjectOf (List ℕ)) (way : List (List ℕ)) (name : List ℕ)
     (dir : ℕ) (root : ObjectOf (List ℕ)) (made : List Made) (most : ℕ)
     → IsPage page → IsAt n x s → Stands root made s → OpFits o → IsFree page x o
     → steps_of page x.tree o ≡ steps → is_exhausted page x o ≡ false → Makes s (after bytes s steps) dir name new → length steps ≤ most
     → walk s way (Ok 1) ≡ Ok dir → is_directory s dir ≡ true → named s dir name ≡ None → has_long (way ++ name ∷ []) ≡ false
+    → ((k : ℕ) → k ≢ s.next → inodes_at x steps k ≡ [])
     → Reaches page n x s (o ∷ []) root (made ++ own (way ++ name ∷ []) new ∷ []) most
-made_reaches page n x s o steps new way name dir root made most is_page at stands fits is_free are room makes short leads there free few_names =
+made_reaches page n x s o steps new way name dir root made most is_page at stands fits is_free are room makes short leads there free few_names alone =
+    let t = after bytes s steps in
+    let gains = new_gains s t dir name new makes (at_numbered n x s at) free in
+    let next : t.next ≡ s.next + 1 = makes.next in
     reaches_one page n x s o steps root (made ++ own (way ++ name ∷ []) new ∷ []) most is_page at fits
     (accept page x o steps is_free are room)
     (new_stands root made s (after bytes s steps) way name dir new stands (some_numbers n x s at) makes (at_numbered n x s at) leads there free few_names)
     short
+    (record {
+      next = gains.next;
+      keeps = λ names k some e. walk_extends s t names 1 k gains.extends e;
+      kept = λ k some less. let under : k < s.next = less in alone k (λ (e : k ≡ s.next). omega arith);
+      fresh = λ k some le. let over : t.next ≤ k = le in alone k (λ (e : k ≡ s.next). omega arith);
+    })
 
 -- ---- an object whose bytes are all in its first node
 
@@ -80,7 +91,7 @@ own_none mode = none (is_device mode)
     none true = refl
     none false = refl
 
-make_makes : (s : State) (time mode uid gid : ℕ) (held body : List ℕ) (dir : ℕ) (name : List ℕ) → own_bytes mode held ≡ body
+pub make_makes : (s : State) (time mode uid gid : ℕ) (held body : List ℕ) (dir : ℕ) (name : List ℕ) → own_bytes mode held ≡ body
     → Makes s (after bytes s (step.MakeObject time mode uid gid held ∷ step.SetName time dir name s.next ∷ [])) dir name (new_object time mode uid gid body)
 make_makes s time mode uid gid held body dir name same =
     let o = new_object time mode uid gid (own_bytes mode held) in
@@ -94,7 +105,7 @@ make_makes s time mode uid gid held body dir name same =
           ∙ insert_other (eq_by_cmp nat_cmp k s.next) o (get s.objects k) (untied k s.next other);
     }
 
-pub make_reaches : (page n : ℕ) (x : Indexed) (s : State) (o : Op) (time mode uid gid : ℕ) (target body : List ℕ) (same : own_bytes mode target ≡ body) (way : List (List ℕ)) (name : List ℕ)
+abbrev pub make_reaches : (page n : ℕ) (x : Indexed) (s : State) (o : Op) (time mode uid gid : ℕ) (target body : List ℕ) (same : own_bytes mode target ≡ body) (way : List (List ℕ)) (name : List ℕ)
     (dir : ℕ) (root : ObjectOf (List ℕ)) (made : List Made)
     → IsPage page → IsAt n x s → Stands root made s → OpFits o → IsFree page x o
     → steps_of page x.tree o ≡ step.MakeObject time mode uid gid target ∷ step.SetName time dir name x.tree.next ∷ []
@@ -112,6 +123,7 @@ make_reaches page n x s o time mode uid gid target body same way name dir root m
     (λ (pass : Passes page x o). pass.room) has in
     made_reaches page n x s o steps (new_object time mode uid gid body) way name dir root made 2 is_page at stands fits is_free all room
     (make_makes s time mode uid gid target body dir name same) (omega arith) leads there free short
+    (λ k other. made_elsewhere s.next k x time mode uid gid target (step.SetName time dir name s.next ∷ []) (at_next n x s at) (tt, tt) other)
 
 -- ---- a file, whose further bytes are put after it
 
@@ -143,29 +155,34 @@ file_makes page s time mode uid gid all dir name plain is_page =
 
 -- ---- the numbers that a write works on
 
-owners_cond : (b : Bool) (xs ys : List Step) → AllByRecursion HasOwner xs → AllByRecursion HasOwner ys → AllByRecursion HasOwner (cond b xs ys)
-owners_cond true xs ys h k = h
-owners_cond false xs ys h k = k
+all_cond : (P : Step → Type 0) (b : Bool) (xs ys : List Step) → AllByRecursion P xs → AllByRecursion P ys → AllByRecursion P (cond b xs ys)
+all_cond P true xs ys h k = h
+all_cond P false xs ys h k = k
 
-owners_append : (xs ys : List Step) → AllByRecursion HasOwner xs → AllByRecursion HasOwner ys → AllByRecursion HasOwner (xs ++ ys)
-owners_append [] ys h k = k
-owners_append (x ∷ xs) ys h k = (h.0, owners_append xs ys h.1 k)
+all_append : (P : Step → Type 0) (xs ys : List Step) → AllByRecursion P xs → AllByRecursion P ys → AllByRecursion P (xs ++ ys)
+all_append P [] ys h k = k
+all_append P (x ∷ xs) ys h k = (h.0, all_append P xs ys h.1 k)
 
-owners_flat : (f : ℕ → List Step) → ((n : ℕ) → AllByRecursion HasOwner (f n)) → (ns : List ℕ) → AllByRecursion HasOwner (flat_map f ns)
-owners_flat f h [] = tt
-owners_flat f h (n ∷ ns) = owners_append (f n) (flat_map f ns) (h n) (owners_flat f h ns)
+all_flat : (P : Step → Type 0) (f : ℕ → List Step) → ((n : ℕ) → AllByRecursion P (f n)) → (ns : List ℕ) → AllByRecursion P (flat_map f ns)
+all_flat P f h [] = tt
+all_flat P f h (n ∷ ns) = all_append P (f n) (flat_map f ns) (h n) (all_flat P f h ns)
 
-piece_owners : (time ino start : ℕ) (piece : List ℕ) → ino ≤ 0xFFFFFFFF → AllByRecursion HasOwner (piece_puts time ino start piece)
-piece_owners time ino start piece le =
-    owners_cond (length piece == spelling_len) (step.Put time ino start (take plain_page piece) ∷ step.Put time ino (start + plain_page) (drop plain_page piece) ∷ [])
-    (step.Put time ino start piece ∷ []) (le, (le, tt)) (le, tt)
+piece_all : (P : Step → Type 0) (time ino start : ℕ) (piece : List ℕ) → ((offset : ℕ) (new : List ℕ) → P (step.Put time ino offset new)) → AllByRecursion P (piece_puts time ino start piece)
+piece_all P time ino start piece put =
+    all_cond P (length piece == spelling_len) (step.Put time ino start (take plain_page piece) ∷ step.Put time ino (start + plain_page) (drop plain_page piece) ∷ [])
+    (step.Put time ino start piece ∷ []) (put start (take plain_page piece), (put (start + plain_page) (drop plain_page piece), tt)) (put start piece, tt)
+
+-- what holds of each put and of each hole holds of a write
+write_all : (P : Step → Type 0) (page time ino size offset : ℕ) (new : List ℕ) → ((offset : ℕ) (new : List ℕ) → P (step.Put time ino offset new)) → ((count : ℕ) → P (step.Zero time ino count))
+    → AllByRecursion P (write_steps page time ino size offset new)
+write_all P page time ino size offset [] put zero = tt
+write_all P page time ino size offset (b ∷ new) put zero =
+    all_append P (zeros_to time ino size offset) (puts page time ino offset (b ∷ new))
+    (all_cond P (nat_lt size offset) (step.Zero time ino (offset - size) ∷ []) [] (zero (offset - size), tt) tt)
+    (all_flat P (λ n. page_puts page time ino offset (b ∷ new) (offset / page + n)) (λ n. piece_all P time ino _ _ put) _)
 
 write_owners : (page time ino size offset : ℕ) (new : List ℕ) → ino ≤ 0xFFFFFFFF → AllByRecursion HasOwner (write_steps page time ino size offset new)
-write_owners page time ino size offset [] le = tt
-write_owners page time ino size offset (b ∷ new) le =
-    owners_append (zeros_to time ino size offset) (puts page time ino offset (b ∷ new))
-    (owners_cond (nat_lt size offset) (step.Zero time ino (offset - size) ∷ []) [] (le, tt) tt)
-    (owners_flat (λ n. page_puts page time ino offset (b ∷ new) (offset / page + n)) (λ n. piece_owners time ino _ _ le) _)
+write_owners page time ino size offset new le = write_all HasOwner page time ino size offset new (λ o n. le) (λ c. le)
 
 file_few : (page ino time mode uid gid : ℕ) (all : List ℕ) (last : Step) → IsPage page
     → length (bytes_steps page ino time mode uid gid all ++ last ∷ []) ≤ 8 + length all / 512
@@ -206,8 +223,11 @@ file_reaches page n x s time path mode uid gid all bits way name dir root made i
     (λ (few : n + (8 + length all / 512) + 4 ≤ 0xFFFFFFFF).
     let owner : dir ≤ 0xFFFFFFFF = few_numbers n x s at dir (at_numbered n x s at dir (there_of_directory s dir there)) (omega arith) in
     let owners : AllByRecursion HasOwner steps =
-    (tt, owners_append (write_steps page time s.next first first (drop first all)) (set ∷ []) (write_owners page time s.next first first (drop first all) (omega arith)) (owner, tt)) in
+    (tt, all_append HasOwner (write_steps page time s.next first first (drop first all)) (set ∷ []) (write_owners page time s.next first first (drop first all) (omega arith)) (owner, tt)) in
     not_spent page n x s o steps at are owners (omega arith))
     (λ (pass : Passes page x o). pass.room) has in
     made_reaches page n x s o steps (new_object time whole uid gid all) way name dir root made (8 + length all / 512) is_page at stands fits is_free are room
     (file_makes page s time whole uid gid all dir name (regular_is_plain mode bits) is_page) few_steps leads there free short
+    (λ k other. made_elsewhere s.next k x time whole uid gid (take first all) (write_steps page time s.next first first (drop first all) ++ set ∷ []) next
+    (all_append (IsOn s.next) (write_steps page time s.next first first (drop first all)) (set ∷ [])
+    (write_all (IsOn s.next) page time s.next first first (drop first all) (λ o n. refl) (λ c. refl)) (tt, tt)) other)

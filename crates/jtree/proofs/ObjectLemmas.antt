@@ -12,10 +12,13 @@ use Rattle.jsteps.specs.Where.{names_on_path}
 use Rattle.jnode.specs.Order.{bytes_in}
 use Rattle.jnode.specs.declared.order.Endian.TheVariants.{Little, Big}
 use Rattle.jsteps.specs.Device.{device_mode, device_number, new_number, old_number}
-use Rattle.jsteps.specs.Steps.{is_device, own_bytes}
+use Rattle.jsteps.specs.Steps.{after, bytes, is_device, own_bytes}
 use Rattle.jsteps.specs.declared.device.DeviceKind.{DeviceKind}
 use Rattle.jsteps.specs.declared.device.DeviceKind.TheVariants.{Character, Block}
+use Rattle.jsteps.specs.declared.op.Op.{Op}
 use Rattle.jsteps.specs.declared.op.Op.TheVariants as op
+use Rattle.jsteps.specs.declared.step.Step.{Step}
+use Rattle.jsteps.specs.declared.step.Step.TheVariants as step
 use Rattle.jsteps.proofs.OwnLemmas.{own_of}
 use Rattle.jfolder.specs.Actions.{AttributesFit, object_actions}
 use Rattle.jfolder.specs.Trees.{HasTarget, IsRegular, LinksBack}
@@ -26,12 +29,13 @@ use Rattle.jfolder.specs.declared.tree.What.TheVariants as what
 use Rattle.jtree.specs.Making.{Files, bytes_of_what, ops_with}
 use Rattle.jtree.specs.Holding.{first_path, object_of_what, object_with}
 use Rattle.jtree.proofs.AcceptLemmas.{device_free, fifo_free, file_free, make_steps_are, mkdir_free, socket_free, symlink_free}
-use Rattle.jtree.proofs.GainLemmas.{own}
+use Rattle.jtree.proofs.GainLemmas.{gained_leads, new_gains, own}
 use Rattle.jtree.proofs.ItemLemmas.{IsAhead, IsBuilt, Contains-from_map, Contains-mapped, ahead_placed, made_of, names_are, names_of}
 use Rattle.jtree.proofs.LinkLemmas.{IsTarget, link_reaches}
-use Rattle.jtree.proofs.MakeLemmas.{file_reaches, make_reaches, own_none}
+use Rattle.jtree.proofs.MakeLemmas.{file_reaches, make_makes, make_reaches, new_object, own_none, some_numbers}
+use Rattle.jtree.proofs.NodesLemmas.{Numbered, made_fill}
 use Rattle.jtree.proofs.RoomLemmas.{AreAllAccepted, HasRoom, Passes, not_large, one_passes, room_of}
-use Rattle.jtree.proofs.RunLemmas.{IsAt, Reaches, at_named, reaches_weaker}
+use Rattle.jtree.proofs.RunLemmas.{IsAt, Reaches, at_named, at_next, at_numbered, reaches_weaker}
 use Rattle.jtree.proofs.StandLemmas.{Made, Stands}
 
 abbrev pub made_at : Files → List ℕ → Attributes → What → Made
@@ -40,6 +44,21 @@ made_at files path a w = record { names = names_on_path path; origin = names_on_
 -- no item has this path yet
 abbrev pub IsFresh : List Item → List ℕ → Type 0
 IsFresh before path = (other : Item) → Contains before other → string_bytes other.path ≢ path
+
+-- an item's names lead to its object, whose newest node has a device's number
+abbrev pub IsNumbered : Endian → Indexed → State → State → List Step → List (List ℕ) → What → Type 0
+IsNumbered e x s t steps names (what.Device device major minor) = Numbered x s t steps names (device_number e major minor)
+IsNumbered e x s t steps names what.Directory = Unit {0}
+IsNumbered e x s t steps names (what.Regular file) = Unit {0}
+IsNumbered e x s t steps names what.Fifo = Unit {0}
+IsNumbered e x s t steps names what.Socket = Unit {0}
+IsNumbered e x s t steps names (what.Symlink target) = Unit {0}
+IsNumbered e x s t steps names (what.Link first) = Unit {0}
+
+-- the operations of one item, and the number of its device
+pub record Does (page n : ℕ) (e : Endian) (x : Indexed) (s : State) (ops : List Op) (root : ObjectOf (List ℕ)) (made : List Made) (most : ℕ) (names : List (List ℕ)) (w : What) : Type 0 where
+  pub reached : Reaches page n x s ops root made most
+  pub numbered : IsNumbered e x s (after bytes s reached.steps) reached.steps names w
 
 regular_mode : (mode : ℕ) → mode ≤ 0o7777 → (type_bits (0o100000 + mode) == regular_bits) ≡ true
 regular_mode mode fits = eq-eqb ((0o100000 + mode) / 4096 % 16) 8 (omega arith)
@@ -90,19 +109,39 @@ number_few e major minor =
 
 device_reaches : (page n : ℕ) (e : Endian) (x : Indexed) (s : State) (files : Files) (path : List ℕ) (a : Attributes) (device : DeviceKind) (major minor : ℕ) (root : ObjectOf (List ℕ)) (made : List Made)
     → IsPage page → IsAt n x s → Stands root made s → IsAhead path s → AttributesFit a → HasRoom n page x (op.Device a.time path device a.mode a.uid a.gid (device_number e major minor))
-    → Reaches page n x s (ops_with e files (object_actions path a (what.Device device major minor))) root (made ++ made_at files path a (what.Device device major minor) ∷ []) 2
+    → Does page n e x s (ops_with e files (object_actions path a (what.Device device major minor))) root (made ++ made_at files path a (what.Device device major minor) ∷ []) 2
+    (names_on_path path) (what.Device device major minor)
 device_reaches page n e x s files path a device major minor root made is_page at stands ahead fits few =
     let p = ahead_placed n x s path at ahead in
     let number = device_number e major minor in
+    let mode = device_mode device + a.mode in
     let o = op.Device a.time path device a.mode a.uid a.gid number in
-    subst (λ ns. Reaches page n x s (o ∷ []) root (made ++ own ns (object_of_what files a (what.Device device major minor)) ∷ []) 2)
-    (sym (names_are path (ahead.way ++ ahead.name ∷ []) ahead.path_is))
-    (make_reaches page n x s o a.time (device_mode device + a.mode) a.uid a.gid number [] (own_device device a.mode number fits.mode) ahead.way ahead.name ahead.dir root made
-    is_page at stands
-    (fits.time, fits.uid, fits.gid, number_few e major minor)
-    (device_free page x a.time path device a.mode a.uid a.gid number ahead.dir ahead.name p (at_named n x s at ahead.dir ahead.name ∙ ahead.free) fits.mode)
-    (make_steps_are x.tree a.time path (device_mode device + a.mode) a.uid a.gid number ahead.dir ahead.name p)
-    ahead.leads ahead.directory ahead.free ahead.short few)
+    let names = ahead.way ++ ahead.name ∷ [] in
+    let none : own_bytes mode number ≡ [] = own_device device a.mode number fits.mode in
+    let steps = step.MakeObject a.time mode a.uid a.gid number ∷ step.SetName a.time ahead.dir ahead.name s.next ∷ [] in
+    let t = after bytes s steps in
+    let makes = make_makes s a.time mode a.uid a.gid number [] ahead.dir ahead.name none in
+    let gains = new_gains s t ahead.dir ahead.name (new_object a.time mode a.uid a.gid []) makes (at_numbered n x s at) ahead.free in
+    let next : t.next ≡ s.next + 1 = makes.next in
+    let numbered : Numbered x s t steps names number = record {
+      number = s.next;
+      below_root = some_numbers n x s at;
+      new = omega arith;
+      used = omega arith;
+      leads = gained_leads s t ahead.way ahead.name ahead.dir s.next gains ahead.leads ahead.directory;
+      fill_is = made_fill s.next x a.time mode a.uid a.gid number a.time ahead.dir ahead.name s.next (at_next n x s at);
+    } in
+    subst (λ ns. Does page n e x s (o ∷ []) root (made ++ own ns (object_of_what files a (what.Device device major minor)) ∷ []) 2 ns (what.Device device major minor))
+    (sym (names_are path names ahead.path_is))
+    (record {
+      reached = make_reaches page n x s o a.time mode a.uid a.gid number [] none ahead.way ahead.name ahead.dir root made
+          is_page at stands
+          (fits.time, fits.uid, fits.gid, number_few e major minor)
+          (device_free page x a.time path device a.mode a.uid a.gid number ahead.dir ahead.name p (at_named n x s at ahead.dir ahead.name ∙ ahead.free) fits.mode)
+          (make_steps_are x.tree a.time path mode a.uid a.gid number ahead.dir ahead.name p)
+          ahead.leads ahead.directory ahead.free ahead.short few;
+      numbered = numbered;
+    })
 
 fifo_reaches : (page n : ℕ) (e : Endian) (x : Indexed) (s : State) (files : Files) (path : List ℕ) (a : Attributes) (root : ObjectOf (List ℕ)) (made : List Made)
     → IsPage page → IsAt n x s → Stands root made s → IsAhead path s → AttributesFit a → HasRoom n page x (op.Fifo a.time path a.mode a.uid a.gid)
@@ -205,41 +244,52 @@ pub record AreFewOf (n : ℕ) (files : Files) (w : What) : Type 0 where
   pub short : length (bytes_of_what files w) ≤ 2147483647
   pub few : n + (8 + length (bytes_of_what files w) / 512) + 4 ≤ 0xFFFFFFFF
 
+-- the same by more steps
+does_weaker : (page n : ℕ) (e : Endian) (x : Indexed) (s : State) (ops : List Op) (root : ObjectOf (List ℕ)) (made : List Made) (few most : ℕ) (names : List (List ℕ)) (w : What) → few ≤ most
+    → Does page n e x s ops root made few names w → Does page n e x s ops root made most names w
+does_weaker page n e x s ops root made few most names w le d = record { reached = reaches_weaker page n x s ops root made few most le d.reached; numbered = d.numbered }
+
 pub object_reaches : (page n : ℕ) (e : Endian) (x : Indexed) (s : State) (files : Files) (path : List ℕ) (a : Attributes) (w : What) (root : ObjectOf (List ℕ))
     (before : List Item)
     → IsPage page → IsBuilt files root before n x s → IsAhead path s → IsFresh before path → LinksBack before w → HasTarget w → AttributesFit a
     → AreFewOf n files w ⊎ AreAllAccepted page x (ops_with e files (object_actions path a w))
-    → Reaches page n x s (ops_with e files (object_actions path a w)) root (map (made_of files) before ++ made_at files path a w ∷ [])
-    (8 + length (bytes_of_what files w) / 512)
+    → Does page n e x s (ops_with e files (object_actions path a w)) root (map (made_of files) before ++ made_at files path a w ∷ [])
+    (8 + length (bytes_of_what files w) / 512) (names_on_path path) w
 object_reaches page n e x s files path a what.Directory root before is_page built ahead fresh links target fits has =
-    reaches_weaker page n x s (ops_with e files (object_actions path a what.Directory)) root
+    let reached = reaches_weaker page n x s (ops_with e files (object_actions path a what.Directory)) root
     (map (made_of files) before ++ made_at files path a what.Directory ∷ []) 2 (8 + length (bytes_of_what files what.Directory) / 512) (omega arith)
     (directory_reaches page n e x s files path a root (map (made_of files) before) is_page built.is_at built.stands ahead fits
-    (room_of n page x (op.Mkdir a.time path a.mode a.uid a.gid) (λ (few : AreFewOf n files what.Directory). let some : n + (8 + length (bytes_of_what files what.Directory) / 512) + 4 ≤ 0xFFFFFFFF = few.few in omega arith) has))
+    (room_of n page x (op.Mkdir a.time path a.mode a.uid a.gid) (λ (few : AreFewOf n files what.Directory). let some : n + (8 + length (bytes_of_what files what.Directory) / 512) + 4 ≤ 0xFFFFFFFF = few.few in omega arith) has)) in
+    record { reached = reached; numbered = tt }
 object_reaches page n e x s files path a (what.Regular file) root before is_page built ahead fresh links target fits has =
-    regular_reaches page n x s path a (files (string_bytes file)) root (map (made_of files) before) is_page built.is_at built.stands ahead fits
-    (⊎_elim (λ (few : AreFewOf n files (what.Regular file)). inl (few.short, few.few)) (λ all. inr (one_passes page x (op.File a.time path a.mode a.uid a.gid (files (string_bytes file))) all)) has)
+    let reached = regular_reaches page n x s path a (files (string_bytes file)) root (map (made_of files) before) is_page built.is_at built.stands ahead fits
+    (⊎_elim (λ (few : AreFewOf n files (what.Regular file)). inl (few.short, few.few)) (λ all. inr (one_passes page x (op.File a.time path a.mode a.uid a.gid (files (string_bytes file))) all)) has) in
+    record { reached = reached; numbered = tt }
 object_reaches page n e x s files path a (what.Device device major minor) root before is_page built ahead fresh links target fits has =
-    reaches_weaker page n x s (ops_with e files (object_actions path a (what.Device device major minor))) root
-    (map (made_of files) before ++ made_at files path a (what.Device device major minor) ∷ []) 2 (8 + length (bytes_of_what files (what.Device device major minor)) / 512) (omega arith)
+    does_weaker page n e x s (ops_with e files (object_actions path a (what.Device device major minor))) root
+    (map (made_of files) before ++ made_at files path a (what.Device device major minor) ∷ []) 2 (8 + length (bytes_of_what files (what.Device device major minor)) / 512) (names_on_path path)
+    (what.Device device major minor) (omega arith)
     (device_reaches page n e x s files path a device major minor root (map (made_of files) before) is_page built.is_at built.stands ahead fits
     (room_of n page x (op.Device a.time path device a.mode a.uid a.gid (device_number e major minor)) (λ (few : AreFewOf n files (what.Device device major minor)). let some : n + (8 + length (bytes_of_what files (what.Device device major minor)) / 512) + 4 ≤ 0xFFFFFFFF = few.few in omega arith) has))
 object_reaches page n e x s files path a what.Fifo root before is_page built ahead fresh links target fits has =
-    reaches_weaker page n x s (ops_with e files (object_actions path a what.Fifo)) root
+    let reached = reaches_weaker page n x s (ops_with e files (object_actions path a what.Fifo)) root
     (map (made_of files) before ++ made_at files path a what.Fifo ∷ []) 2 (8 + length (bytes_of_what files what.Fifo) / 512) (omega arith)
     (fifo_reaches page n e x s files path a root (map (made_of files) before) is_page built.is_at built.stands ahead fits
-    (room_of n page x (op.Fifo a.time path a.mode a.uid a.gid) (λ (few : AreFewOf n files what.Fifo). let some : n + (8 + length (bytes_of_what files what.Fifo) / 512) + 4 ≤ 0xFFFFFFFF = few.few in omega arith) has))
+    (room_of n page x (op.Fifo a.time path a.mode a.uid a.gid) (λ (few : AreFewOf n files what.Fifo). let some : n + (8 + length (bytes_of_what files what.Fifo) / 512) + 4 ≤ 0xFFFFFFFF = few.few in omega arith) has)) in
+    record { reached = reached; numbered = tt }
 object_reaches page n e x s files path a what.Socket root before is_page built ahead fresh links target fits has =
-    reaches_weaker page n x s (ops_with e files (object_actions path a what.Socket)) root
+    let reached = reaches_weaker page n x s (ops_with e files (object_actions path a what.Socket)) root
     (map (made_of files) before ++ made_at files path a what.Socket ∷ []) 2 (8 + length (bytes_of_what files what.Socket) / 512) (omega arith)
     (socket_reaches page n e x s files path a root (map (made_of files) before) is_page built.is_at built.stands ahead fits
-    (room_of n page x (op.Socket a.time path a.mode a.uid a.gid) (λ (few : AreFewOf n files what.Socket). let some : n + (8 + length (bytes_of_what files what.Socket) / 512) + 4 ≤ 0xFFFFFFFF = few.few in omega arith) has))
+    (room_of n page x (op.Socket a.time path a.mode a.uid a.gid) (λ (few : AreFewOf n files what.Socket). let some : n + (8 + length (bytes_of_what files what.Socket) / 512) + 4 ≤ 0xFFFFFFFF = few.few in omega arith) has)) in
+    record { reached = reached; numbered = tt }
 object_reaches page n e x s files path a (what.Symlink t) root before is_page built ahead fresh links target fits has =
-    reaches_weaker page n x s (ops_with e files (object_actions path a (what.Symlink t))) root
+    let reached = reaches_weaker page n x s (ops_with e files (object_actions path a (what.Symlink t))) root
     (map (made_of files) before ++ made_at files path a (what.Symlink t) ∷ []) 2 (8 + length (bytes_of_what files (what.Symlink t)) / 512) (omega arith)
     (symlink_reaches page n x s files path a (string_bytes t) root (map (made_of files) before) is_page built.is_at built.stands ahead fits target.0
     target.1 target.2
-    (room_of n page x (op.Symlink a.time path (string_bytes t) a.uid a.gid) (λ (few : AreFewOf n files (what.Symlink t)). let some : n + (8 + length (bytes_of_what files (what.Symlink t)) / 512) + 4 ≤ 0xFFFFFFFF = few.few in omega arith) has))
+    (room_of n page x (op.Symlink a.time path (string_bytes t) a.uid a.gid) (λ (few : AreFewOf n files (what.Symlink t)). let some : n + (8 + length (bytes_of_what files (what.Symlink t)) / 512) + 4 ≤ 0xFFFFFFFF = few.few in omega arith) has)) in
+    record { reached = reached; numbered = tt }
 object_reaches page n e x s files path a (what.Link first) root before is_page built ahead fresh links target fits has =
     let i = links.0 in
     let names = ahead.way ++ ahead.name ∷ [] in
@@ -248,9 +298,10 @@ object_reaches page n e x s files path a (what.Link first) root before is_page b
     let is = target_of files root before n x s i (string_bytes first) built links.1 links.2 i.what refl links.3 in
     let origin : m.origin ≡ f.names = ap names_on_path (sym links.2) in
     let here : m.names ≡ names = names_are path names ahead.path_is in
-    reaches_weaker page n x s (ops_with e files (object_actions path a (what.Link first))) root (map (made_of files) before ++ m ∷ []) 1
+    let reached = reaches_weaker page n x s (ops_with e files (object_actions path a (what.Link first))) root (map (made_of files) before ++ m ∷ []) 1
     (8 + length (bytes_of_what files (what.Link first)) / 512) (omega arith)
     (link_reaches page n x s a.time (string_bytes first) path f m root (map (made_of files) before) is_page built.is_at built.stands is ahead fits.time
     here origin
     (λ e. fresh_names files root before n x s path names built ahead.path_is fresh f is.among (sym origin ∙ sym e ∙ here))
-    (room_of n page x (op.Link a.time (string_bytes first) path) (λ (few : AreFewOf n files (what.Link first)). let some : n + (8 + length (bytes_of_what files (what.Link first)) / 512) + 4 ≤ 0xFFFFFFFF = few.few in omega arith) has))
+    (room_of n page x (op.Link a.time (string_bytes first) path) (λ (few : AreFewOf n files (what.Link first)). let some : n + (8 + length (bytes_of_what files (what.Link first)) / 512) + 4 ≤ 0xFFFFFFFF = few.few in omega arith) has)) in
+    record { reached = reached; numbered = tt }

@@ -25,6 +25,7 @@ use Rattle.jsteps.proofs.StepsLemmas.{outline_of_step}
 use Rattle.jsteps.proofs.TakenLemmas.{advanced_all-append}
 use Rattle.jtree.proofs.AppendLemmas.{after-append}
 use Rattle.jtree.proofs.CountLemmas.{IsCounted, counted_all}
+use Rattle.jtree.proofs.NodesLemmas.{Writes, writes_none, writes_then}
 use Rattle.jtree.proofs.StandLemmas.{Made, Stands}
 
 -- ---- a state with its index, after so many steps
@@ -131,24 +132,25 @@ pub record Reaches (page n : ℕ) (x : Indexed) (s : State) (ops : List Op) (roo
   pub is_at : IsAt (n + length steps) (advanced_all x steps) (after bytes s steps)
   pub stands : Stands root made (after bytes s steps)
   pub few : length steps ≤ most
+  pub writes : Writes x s (after bytes s steps) steps
 
-fits_append : (xs ys : List Op) → AllByRecursion OpFits xs → AllByRecursion OpFits ys → AllByRecursion OpFits (xs ++ ys)
+pub fits_append : (xs ys : List Op) → AllByRecursion OpFits xs → AllByRecursion OpFits ys → AllByRecursion OpFits (xs ++ ys)
 fits_append [] ys front back = back
 fits_append (x ∷ xs) ys front back = (front.0, fits_append xs ys front.1 back)
 
-ready_append : (x : Indexed) (xs ys : List Step) → AllReady x xs → AllReady (advanced_all x xs) ys → AllReady x (xs ++ ys)
+pub ready_append : (x : Indexed) (xs ys : List Step) → AllReady x xs → AllReady (advanced_all x xs) ys → AllReady x (xs ++ ys)
 ready_append x [] ys ready then = then
 ready_append x (a ∷ xs) ys ready then = (ready.0, ready_append (advanced x a) xs ys ready.1 then)
 
 pub reaches_none : (page n : ℕ) (x : Indexed) (s : State) (root : ObjectOf (List ℕ)) (made : List Made) → IsAt n x s → Stands root made s
     → Reaches page n x s [] root made 0
 reaches_none page n x s root made at stands = let same : n ≡ n + 0 = omega arith in
-    record { steps = []; runs = refl; ready = tt; op_fits = tt; is_at = subst (λ m. IsAt m x s) same at; stands = stands; few = omega arith }
+    record { steps = []; runs = refl; ready = tt; op_fits = tt; is_at = subst (λ m. IsAt m x s) same at; stands = stands; few = omega arith; writes = writes_none x s }
 
-pub reaches_one : (page n : ℕ) (x : Indexed) (s : State) (o : Op) (steps : List Step) (root : ObjectOf (List ℕ)) (made : List Made) (most : ℕ)
+abbrev pub reaches_one : (page n : ℕ) (x : Indexed) (s : State) (o : Op) (steps : List Step) (root : ObjectOf (List ℕ)) (made : List Made) (most : ℕ)
     → IsPage page → IsAt n x s → OpFits o
-    → planned_by page x o ≡ Ok steps → Stands root made (after bytes s steps) → length steps ≤ most → Reaches page n x s (o ∷ []) root made most
-reaches_one page n x s o steps root made most is_page at fits e stands few =
+    → planned_by page x o ≡ Ok steps → Stands root made (after bytes s steps) → length steps ≤ most → Writes x s (after bytes s steps) steps → Reaches page n x s (o ∷ []) root made most
+reaches_one page n x s o steps root made most is_page at fits e stands few writes =
     record {
       steps = steps;
       runs = (steps, [], e, sym (append-nil steps), refl);
@@ -157,9 +159,10 @@ reaches_one page n x s o steps root made most is_page at fits e stands few =
       is_at = go_on page n x s o steps is_page at fits e;
       stands = stands;
       few = few;
+      writes = writes;
     }
 
-pub reaches_then : (page n : ℕ) (x : Indexed) (s : State) (xs ys : List Op) (root : ObjectOf (List ℕ)) (made more : List Made) (a b : ℕ)
+abbrev pub reaches_then : (page n : ℕ) (x : Indexed) (s : State) (xs ys : List Op) (root : ObjectOf (List ℕ)) (made more : List Made) (a b : ℕ)
     → (r : Reaches page n x s xs root made a)
     → Reaches page (n + length r.steps) (advanced_all x r.steps) (after bytes s r.steps) ys root more b → Reaches page n x s (xs ++ ys) root more (a + b)
 reaches_then page n x s xs ys root made more a b r q =
@@ -178,9 +181,11 @@ reaches_then page n x s xs ys root made more a b r q =
           (subst (λ t. IsAt (n + length r.steps + length q.steps) (advanced_all (advanced_all x r.steps) q.steps) t) state q.is_at));
       stands = subst (Stands root more) state q.stands;
       few = omega (arith, length-append r.steps q.steps);
+      writes = subst (λ t. Writes x s t (r.steps ++ q.steps)) state
+          (writes_then x s (after bytes s r.steps) (after bytes (after bytes s r.steps) q.steps) r.steps q.steps r.writes q.writes);
     }
 
-pub reaches_weaker : (page n : ℕ) (x : Indexed) (s : State) (ops : List Op) (root : ObjectOf (List ℕ)) (made : List Made) (few most : ℕ) → few ≤ most
+abbrev pub reaches_weaker : (page n : ℕ) (x : Indexed) (s : State) (ops : List Op) (root : ObjectOf (List ℕ)) (made : List Made) (few most : ℕ) → few ≤ most
     → Reaches page n x s ops root made few → Reaches page n x s ops root made most
 reaches_weaker page n x s ops root made few most le r = let here : length r.steps ≤ few = r.few in
-    record { steps = r.steps; runs = r.runs; ready = r.ready; op_fits = r.op_fits; is_at = r.is_at; stands = r.stands; few = omega arith }
+    record { steps = r.steps; runs = r.runs; ready = r.ready; op_fits = r.op_fits; is_at = r.is_at; stands = r.stands; few = omega arith; writes = r.writes }

@@ -1,28 +1,36 @@
 -- What stands after all items is the tree, and nothing else.
-use Rattle.std.proofs.Common.{◌≡◌, ℕ, ◌+◌, ◌≤◌, List, [], ◌∷◌, ◌++◌, length, map, Option, Some, None, Result, Ok, refl, ap, sym, ◌∙◌, subst, inl, inr, ◌⊎◌, ⊎_elim, arith}
+use Rattle.std.proofs.Common.{◌≡◌, ℕ, ◌+◌, ◌*◌, ◌≤◌, List, [], ◌∷◌, ◌++◌, length, map, Option, Some, None, Result, Ok, refl, ap, sym, ◌∙◌, subst, inl, inr, ◌⊎◌, ⊎_elim, arith}
 use Rattle.std.specs.Prelude.{Contains, flat_map, is_ok}
 use Rattle.std.specs.String.{string_bytes}
 use Rattle.std.proofs.lemmas.Bool.{false≢true}
 use Rattle.std.specs.List.{AllByRecursion}
 use Rattle.jmount.specs.Mounts.{MountsAs, plain_nodes}
-use Rattle.jsteps.specs.Laws.{OpFits}
+use Rattle.jsteps.specs.Laws.{GoesOn, OpFits}
 use Rattle.jscan.specs.Pages.{IsPage}
 use Rattle.jsteps.specs.Refusals.{plans_of, steps_of_first}
 use Rattle.jnode.specs.declared.order.Endian.{Endian}
 use Rattle.jlisting.specs.Listing.{lines_of}
 use Rattle.jfolder.specs.Text.{listing_text}
 use Rattle.jfolder.specs.Trees.{IsTree}
-use Rattle.jlog.proofs.HeadlineLemmas.{accepted_survives}
+use Rattle.jlog.specs.Headline.{new_nodes}
+use Rattle.jlog.specs.Output.{output}
+use Rattle.jlog.proofs.HeadlineLemmas.{accepted_survives, all_fit, readable, soundly}
+use Rattle.jlog.proofs.SoundLemmas.{whole_is_sound}
+use Rattle.jnode.specs.Writing.{canonical}
+use Rattle.jnode.specs.declared.node.NodeRef.{NodeRef}
+use Rattle.jscan.specs.Blank.{blank_from}
+use Rattle.jsteps.proofs.GoesOnLemmas.{planned_goes_on}
 use Rattle.jmount.specs.Find.{IsPath, path_text, path_names, find, find_names, walk}
 use Rattle.jmount.specs.StateOf.{state_of}
 use Rattle.jmount.specs.Tree.{ObjectOf, State}
 use Rattle.jmount.specs.Shape.{HasShape}
 use Rattle.jmount.proofs.PathNameLemmas.{path_names_exactly}
 use Rattle.jmount.proofs.ShapePathLemmas.{one_path_to_each}
-use Rattle.jsteps.specs.Nodes.{advanced_all, index_of, nodes_of}
+use Rattle.jsteps.specs.Nodes.{Indexed, advanced_all, index_of, nodes_of}
 use Rattle.jsteps.specs.Steps.{bytes, after}
 use Rattle.jsteps.specs.Where.{names_on_path}
 use Rattle.jsteps.specs.declared.op.Op.{Op}
+use Rattle.jsteps.specs.declared.step.Step.{Step}
 use Rattle.jlisting.specs.declared.line.Line.{Line}
 use Rattle.jbuild.specs.Operations.{ops_in}
 use Rattle.jfolder.specs.Actions.{FitsListing, actions_of, item_actions}
@@ -37,15 +45,17 @@ use Rattle.jtree.specs.Image.{IsWrittenFor}
 use Rattle.jtree.specs.Laws as law
 use Rattle.jtree.specs.Laws.{MakesTree}
 use Rattle.jtree.specs.Making.{AreFew, Files, FilesFit, op_with, ops_with}
+use Rattle.jtree.specs.Numbers.{HasDeviceNumber, HaveDeviceNumbers}
 use Rattle.jsteps.proofs.SeveralLemmas.{nodes_are_steps}
 use Rattle.jtree.proofs.BeginLemmas.{root_op, root_reaches}
+use Rattle.jtree.proofs.AppendLemmas.{after-append}
 use Rattle.jtree.proofs.ItemLemmas.{IsKnown, Contains-from_map, Contains-mapped, made_of, names_of}
-use Rattle.jtree.proofs.ObjectLemmas.{made_at}
+use Rattle.jtree.proofs.ObjectLemmas.{IsNumbered, made_at}
 use Rattle.jtree.proofs.RunLemmas.{reaches_then, runs_all, runs_steps}
 use Rattle.jtree.proofs.StandLemmas.{IsHeld, Made, Stands}
 use Rattle.jtree.proofs.WayLemmas.{path_is, walk_last}
 use Rattle.jtree.proofs.RoomLemmas.{AreAllAccepted, accepted_back}
-use Rattle.jtree.proofs.WholeLemmas.{AreFewFrom, items_done}
+use Rattle.jtree.proofs.WholeLemmas.{AreFewFrom, items_done, numbered_after}
 
 -- ---- paths
 
@@ -169,16 +179,28 @@ holds_tree s files root items stands known shape = record {
       (stands.objects_are number e);
 }
 
+-- ---- the numbers of devices
+
+has_number : (e : Endian) (x : Indexed) (s t : State) (steps : List Step) (path : List ℕ) (w : What) → IsPath path (names_on_path path) → IsNumbered e x s t steps (names_on_path path) w
+    → HasDeviceNumber e (nodes_of x steps) t path w
+has_number e x s t steps path (what.Device device major minor) is numbered = (numbered.number, found_is t path (names_on_path path) is ∙ numbered.leads, numbered.fill_is)
+has_number e x s t steps path what.Directory is numbered = tt
+has_number e x s t steps path (what.Regular file) is numbered = tt
+has_number e x s t steps path what.Fifo is numbered = tt
+has_number e x s t steps path what.Socket is numbered = tt
+has_number e x s t steps path (what.Symlink target) is numbered = tt
+has_number e x s t steps path (what.Link first) is numbered = tt
+
 -- ---- the law
 
 -- the law, and the widths of what the operations have
-pub record IsLawful (page : ℕ) (files : Files) (root : Attributes) (items : List Item) (ops : List Op) : Type 0 where
-  pub makes : MakesTree page files root items ops
+pub record IsLawful (page : ℕ) (e : Endian) (files : Files) (root : Attributes) (items : List Item) (ops : List Op) : Type 0 where
+  pub makes : MakesTree page e files root items ops
   pub op_fits : AllByRecursion OpFits ops
 
 lawful : (page : ℕ) (e : Endian) (files : Files) (root : Attributes) (items : List Item) → IsPage page → FitsListing root items → IsTree items
     → (FilesFit files items × AreFew files items) ⊎ AreAllAccepted page (index_of []) (ops_with e files (actions_of root items))
-    → IsLawful page files root items (ops_with e files (actions_of root items))
+    → IsLawful page e files root items (ops_with e files (actions_of root items))
 unfolding actions_of
 lawful page e files root items is_page fits tree has =
     let s = state_of [] in
@@ -197,14 +219,20 @@ lawful page e files root items is_page fits tree has =
     tree fits.items_fit room in
     let ops : List Op = ops_with e files (actions_of root items) in
     let r = reaches_then page 0 x s (root_op root ∷ []) (ops_with e files (flat_map item_actions items)) (root_object root) [] (map (made_of files) items) 1
-    _ one all.reached in
+    _ one all.does.reached in
+    let rest = all.does.reached in
     let these = sym (runs_steps page x ops r.steps r.runs) in
     let holds = holds_tree (after bytes s r.steps) files root items r.stands all.known r.is_at.shape in
-    let makes : MakesTree page files root items ops = record {
+    let numbered : (j : Item) → Contains items j → HasDeviceNumber e (nodes_of x r.steps) (after bytes s r.steps) (string_bytes j.path) j.what = λ j among.
+    has_number e x s (after bytes s r.steps) r.steps (string_bytes j.path) j.what (all.known j among).path
+    (subst (λ (v : State). IsNumbered e x s v (one.steps ++ rest.steps) (names_of j) j.what) (sym (after-append s one.steps rest.steps))
+    (numbered_after e x s (after bytes s one.steps) (after bytes (after bytes s one.steps) rest.steps) one.steps rest.steps (names_of j) j.what one.writes (all.does.numbered j among))) in
+    let makes : MakesTree page e files root items ops = record {
       accepted = runs_all page x ops r.steps r.runs;
       holds = subst (λ steps. HoldsTree files root items (after bytes s steps)) these holds;
       written = subst (λ steps. HoldsTree files root items (state_of (nodes_of x steps))) these
           (subst (HoldsTree files root items) (sym (nodes_are_steps [] r.steps r.ready).state) holds);
+      numbered = subst (λ steps. HaveDeviceNumbers e (nodes_of x steps) (after bytes s steps) items) these numbered;
     } in
     record { makes = makes; op_fits = r.op_fits }
 
@@ -228,10 +256,10 @@ lines_ops e files root items lines fits is =
 
 pub lines_lawful : (page : ℕ) (e : Endian) (files : Files) (root : Attributes) (items : List Item) (lines : List Line) → IsPage page → FitsListing root items → IsTree items
     → (FilesFit files items × AreFew files items) ⊎ AreAllAccepted page (index_of []) (ops_in e files lines) → lines_of (listing_text root items) ≡ Ok lines
-    → IsLawful page files root items (ops_in e files lines)
+    → IsLawful page e files root items (ops_in e files lines)
 lines_lawful page e files root items lines is_page fits tree has is =
     let same = lines_ops e files root items lines fits is in
-    subst (IsLawful page files root items) (sym same) (lawful page e files root items is_page fits tree
+    subst (IsLawful page e files root items) (sym same) (lawful page e files root items is_page fits tree
     (⊎_elim (λ few. inl few) (λ all. inr (subst (AreAllAccepted page (index_of [])) same all)) has))
 
 pub text_makes_tree : law.TextMakesTree
@@ -241,17 +269,31 @@ text_makes_tree page e files root items is_page fits tree short few =
 
 pub image_of_lines : (page : ℕ) (e : Endian) (size blocks : ℕ) (base image : List ℕ) (files : Files) (root : Attributes) (items : List Item) (lines : List Line) → FitsListing root items → IsTree items
     → (FilesFit files items × AreFew files items) ⊎ AreAllAccepted page (index_of []) (ops_in e files lines) → lines_of (listing_text root items) ≡ Ok lines
-    → IsWrittenFor page e size blocks base (ops_in e files lines) image → (s : State) × MountsAs e size image s × HoldsTree files root items s
+    → IsWrittenFor page e size blocks base (ops_in e files lines) image
+    → (s : State) × MountsAs e size image s × HoldsTree files root items s × HaveDeviceNumbers e (plain_nodes e size image) s items
 image_of_lines page e size blocks base image files root items lines fits tree has read is =
     let ops = ops_in e files lines in
     let made = lines_lawful page e files root items lines is.page_is fits tree has read in
     let planned : length (plans_of page (index_of (plain_nodes e size base)) ops) ≡ length ops =
     subst (λ ns. length (plans_of page (index_of ns) ops) ≡ length ops) (sym is.bare) made.makes.accepted in
+    let ns : List NodeRef = plain_nodes e size base in
+    let steps : List Step = steps_of_first page (index_of ns) ops (length ops) in
+    let new : List NodeRef = new_nodes e size base steps in
+    let block : ℕ = blank_from e size base blocks in
+    let go : GoesOn page ns steps =
+    planned_goes_on page ns ops (length ops) is.page_is (all_fit e size base (readable e size blocks base is.base_is) is.are_bytes) is.base_is.mounts.root made.op_fits in
+    let sound = whole_is_sound e size blocks block (length (output e size (block * size) (map (canonical e) new))) base image new
+    (soundly page e size blocks base steps is.page_is is.room is.base_is is.fits go) (omega arith) is.left in
+    let are : plain_nodes e size image ≡ new = sound.nodes ∙ ap (λ (l : List NodeRef). l ++ new) is.bare in
+    let numbered : HaveDeviceNumbers e new (after bytes (state_of ns) steps) items =
+    subst (λ (l : List NodeRef). HaveDeviceNumbers e (nodes_of (index_of l) (steps_of_first page (index_of l) ops (length ops))) (after bytes (state_of l) (steps_of_first page (index_of l) ops (length ops))) items)
+    (sym is.bare) made.makes.numbered in
     let survives = accepted_survives page e size blocks (length ops) base ops is.page_is is.room is.base_is is.are_bytes made.op_fits
     (record { planned = omega arith; fits = is.fits }) in (
       after bytes (state_of (plain_nodes e size base)) (steps_of_first page (index_of (plain_nodes e size base)) ops (length ops)),
       survives.whole image is.left,
       subst (λ ns. HoldsTree files root items (after bytes (state_of ns) (steps_of_first page (index_of ns) ops (length ops)))) (sym is.bare) made.makes.holds,
+      subst (λ (l : List NodeRef). HaveDeviceNumbers e l (after bytes (state_of ns) steps) items) (sym are) numbered,
     )
 
 pub image_holds_tree : image.ImageHoldsTree

@@ -22,6 +22,7 @@ use Rattle.jfolder.specs.declared.tree.Attributes.{Attributes}
 use Rattle.jfolder.specs.declared.tree.Item.{Item}
 use Rattle.jtree.specs.Holding.{HoldsTree}
 use Rattle.jtree.specs.Making.{Files, FilesFit, AreFew}
+use Rattle.jtree.specs.Numbers.{HaveDeviceNumbers}
 
 -- the nodes of operations, as they are written on a base
 abbrev pub nodes_on : ℕ → Endian → ℕ → List ℕ → List Op → List (List ℕ)
@@ -48,7 +49,7 @@ pub record IsWrittenFor (page : ℕ) (e : Endian) (size blocks : ℕ) (base : Li
       (out_for page e size blocks base ops) (length (out_for page e size blocks base ops)) image
 
 -- The image that is written for the lines of a tree's text mounts, as a file system that holds the
--- tree and nothing else.
+-- tree and nothing else; its nodes have the numbers of the tree's devices.
 abbrev pub ImageHoldsTree : Type 0
 ImageHoldsTree = (page : ℕ) (e : Endian) (size blocks : ℕ) (base image : List ℕ) (files : Files)
     (root : Attributes) (items : List Item) (lines : List Line)
@@ -56,6 +57,7 @@ ImageHoldsTree = (page : ℕ) (e : Endian) (size blocks : ℕ) (base image : Lis
     → lines_of (listing_text root items) ≡ Ok lines
     → IsWrittenFor page e size blocks base (ops_in e files lines) image
     → (s : State) × MountsAs e size image s × HoldsTree files root items s
+    × HaveDeviceNumbers e (plain_nodes e size image) s items
 
 -- The empty image is such a base of any flash that is written.
 pub record IsBareBase (e : Endian) (size blocks : ℕ) (base : List ℕ) : Type 0 where

@@ -1,5 +1,6 @@
 pub mod Making
 pub mod Holding
+pub mod Numbers
 pub mod Laws
 pub mod Examples
 pub mod Image

@@ -11,7 +11,7 @@ use jline::put_escaped;
 use jmount::{FindFault, MountFault, mount};
 use jreport::{
     Found, ImageFault, ProgramFault, content, found_in, image_check, image_file, image_tree,
-    put_note, refuse_findings, refuse_no_nodes,
+    put_named_notes, put_note, refuse_findings, refuse_no_nodes,
 };
 use jscan::{GREATEST_IMAGE, Geometry};
 use std::alloc::Global;
@@ -375,6 +375,51 @@ fn notes(rt: HostRuntime) {
     for &(findings, wanted) in counted() {
         let mut sink = FromWriter::new(Vec::new(rt.alloc()));
         equal(&rt, put_note(findings, &mut sink), Ok(()));
+        equal(&rt, sink.into_writer().as_slice(), wanted);
+    }
+}
+
+/// Names and numbers of findings, of two images, and what is noted of them.
+type Named = (&'static [u8], u64, &'static [u8], u64, &'static [u8]);
+
+fn named() -> &'static [Named] {
+    &[
+        (b"a", 0, b"b", 0, b""),
+        (
+            b"a.img",
+            1,
+            b"b.img",
+            0,
+            b"jffs2_image: note: a.img: 1 finding, see check --scan; a wrong --block or --endian \
+              shows as findings too, see info\n",
+        ),
+        (
+            b"a\n",
+            0,
+            b"b/c",
+            17,
+            b"jffs2_image: note: b/c: 17 findings, see check --scan; a wrong --block or --endian \
+              shows as findings too, see info\n",
+        ),
+        (
+            b"a\n",
+            2,
+            b"b",
+            1,
+            b"jffs2_image: note: a\\x0a: 2 findings, see check --scan; a wrong --block or --endian \
+              shows as findings too, see info\n\
+              jffs2_image: note: b: 1 finding, see check --scan; a wrong --block or --endian \
+              shows as findings too, see info\n",
+        ),
+    ]
+}
+
+#[test]
+fn notes_of_named_images(rt: HostRuntime) {
+    for &(first, findings, second, others, wanted) in named() {
+        let mut sink = FromWriter::new(Vec::new(rt.alloc()));
+        let answer = put_named_notes(first, findings, second, others, &mut sink);
+        equal(&rt, answer, Ok(()));
         equal(&rt, sink.into_writer().as_slice(), wanted);
     }
 }

@@ -9,7 +9,7 @@ use jline::{put_escaped, put_in_line, put_text, put_word};
 use jmount::{FindFault, MountFault, mount};
 use jreport::{
     ProgramFault, content, fault_text, put_compressed, put_decompressed, put_fault_and_note,
-    put_note, put_subtree, stream_lines, tree_lines, verdict_lines,
+    put_named_notes, put_note, put_subtree, stream_lines, tree_lines, verdict_lines,
 };
 use std::alloc::Global;
 use std::process::Abort;
@@ -26,6 +26,7 @@ enum Text {
     Object,
     Content,
     Note,
+    NamedNotes,
     Fault,
     FaultLine,
     FaultLines,
@@ -46,6 +47,7 @@ fn texts() -> &'static [Text] {
         Text::Object,
         Text::Content,
         Text::Note,
+        Text::NamedNotes,
         Text::Fault,
         Text::FaultLine,
         Text::FaultLines,
@@ -110,6 +112,7 @@ fn put(
             put_mounted(alloc, text, image, sink)?;
         }
         Text::Note => put_note(17, sink)?,
+        Text::NamedNotes => put_named_notes(BYTES, 1, b"b", 17, sink)?,
         Text::Fault => {
             let answer = fault_text(&FAULT, sink);
             put_of(answer, sink.bytes.len())?;
