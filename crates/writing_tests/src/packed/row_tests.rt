@@ -31,13 +31,12 @@ fn image_of<E: Order>(alloc: Global, case: &Case) -> Result<Vec<u8>, Fail> {
     Ok(image)
 }
 
-/// What the operations put into the row.
+/// What the operations of a case put into the row of an image.
 fn run_of<E: Order>(alloc: Global, case: &Case, image: &[u8]) -> Result<Outcome, Fail> {
-    let row = Row::of::<E>(alloc, image, FLASH.geometry, FLASH.blocks)?;
+    let ops = ops_in_time(alloc, case.lines)?;
     let mut contents = Vec::new(alloc);
     let mounted = mount_through::<E>(alloc, image, FLASH.geometry, &mut contents)?;
-    let ops = ops_in_time(alloc, case.lines)?;
-    run_in_row::<E>(alloc, &mounted, FLASH, &row, &ops)
+    run_in_row::<E>(alloc, &mounted, FLASH, &ops)
 }
 
 /// The image after so many bytes went out to its row.

@@ -1,7 +1,8 @@
 //! Operations run packed onto an image. What may fail while a mounted image or a session lives is a
 //! call of its own: each `?` proves anew that all that lives is dropped.
 
-ghost use Rattle.std.specs.Prelude.{◌≡◌};
+ghost use Rattle.std.specs.Prelude.{◌≡◌, ◌≤◌, ◌*◌, true};
+ghost use Rattle.jscan.specs.Image.{is_block_size, greatest_image};
 ghost use Rattle.jrow.specs.Row.{blank_blocks};
 ghost use Rattle.jpacked.specs.View.{base_of_mount};
 ghost use Rattle.jview.specs.Through.{IsMountThroughOf};
@@ -73,8 +74,7 @@ fn session_in_row<E: Order>(
     }
 }
 
-/// Runs operations packed into the row of an image.
-pub fn run_in_row<E: Order>(
+fn run_with<E: Order>(
     alloc: Global,
     mounted: &Mounted<'_>,
     flash: Flash,
@@ -93,6 +93,22 @@ pub fn run_in_row<E: Order>(
         output: session.finish().bytes,
         report,
     })
+}
+
+/// Runs operations packed into the row of a mounted image.
+pub fn run_in_row<E: Order>(
+    alloc: Global,
+    mounted: &Mounted<'_>,
+    flash: Flash,
+    ops: &[Op<'_>],
+) -> Result<Outcome, Fail>
+    requires through { IsMountThroughOf E.order flash.geometry.block mounted.now }
+    requires readable { is_block_size flash.geometry.block ≡ true }
+    requires small { flash.blocks * flash.geometry.block ≤ greatest_image }
+{
+    let image = mounted.image();
+    let row = Row::of::<E>(alloc, image, flash.geometry, flash.blocks)?;
+    run_with::<E>(alloc, mounted, flash, &row, ops)
 }
 
 /// Runs operations packed onto an image.
