@@ -5,8 +5,8 @@ more than 40 words: tests/words.py [--list]
 It reads README.md, CONTRIBUTING.md, CHANGELOG.md, the pages of docs/ with the manual pages,
 bench/README.md and tests/README.md. Code, output, names in backquotes and the pages that a script
 generates do not count. For all pages together there may be a tenth of a pattern's count of
-2026-11-28, and no long sentence; two pages have a greatest length. mandoc and groff
-look at the manual pages, if they are there. --list prints each place. The last line is 'N passed, M failed'.
+2026-11-28, and no long sentence; two pages have a greatest length. mandoc and groff look at the
+manual pages, if they are there. --list prints each place. The last line is 'N passed, M failed'.
 """
 import glob
 import os
