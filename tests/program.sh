@@ -43,7 +43,7 @@ told() {
     grep -qE -- "$2" "${pages[@]}"
     local missing=$?
     count $missing
-    [[ $missing == 0 ]] || echo "FAILED: the manual pages describe $1"
+    [[ $missing == 0 ]] || echo "FAILED: no manual page describes $1"
 }
 
 help="*Usage: *Exit status:*0  done*1  a fault*2  the command line*3  check found*"

@@ -5,8 +5,8 @@ more than 40 words: tests/words.py [--list]
 It reads README.md, CONTRIBUTING.md, CHANGELOG.md, the pages of docs/ with the manual pages,
 bench/README.md and tests/README.md. Code, output, names in backquotes and the pages that a script
 generates do not count. For all pages together there may be a tenth of a pattern's count of
-2026-11-28, and no long sentence; two pages have a greatest length. If mandoc is there, it looks at
-the manual pages too. --list prints each place. The last line is 'N passed, M failed'.
+2026-11-28, and no long sentence; two pages have a greatest length. mandoc and groff look at the
+manual pages, if they are there. --list prints each place. The last line is 'N passed, M failed'.
 """
 import glob
 import os
@@ -158,11 +158,15 @@ def places():
 
 
 def manual_faults():
-    """What mandoc has against each manual page, except pages that this machine does not have."""
+    """The complaints of mandoc and of groff on each manual page, except of pages that this machine
+    does not have."""
     for path in sorted(glob.glob("docs/*.[157]")):
-        words = ["mandoc", "-Tlint", path]
-        done = subprocess.run(words, capture_output=True, text=True, check=False)
-        lines = [line for line in done.stdout.split("\n") if "manual not found" not in line]
+        said = ""
+        for words in (["mandoc", "-Tlint", path], ["groff", "-mdoc", "-ww", "-z", "-Tutf8", path]):
+            if shutil.which(words[0]):
+                done = subprocess.run(words, capture_output=True, text=True, check=False)
+                said += done.stdout + (done.stderr if words[0] == "groff" else "")
+        lines = [line for line in said.split("\n") if "manual not found" not in line]
         yield path, [line for line in lines if line]
 
 
@@ -178,7 +182,7 @@ def main():
     os.chdir(ROOT)
     found, words = places()
     passed = failed = 0
-    looked = list(length_faults()) + list(manual_faults() if shutil.which("mandoc") else ())
+    looked = list(length_faults()) + list(manual_faults())
     for _, lines in looked:
         print("".join(f"FAILED: {line}\n" for line in lines), end="")
         passed += not lines
