@@ -19,5 +19,6 @@ pub mod ExampleLemmas
 pub mod EmptyLemmas
 pub mod UpdateLemmas
 pub mod WholeFilesLemmas
+pub mod WholeThroughLemmas
 mod ListingUpdateLemmas
 pub mod WrittenLemmas

@@ -5,4 +5,5 @@ pub mod Laws
 pub mod Examples
 pub mod Image
 pub mod Updates
+pub mod UpdatesThrough
 pub mod Written

@@ -3,6 +3,7 @@
 ghost use Rattle.jtree.specs.Image as image;
 ghost use Rattle.jtree.specs.Laws as law;
 ghost use Rattle.jtree.specs.Updates as update;
+ghost use Rattle.jtree.specs.UpdatesThrough.{UpdatesAreWholeThrough, UpdatesAreWholeInRow};
 ghost use Rattle.jtree.specs.Written as written;
 
 /// The operations of a tree are all accepted on the empty file system, and make the tree and
@@ -33,4 +34,11 @@ pub fn updates_are_whole()
     ensures steps { update.StepsKeepFilesWhole }
     ensures stopped { update.UpdatesAreWhole }
     ensures listing { update.ListingIsUpdate }
+{}
+
+/// The same of images with compressed data, whatever the forms of the nodes that go out: after a
+/// stop at any byte of a log in the tail of an image, and of one in its blank blocks.
+pub fn updates_are_whole_through()
+    ensures tail { UpdatesAreWholeThrough }
+    ensures row { UpdatesAreWholeInRow }
 {}
