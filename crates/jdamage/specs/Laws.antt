@@ -12,12 +12,13 @@ use Rattle.jmount.specs.Mounts.{IsSound, IsMountOf, MountsAs, plain_nodes}
 use Rattle.jmount.specs.Shown.{shown}
 use Rattle.jmount.specs.StateOf.{inodes, object_of, state_of, tops_of}
 use Rattle.jmount.specs.Find.{walk}
+use Rattle.jmount.specs.Shape.{IsSingle}
 use Rattle.jmount.specs.Tree.{State, all_entries, dangling, is_directory}
 use Rattle.jdamage.specs.Coverage.{hides_nothing}
 use Rattle.jdamage.specs.Damage.{size_shown, changes_nothing, damage_text}
 use Rattle.jdamage.specs.Fields.{stretch_at, stretch_of, stretches, damaged_nodes}
 use Rattle.jdamage.specs.Lines.{no_damage, totals_shown}
-use Rattle.jdamage.specs.Ways.{path_below}
+use Rattle.jdamage.specs.Ways.{LeadsUp, first_name, path_below}
 use Rattle.jdamage.specs.declared.fields.Stretch.{Stretch}
 
 -- of an image without damaged nodes, whose names all lead to objects, nothing is told but the
@@ -111,3 +112,7 @@ abbrev pub DirectoryHasPath : Type 0
 DirectoryHasPath = (s : State) (dir : ℕ) (names : List (List ℕ))
     → length (all_entries s) ≤ 2 ^ 32 → walk s names (Ok 1) ≡ Ok dir → is_directory s dir ≡ true
     → is_some (path_below s dir []) ≡ true
+
+-- where no directory has two names, the paths are those by first names
+abbrev pub FirstNamesLead : Type 0
+FirstNamesLead = (s : State) → IsSingle s → LeadsUp s (first_name s)

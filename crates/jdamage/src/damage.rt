@@ -224,7 +224,7 @@ fn told(put: Result<Totals, DeviceFault>) -> Result<Totals, DamageFault>
 /// order and with this geometry. Each line goes out as it is made. Before the first, where there
 /// is damage, it takes memory for the damaged nodes, for the sound ones of their objects that touch
 /// what they were for, for the names of these objects, for the directories on the ways up from what
-/// is told, and for one path.
+/// is told, in a tree that has not its shape for all that `ls` enters, and for one path.
 ///
 /// # Errors
 /// `OutOfMemory`, and nothing was put. `Output`: the sink failed, and took a beginning.

@@ -1,6 +1,6 @@
 //! Laws of what is told. Each function's contract is a law, and its body is empty.
 
-ghost use Rattle.jdamage.specs.Laws.{DirectoryHasPath, DirectoryPathLeads, ImageIsSameWithout, ObjectIsSameWithout, ObjectWouldChange, SoundHasNoLines, StateIsSameWithout};
+ghost use Rattle.jdamage.specs.Laws.{DirectoryHasPath, DirectoryPathLeads, FirstNamesLead, ImageIsSameWithout, ObjectIsSameWithout, ObjectWouldChange, SoundHasNoLines, StateIsSameWithout};
 
 /// Of an image without damaged nodes, whose names all lead to objects, nothing is told but the
 /// totals, and these are 0.
@@ -30,4 +30,9 @@ pub fn directory_path_leads()
 /// A directory to which names lead from the root has a path.
 pub fn directory_has_path()
     ensures { DirectoryHasPath }
+{}
+
+/// Where no directory has two names, each one's path is that by first names.
+pub fn first_names_lead()
+    ensures { FirstNamesLead }
 {}
