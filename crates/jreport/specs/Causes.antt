@@ -39,7 +39,10 @@ abbrev pub cause_of : Plan → SessionFault → Reason → Option ℕ → Cause
 cause_of plan session.Sink reason blocks = causes.Host reason
 cause_of plan session.Geometry reason blocks = limit_cause (first_limit plan)
 cause_of plan (session.Full needed free) reason blocks = blocks_cause blocks
-cause_of plan _ reason blocks = causes.Unknown
+cause_of plan (session.Refused refused) reason blocks = causes.Unknown
+cause_of plan session.ReadOnly reason blocks = causes.Unknown
+cause_of plan session.OutOfMemory reason blocks = causes.Unknown
+cause_of plan session.Broken reason blocks = causes.Unknown
 
 -- what is said of a limit
 unfoldable pub limit_note : Limit → List ℕ

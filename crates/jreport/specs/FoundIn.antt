@@ -33,7 +33,7 @@ pub record HasFindings (e : Endian) (size : ℕ) (image : List ℕ) : Type 0 whe
 -- so many of the file of this name
 abbrev pub TellsFindings : List ℕ → ℕ → ImageFault → Type 0
 TellsFindings name n (image.Findings told findings) = (told.now ≡ name) × (findings ≡ n)
-TellsFindings name n _ = ⊥
+TellsFindings name n (image.NoNodes told others) = ⊥
 
 -- That is the fault.
 pub record IsFindings (e : Endian) (size : ℕ) (bytes name : List ℕ) (fault : ProgramFault) : Type

@@ -36,7 +36,23 @@ PutsStream e size image sink (Err (program.Load load.OutOfMemory)) =
     (sink.new ≡ sink.old) × (sink.now ≡ sink.before)
 PutsStream e size image sink (Err (program.Scan scan.BlockSize)) =
     (sink.new ≡ sink.old) × (sink.now ≡ sink.before)
-PutsStream e size image sink (Err _) = ⊥
+PutsStream e size image sink (Err (program.Scan scan.TooLarge)) = ⊥
+PutsStream e size image sink (Err (program.Scan (scan.Incompatible addr nodetype))) = ⊥
+PutsStream e size image sink (Err (program.Scan (scan.Compressed addr compr))) = ⊥
+PutsStream e size image sink (Err (program.Scan scan.OutOfMemory)) = ⊥
+PutsStream e size image sink (Err (program.Mount fault)) = ⊥
+PutsStream e size image sink (Err (program.Clash addr other)) = ⊥
+PutsStream e size image sink (Err (program.File file)) = ⊥
+PutsStream e size image sink (Err (program.NotRead file)) = ⊥
+PutsStream e size image sink (Err (program.Listing bad)) = ⊥
+PutsStream e size image sink (Err (program.Session fault line cause)) = ⊥
+PutsStream e size image sink (Err (program.Path fault)) = ⊥
+PutsStream e size image sink (Err program.NotRegular) = ⊥
+PutsStream e size image sink (Err program.OutOfMemory) = ⊥
+PutsStream e size image sink (Err (program.NoSpace name)) = ⊥
+PutsStream e size image sink (Err (program.Data addr)) = ⊥
+PutsStream e size image sink (Err (program.TooLong addr)) = ⊥
+PutsStream e size image sink (Err (program.Image fault)) = ⊥
 
 -- The lines of the blocks in front of the one that the source broke off have gone out, and less
 -- than a block is gone past them.
@@ -53,11 +69,50 @@ BreaksOff e size old new left image =
 abbrev pub HandsBack : ℕ → Option ℕ → Result ℕ ProgramFault → Type 0
 HandsBack before None (Err (program.Scan scan.BlockSize)) = ⊤
 HandsBack before None (Err (program.Load load.OutOfMemory)) = ⊤
-HandsBack before None _ = ⊥
+HandsBack before None (Ok n) = ⊥
+HandsBack before None (Err (program.Scan scan.TooLarge)) = ⊥
+HandsBack before None (Err (program.Scan (scan.Incompatible addr nodetype))) = ⊥
+HandsBack before None (Err (program.Scan (scan.Compressed addr compr))) = ⊥
+HandsBack before None (Err (program.Scan scan.OutOfMemory)) = ⊥
+HandsBack before None (Err (program.Load load.Device)) = ⊥
+HandsBack before None (Err (program.Load load.TooLarge)) = ⊥
+HandsBack before None (Err (program.Mount fault)) = ⊥
+HandsBack before None (Err (program.Clash addr other)) = ⊥
+HandsBack before None (Err (program.File file)) = ⊥
+HandsBack before None (Err (program.NotRead file)) = ⊥
+HandsBack before None (Err (program.Listing bad)) = ⊥
+HandsBack before None (Err (program.Session fault line cause)) = ⊥
+HandsBack before None (Err (program.Path fault)) = ⊥
+HandsBack before None (Err program.NotRegular) = ⊥
+HandsBack before None (Err program.Output) = ⊥
+HandsBack before None (Err program.OutOfMemory) = ⊥
+HandsBack before None (Err (program.NoSpace name)) = ⊥
+HandsBack before None (Err (program.Data addr)) = ⊥
+HandsBack before None (Err (program.TooLong addr)) = ⊥
+HandsBack before None (Err (program.Image fault)) = ⊥
 HandsBack before (Some now) (Err (program.Scan scan.BlockSize)) = ⊥
 HandsBack before (Some now) (Err (program.Load load.OutOfMemory)) = ⊥
 HandsBack before (Some now) (Err (program.Load load.Device)) = now ≡ next_count before
-HandsBack before (Some now) _ = now ≡ before
+HandsBack before (Some now) (Ok n) = now ≡ before
+HandsBack before (Some now) (Err (program.Scan scan.TooLarge)) = now ≡ before
+HandsBack before (Some now) (Err (program.Scan (scan.Incompatible addr nodetype))) = now ≡ before
+HandsBack before (Some now) (Err (program.Scan (scan.Compressed addr compr))) = now ≡ before
+HandsBack before (Some now) (Err (program.Scan scan.OutOfMemory)) = now ≡ before
+HandsBack before (Some now) (Err (program.Load load.TooLarge)) = now ≡ before
+HandsBack before (Some now) (Err (program.Mount fault)) = now ≡ before
+HandsBack before (Some now) (Err (program.Clash addr other)) = now ≡ before
+HandsBack before (Some now) (Err (program.File file)) = now ≡ before
+HandsBack before (Some now) (Err (program.NotRead file)) = now ≡ before
+HandsBack before (Some now) (Err (program.Listing bad)) = now ≡ before
+HandsBack before (Some now) (Err (program.Session fault line cause)) = now ≡ before
+HandsBack before (Some now) (Err (program.Path fault)) = now ≡ before
+HandsBack before (Some now) (Err program.NotRegular) = now ≡ before
+HandsBack before (Some now) (Err program.Output) = now ≡ before
+HandsBack before (Some now) (Err program.OutOfMemory) = now ≡ before
+HandsBack before (Some now) (Err (program.NoSpace name)) = now ≡ before
+HandsBack before (Some now) (Err (program.Data addr)) = now ≡ before
+HandsBack before (Some now) (Err (program.TooLong addr)) = now ≡ before
+HandsBack before (Some now) (Err (program.Image fault)) = now ≡ before
 
 -- What follows whole blocks is left of the source, and the lines of all of these but the last have
 -- gone out.
@@ -78,4 +133,18 @@ ReadsTo e size image old new left (Err (program.Load load.Device)) =
 ReadsTo e size image old new left (Err (program.Load load.TooLarge)) =
     StopsPast (Some image) left greatest_image (greatest_image + size)
 ReadsTo e size image old new left (Err program.Output) = StopsBehind e size old new left image
-ReadsTo e size image old new left (Err _) = ⊤
+ReadsTo e size image old new left (Err (program.Load load.OutOfMemory)) = ⊤
+ReadsTo e size image old new left (Err (program.Scan fault)) = ⊤
+ReadsTo e size image old new left (Err (program.Mount fault)) = ⊤
+ReadsTo e size image old new left (Err (program.Clash addr other)) = ⊤
+ReadsTo e size image old new left (Err (program.File file)) = ⊤
+ReadsTo e size image old new left (Err (program.NotRead file)) = ⊤
+ReadsTo e size image old new left (Err (program.Listing bad)) = ⊤
+ReadsTo e size image old new left (Err (program.Session fault line cause)) = ⊤
+ReadsTo e size image old new left (Err (program.Path fault)) = ⊤
+ReadsTo e size image old new left (Err program.NotRegular) = ⊤
+ReadsTo e size image old new left (Err program.OutOfMemory) = ⊤
+ReadsTo e size image old new left (Err (program.NoSpace name)) = ⊤
+ReadsTo e size image old new left (Err (program.Data addr)) = ⊤
+ReadsTo e size image old new left (Err (program.TooLong addr)) = ⊤
+ReadsTo e size image old new left (Err (program.Image fault)) = ⊤

@@ -13,7 +13,7 @@ use Rattle.jmount.specs.declared.object.Object.{Object}
 use Rattle.jline.specs.Paths.{path_shown}
 use Rattle.jline.specs.Words.{escaped}
 use Rattle.jreport.specs.declared.faults.ProgramFault.{ProgramFault}
-use Rattle.jreport.specs.declared.faults.ProgramFault.TheVariants.{Output, OutOfMemory, Path}
+use Rattle.jreport.specs.declared.faults.ProgramFault.TheVariants as program
 
 -- ---- the line of an object
 
@@ -119,11 +119,24 @@ abbrev pub PutsFrom : {T : Type 0} → State → Item → SinkChange → Result 
 PutsFrom s item sink (Ok _) =
     (text : List ℕ) × IsTextFrom s item text × Appends sink.old sink.new text
     × (sink.now ≡ sink.before)
-PutsFrom s item sink (Err Output) =
+PutsFrom s item sink (Err program.Output) =
     PutsPartFrom s item sink.old sink.new × (sink.now ≡ next_count sink.before)
-PutsFrom s item sink (Err OutOfMemory) =
+PutsFrom s item sink (Err program.OutOfMemory) =
     PutsPartFrom s item sink.old sink.new × (sink.now ≡ sink.before)
-PutsFrom s item sink (Err _) = ⊥
+PutsFrom s item sink (Err (program.Load fault)) = ⊥
+PutsFrom s item sink (Err (program.Scan fault)) = ⊥
+PutsFrom s item sink (Err (program.Mount fault)) = ⊥
+PutsFrom s item sink (Err (program.Clash addr other)) = ⊥
+PutsFrom s item sink (Err (program.File file)) = ⊥
+PutsFrom s item sink (Err (program.NotRead file)) = ⊥
+PutsFrom s item sink (Err (program.Listing bad)) = ⊥
+PutsFrom s item sink (Err (program.Session fault line cause)) = ⊥
+PutsFrom s item sink (Err (program.Path fault)) = ⊥
+PutsFrom s item sink (Err program.NotRegular) = ⊥
+PutsFrom s item sink (Err (program.NoSpace name)) = ⊥
+PutsFrom s item sink (Err (program.Data addr)) = ⊥
+PutsFrom s item sink (Err (program.TooLong addr)) = ⊥
+PutsFrom s item sink (Err (program.Image fault)) = ⊥
 
 -- the text of the whole tree
 abbrev pub PutsTree : {T : Type 0} → State → SinkChange → Result T ProgramFault → Type 0
@@ -138,7 +151,7 @@ IsItemAt s path item = (path_names path ≡ Some item.0) × (find s path ≡ Ok 
 -- A call puts the lines of the object that a path names, and of what lies below it; or it says that
 -- it names none, and puts nothing.
 abbrev pub PutsPartAt : {T : Type 0} → State → List ℕ → SinkChange → Result T ProgramFault → Type 0
-PutsPartAt s path sink (Err (Path fault)) =
+PutsPartAt s path sink (Err (program.Path fault)) =
     (find s path ≡ Err fault) × (sink.new ≡ sink.old) × (sink.now ≡ sink.before)
 PutsPartAt {T} s path sink result =
     (item : Item) × IsItemAt s path item × PutsFrom {T = T} s item sink result

@@ -94,7 +94,20 @@ PutsMounted asked m sink (Err program.Output) =
     PutsPart sink.old sink.new (mounted_text asked m) × (sink.now ≡ next_count sink.before)
 PutsMounted asked m sink (Err program.OutOfMemory) =
     (sink.new ≡ sink.old) × (sink.now ≡ sink.before)
-PutsMounted asked m sink (Err _) = ⊥
+PutsMounted asked m sink (Err (program.Load fault)) = ⊥
+PutsMounted asked m sink (Err (program.Scan fault)) = ⊥
+PutsMounted asked m sink (Err (program.Mount fault)) = ⊥
+PutsMounted asked m sink (Err (program.Clash addr other)) = ⊥
+PutsMounted asked m sink (Err (program.File file)) = ⊥
+PutsMounted asked m sink (Err (program.NotRead file)) = ⊥
+PutsMounted asked m sink (Err (program.Listing bad)) = ⊥
+PutsMounted asked m sink (Err (program.Session fault line cause)) = ⊥
+PutsMounted asked m sink (Err (program.Path fault)) = ⊥
+PutsMounted asked m sink (Err program.NotRegular) = ⊥
+PutsMounted asked m sink (Err (program.NoSpace name)) = ⊥
+PutsMounted asked m sink (Err (program.Data addr)) = ⊥
+PutsMounted asked m sink (Err (program.TooLong addr)) = ⊥
+PutsMounted asked m sink (Err (program.Image fault)) = ⊥
 
 -- The verdict on an image. Where the sink fails, a beginning of it went out; where memory runs out,
 -- nothing did.
@@ -109,4 +122,22 @@ PutsVerdict e size image asked sink (Err program.OutOfMemory) =
     (m : Mount) × Answers e size image (Ok m) × (sink.new ≡ sink.old) × (sink.now ≡ sink.before)
 PutsVerdict e size image asked sink (Err (program.Mount mount.OutOfMemory)) =
     Answers e size image (Err mount.OutOfMemory) × (sink.new ≡ sink.old) × (sink.now ≡ sink.before)
-PutsVerdict e size image asked sink (Err _) = ⊥
+PutsVerdict e size image asked sink (Err (program.Mount mount.BlockSize)) = ⊥
+PutsVerdict e size image asked sink (Err (program.Mount mount.TooLarge)) = ⊥
+PutsVerdict e size image asked sink (Err (program.Mount (mount.Incompatible addr nodetype))) = ⊥
+PutsVerdict e size image asked sink (Err (program.Mount (mount.Compressed addr compr))) = ⊥
+PutsVerdict e size image asked sink (Err (program.Mount (mount.Clash addr))) = ⊥
+PutsVerdict e size image asked sink (Err (program.Mount mount.RootKind)) = ⊥
+PutsVerdict e size image asked sink (Err (program.Load fault)) = ⊥
+PutsVerdict e size image asked sink (Err (program.Scan fault)) = ⊥
+PutsVerdict e size image asked sink (Err (program.Clash addr other)) = ⊥
+PutsVerdict e size image asked sink (Err (program.File file)) = ⊥
+PutsVerdict e size image asked sink (Err (program.NotRead file)) = ⊥
+PutsVerdict e size image asked sink (Err (program.Listing bad)) = ⊥
+PutsVerdict e size image asked sink (Err (program.Session fault line cause)) = ⊥
+PutsVerdict e size image asked sink (Err (program.Path fault)) = ⊥
+PutsVerdict e size image asked sink (Err program.NotRegular) = ⊥
+PutsVerdict e size image asked sink (Err (program.NoSpace name)) = ⊥
+PutsVerdict e size image asked sink (Err (program.Data addr)) = ⊥
+PutsVerdict e size image asked sink (Err (program.TooLong addr)) = ⊥
+PutsVerdict e size image asked sink (Err (program.Image fault)) = ⊥

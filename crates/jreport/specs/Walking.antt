@@ -12,7 +12,7 @@ use Rattle.jreport.specs.TreeText.{Item, Met, items_of, line_of, met_after, todo
 use Rattle.jreport.specs.declared.met.MetDirectories.{MetDirectories}
 use Rattle.jreport.specs.declared.tree_walk.Walk.{Walk}
 use Rattle.jreport.specs.declared.faults.ProgramFault.{ProgramFault}
-use Rattle.jreport.specs.declared.faults.ProgramFault.TheVariants.{Output, OutOfMemory}
+use Rattle.jreport.specs.declared.faults.ProgramFault.TheVariants as program
 
 -- the path of an item leads to it
 abbrev pub LeadsToItem : State → Item → Type 0
@@ -36,12 +36,25 @@ PutsVisit s met met_then item sink (Ok entered) =
     (entered ≡ is_entered s (remembered met) item.1)
     × Becomes met met_then (met_after s (remembered met) item.1)
     × Appends sink.old sink.new (line_of s (remembered met) item) × (sink.now ≡ sink.before)
-PutsVisit s met met_then item sink (Err Output) =
+PutsVisit s met met_then item sink (Err program.Output) =
     PutsPart sink.old sink.new (line_of s (remembered met) item)
     × (sink.now ≡ next_count sink.before)
-PutsVisit s met met_then item sink (Err OutOfMemory) =
+PutsVisit s met met_then item sink (Err program.OutOfMemory) =
     Appends sink.old sink.new [] × (sink.now ≡ sink.before)
-PutsVisit s met met_then item sink (Err _) = ⊥
+PutsVisit s met met_then item sink (Err (program.Load fault)) = ⊥
+PutsVisit s met met_then item sink (Err (program.Scan fault)) = ⊥
+PutsVisit s met met_then item sink (Err (program.Mount fault)) = ⊥
+PutsVisit s met met_then item sink (Err (program.Clash addr other)) = ⊥
+PutsVisit s met met_then item sink (Err (program.File file)) = ⊥
+PutsVisit s met met_then item sink (Err (program.NotRead file)) = ⊥
+PutsVisit s met met_then item sink (Err (program.Listing bad)) = ⊥
+PutsVisit s met met_then item sink (Err (program.Session fault line cause)) = ⊥
+PutsVisit s met met_then item sink (Err (program.Path fault)) = ⊥
+PutsVisit s met met_then item sink (Err program.NotRegular) = ⊥
+PutsVisit s met met_then item sink (Err (program.NoSpace name)) = ⊥
+PutsVisit s met met_then item sink (Err (program.Data addr)) = ⊥
+PutsVisit s met met_then item sink (Err (program.TooLong addr)) = ⊥
+PutsVisit s met met_then item sink (Err (program.Image fault)) = ⊥
 
 -- ---- what is still to print at a place of the walk
 
@@ -104,9 +117,22 @@ PutsStep s w w_after sink (Ok true) =
     × (sink.now ≡ sink.before)
 PutsStep s w w_after sink (Ok false) =
     (todo_of s w ≡ []) × Appends sink.old sink.new [] × (sink.now ≡ sink.before)
-PutsStep s w w_after sink (Err Output) =
+PutsStep s w w_after sink (Err program.Output) =
     PutsPartOf s (remembered w.met) (todo_of s w) sink.old sink.new
     × (sink.now ≡ next_count sink.before)
-PutsStep s w w_after sink (Err OutOfMemory) =
+PutsStep s w w_after sink (Err program.OutOfMemory) =
     PutsPartOf s (remembered w.met) (todo_of s w) sink.old sink.new × (sink.now ≡ sink.before)
-PutsStep s w w_after sink (Err _) = ⊥
+PutsStep s w w_after sink (Err (program.Load fault)) = ⊥
+PutsStep s w w_after sink (Err (program.Scan fault)) = ⊥
+PutsStep s w w_after sink (Err (program.Mount fault)) = ⊥
+PutsStep s w w_after sink (Err (program.Clash addr other)) = ⊥
+PutsStep s w w_after sink (Err (program.File file)) = ⊥
+PutsStep s w w_after sink (Err (program.NotRead file)) = ⊥
+PutsStep s w w_after sink (Err (program.Listing bad)) = ⊥
+PutsStep s w w_after sink (Err (program.Session fault line cause)) = ⊥
+PutsStep s w w_after sink (Err (program.Path fault)) = ⊥
+PutsStep s w w_after sink (Err program.NotRegular) = ⊥
+PutsStep s w w_after sink (Err (program.NoSpace name)) = ⊥
+PutsStep s w w_after sink (Err (program.Data addr)) = ⊥
+PutsStep s w w_after sink (Err (program.TooLong addr)) = ⊥
+PutsStep s w w_after sink (Err (program.Image fault)) = ⊥

@@ -56,7 +56,24 @@ PutsCheck e size image asked sink (Err (program.Mount mount.OutOfMemory)) =
 PutsCheck e size image asked sink (Err program.OutOfMemory) =
     (m : Mount) × Answers e size image (Ok m) × Appends sink.old sink.new (scan_text e size image)
     × (sink.now ≡ sink.before)
-PutsCheck e size image asked sink (Err _) = ⊥
+PutsCheck e size image asked sink (Err (program.Mount mount.BlockSize)) = ⊥
+PutsCheck e size image asked sink (Err (program.Mount mount.TooLarge)) = ⊥
+PutsCheck e size image asked sink (Err (program.Mount (mount.Incompatible addr nodetype))) = ⊥
+PutsCheck e size image asked sink (Err (program.Mount (mount.Compressed addr compr))) = ⊥
+PutsCheck e size image asked sink (Err (program.Mount (mount.Clash addr))) = ⊥
+PutsCheck e size image asked sink (Err (program.Mount mount.RootKind)) = ⊥
+PutsCheck e size image asked sink (Err (program.Load fault)) = ⊥
+PutsCheck e size image asked sink (Err (program.Clash addr other)) = ⊥
+PutsCheck e size image asked sink (Err (program.File file)) = ⊥
+PutsCheck e size image asked sink (Err (program.NotRead file)) = ⊥
+PutsCheck e size image asked sink (Err (program.Listing bad)) = ⊥
+PutsCheck e size image asked sink (Err (program.Session fault line cause)) = ⊥
+PutsCheck e size image asked sink (Err (program.Path fault)) = ⊥
+PutsCheck e size image asked sink (Err program.NotRegular) = ⊥
+PutsCheck e size image asked sink (Err (program.NoSpace name)) = ⊥
+PutsCheck e size image asked sink (Err (program.Data addr)) = ⊥
+PutsCheck e size image asked sink (Err (program.TooLong addr)) = ⊥
+PutsCheck e size image asked sink (Err (program.Image fault)) = ⊥
 
 -- ---- `cat` and `ls`
 
@@ -69,7 +86,35 @@ OnMount e size image sink puts (Err (program.Mount fault)) =
 OnMount e size image sink puts (Err (program.Clash addr other)) =
     IsRefusalTold e size image (program.Clash addr other) × (sink.new ≡ sink.old)
     × (sink.now ≡ sink.before)
-OnMount e size image sink puts _ = (m : Mount) × Answers e size image (Ok m) × puts m
+OnMount e size image sink puts (Err (program.Load fault)) =
+    (m : Mount) × Answers e size image (Ok m) × puts m
+OnMount e size image sink puts (Err (program.Scan fault)) =
+    (m : Mount) × Answers e size image (Ok m) × puts m
+OnMount e size image sink puts (Err (program.File file)) =
+    (m : Mount) × Answers e size image (Ok m) × puts m
+OnMount e size image sink puts (Err (program.NotRead file)) =
+    (m : Mount) × Answers e size image (Ok m) × puts m
+OnMount e size image sink puts (Err (program.Listing bad)) =
+    (m : Mount) × Answers e size image (Ok m) × puts m
+OnMount e size image sink puts (Err (program.Session fault line cause)) =
+    (m : Mount) × Answers e size image (Ok m) × puts m
+OnMount e size image sink puts (Err (program.Path fault)) =
+    (m : Mount) × Answers e size image (Ok m) × puts m
+OnMount e size image sink puts (Err program.NotRegular) =
+    (m : Mount) × Answers e size image (Ok m) × puts m
+OnMount e size image sink puts (Err program.Output) =
+    (m : Mount) × Answers e size image (Ok m) × puts m
+OnMount e size image sink puts (Err program.OutOfMemory) =
+    (m : Mount) × Answers e size image (Ok m) × puts m
+OnMount e size image sink puts (Err (program.NoSpace name)) =
+    (m : Mount) × Answers e size image (Ok m) × puts m
+OnMount e size image sink puts (Err (program.Data addr)) =
+    (m : Mount) × Answers e size image (Ok m) × puts m
+OnMount e size image sink puts (Err (program.TooLong addr)) =
+    (m : Mount) × Answers e size image (Ok m) × puts m
+OnMount e size image sink puts (Err (program.Image fault)) =
+    (m : Mount) × Answers e size image (Ok m) × puts m
+OnMount e size image sink puts (Ok _) = (m : Mount) × Answers e size image (Ok m) × puts m
 
 -- the answer is the number of findings that a reader of files is told of
 abbrev pub AnswersNoted : Mount → Result ℕ ProgramFault → Type 0
