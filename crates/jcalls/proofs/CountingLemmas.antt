@@ -7,7 +7,6 @@ use Rattle.flashbase.specs.Lists.{below}
 use Rattle.flashbase.proofs.ListLemmas.{length-below}
 use Rattle.jnode.specs.declared.order.Endian.{Endian}
 use Rattle.jscan.specs.Counts.{is_entry_tile, is_inode_tile, is_found, count_in, counted, counts_of, extents_of_block, one_if}
-use Rattle.jscan.specs.Extents.{extents}
 use Rattle.jscan.specs.Image.{block_count, block_of}
 use Rattle.jscan.specs.Scans.{IsScannable, image_extents}
 use Rattle.jscan.specs.declared.counts.Counts.{Counts}

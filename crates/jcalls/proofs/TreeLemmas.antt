@@ -1,8 +1,8 @@
 -- The names of a tree, one after another; and what a path leads to.
-use Rattle.std.proofs.Common.{◌≡◌, ◌⊎◌, ◌<◌, drop, ℕ, ◌+◌, cond, Bool, true, false, List, [], ◌∷◌, ◌++◌, length, refl, sym, ap, ◌∙◌, subst, Option, Some, None, Ok, Err, append_assoc, append-nil, length-append}
+use Rattle.std.proofs.Common.{◌≡◌, ◌⊎◌, ◌<◌, drop, ℕ, cond, Bool, true, false, List, [], ◌∷◌, ◌++◌, length, refl, sym, ap, ◌∙◌, subst, Option, Some, None, Ok, Err, append_assoc, append-nil, length-append}
 use Rattle.std.specs.Prelude.{is_ok, is_some, Result}
 use Rattle.std.proofs.lemmas.Bool.{false≢true}
-use Rattle.jmount.specs.Tree.{State, ObjectOf, object, named, is_there, is_directory, has_bits, directory_bits, all_entries}
+use Rattle.jmount.specs.Tree.{State, ObjectOf, object, named, is_there, is_directory, has_bits, directory_bits}
 use Rattle.jmount.specs.Find.{find as find_path, find_names, path_names, step, step_to, walk}
 use Rattle.jmount.specs.declared.fault.FindFault.{FindFault}
 use Rattle.jmount.specs.declared.fault.FindFault.TheVariants as find

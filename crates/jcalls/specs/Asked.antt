@@ -1,5 +1,5 @@
 -- What a caller asks for.
-use Rattle.std.specs.Prelude.{ℕ, ◌==◌, Bool, not, if◌then◌else◌}
+use Rattle.std.specs.Prelude.{◌==◌, Bool, not, if◌then◌else◌}
 use Rattle.jnode.specs.declared.order.Endian.{Endian}
 use Rattle.jnode.specs.declared.order.Endian.TheVariants.{Little, Big}
 use Rattle.jcalls.specs.declared.how.How.{How}

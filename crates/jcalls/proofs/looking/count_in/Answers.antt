@@ -46,6 +46,8 @@ pub returns-clause-ok : goal.returns-clause-ok
 returns-clause-ok g c =
     let e = g.E.Order.order in
     let n : ℕ = block_count c.args.block c.args.image.now in
-    let all = image_extents e c.args.block c.args.image.now in
-    (c.in-Ok.ensures.scannable, counting_ends e c.args.block c.args.image.now c.loop-extent.counts
-    (subst (λ (left : List Extent). CountingAll all left n c.loop-extent.counts) c.in-None.ensures.steps.0 c.loop-extent.invariant))
+    let all = image_extents e c.args.block c.args.image.now in (
+      c.in-Ok.ensures.scannable,
+      counting_ends e c.args.block c.args.image.now c.loop-extent.counts
+          (subst (λ (left : List Extent). CountingAll all left n c.loop-extent.counts) c.in-None.ensures.steps.0 c.loop-extent.invariant),
+    )
