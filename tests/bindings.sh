@@ -61,7 +61,7 @@ same "what it keeps" "$(size -A "$archive" | awk '$1 ~ /^\.(data|bss|tdata|tbss|
 
 # ---- C
 
-images="default rtime lzo"
+images="default rtime lzma"
 if has cc; then
     flags="-std=c11 -O1 -Wall -Werror -I$header"
     does "the shared library" cc -shared -fPIC -o libjffs2.so "$header/jffs2_heap.c" \

@@ -102,7 +102,7 @@ fn it_tells_of_itself(rt: HostRuntime) {
     let mut told = none();
     equal(&rt, info(image(), &mut told), OK);
     equal(&rt, (told.bytes, told.order), (196, 1));
-    equal(&rt, (told.least_block, told.greatest_block), (4096, 4_194_304));
+    equal(&rt, (told.least_block, told.greatest_block), (0, 0));
     equal(&rt, (told.nodes, told.entries, told.inodes), (3, 1, 2));
     equal(&rt, (told.highest_inode, told.highest_version), (2, 2));
     equal(&rt, (told.data_none, told.other_order), (2, 0));
@@ -180,8 +180,8 @@ fn it_is_converted(rt: HostRuntime) {
     expect(&rt, out == [b'#'; 210]);
     let status = decompress(alloc, image(), HOW, &mut out, &mut needed, &mut fault);
     equal(&rt, (status, needed), (OK, 208));
-    expect(&rt, out[12..208] == *image());
-    expect(&rt, out[208..] == *b"##");
+    expect(&rt, &out[12..208] == image());
+    expect(&rt, &out[208..] == b"##".as_slice());
     let mut packed = [b'#'; 210];
     let status = compress(alloc, image(), HOW, &mut packed, &mut needed, &mut fault);
     equal(&rt, (status, needed), (OK, 208));
