@@ -97,7 +97,10 @@ impl fmt::Display for Error {
             Error::BlockSize => write!(f, "the block size is not read"),
             Error::TooLarge => write!(f, "the image is longer than 256 MiB"),
             Error::Incompatible { address, nodetype } => {
-                write!(f, "incompatible node of type {nodetype:04x} at {address:08x}")
+                write!(
+                    f,
+                    "incompatible node of type {nodetype:04x} at {address:08x}"
+                )
             }
             Error::Compressed { address, method } => {
                 write!(f, "compressed data of method {method} at {address:08x}")
@@ -420,7 +423,8 @@ impl<'a> Image<'a> {
             if status != SMALL {
                 return answer(status, fault, tree);
             }
-            tree.rows.resize(needed.rows as usize, sys::Entry::default());
+            tree.rows
+                .resize(needed.rows as usize, sys::Entry::default());
             tree.names.resize(needed.bytes as usize, 0);
         }
     }

@@ -49,8 +49,17 @@ fn has_names() {
     let tree = image(&bytes).tree().unwrap();
     assert_eq!(tree.entries().count(), 13);
     assert!(tree.directory(1).any(|it| it.name == b"etc"));
-    assert!(tree.entries().all(|it| it.object.is_some_and(|o| o.number == it.number)));
-    assert_eq!(Image::new(&[], 65536, Order::Big).tree().unwrap().entries().count(), 0);
+    assert!(tree
+        .entries()
+        .all(|it| it.object.is_some_and(|o| o.number == it.number)));
+    assert_eq!(
+        Image::new(&[], 65536, Order::Big)
+            .tree()
+            .unwrap()
+            .entries()
+            .count(),
+        0
+    );
 }
 
 #[test]
@@ -60,9 +69,18 @@ fn refuses() {
     assert!(matches!(plain.stat(b"/etc"), Err(Error::Compressed { .. })));
     assert_eq!(image(&bytes).stat(b"/nothing"), Err(Error::NotFound));
     assert_eq!(image(&bytes).stat(b"etc"), Err(Error::BadPath));
-    assert_eq!(image(&bytes).stat(b"/etc/passwd/x"), Err(Error::NotDirectory));
-    assert_eq!(Image::new(&bytes, 8193, Order::Little).check(), Err(Error::BlockSize));
-    assert_eq!(Image::new(&[], 4096, Order::Little).compress(), Err(Error::Geometry));
+    assert_eq!(
+        image(&bytes).stat(b"/etc/passwd/x"),
+        Err(Error::NotDirectory)
+    );
+    assert_eq!(
+        Image::new(&bytes, 8193, Order::Little).check(),
+        Err(Error::BlockSize)
+    );
+    assert_eq!(
+        Image::new(&[], 4096, Order::Little).compress(),
+        Err(Error::Geometry)
+    );
 }
 
 #[test]
