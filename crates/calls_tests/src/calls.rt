@@ -128,7 +128,11 @@ fn its_paths_lead(rt: HostRuntime) {
     equal(&rt, found(alloc, HOW, b"/b"), (11, 0, 0, 0));
     equal(&rt, found(alloc, HOW, b"/a/b"), (12, 0, 0, 0));
     // in the other order it has no node
-    equal(&rt, found(alloc, How { big: 1, ..HOW }, b"/a"), (11, 0, 0, 0));
+    equal(
+        &rt,
+        found(alloc, How { big: 1, ..HOW }, b"/a"),
+        (11, 0, 0, 0),
+    );
 }
 
 #[test]
@@ -140,7 +144,15 @@ fn its_bytes_are_read(rt: HostRuntime) {
     let mut out = *b"##########";
     let mut got = 77;
     let mut fault = FAULT;
-    let status = read(rt.alloc(), image(), HOW, place, &mut out, &mut got, &mut fault);
+    let status = read(
+        rt.alloc(),
+        image(),
+        HOW,
+        place,
+        &mut out,
+        &mut got,
+        &mut fault,
+    );
     equal(&rt, (status, got), (OK, 8));
     expect(&rt, out == *b"lo flash##");
 }
@@ -153,11 +165,23 @@ fn its_names_are_given(rt: HostRuntime) {
     let mut fault = FAULT;
     let alloc = rt.alloc();
     let status = tree(
-        alloc, image(), HOW, &mut [], &mut names, &mut needed, &mut fault,
+        alloc,
+        image(),
+        HOW,
+        &mut [],
+        &mut names,
+        &mut needed,
+        &mut fault,
     );
     equal(&rt, (status, needed.rows, needed.bytes), (SMALL, 1, 1));
     let status = tree(
-        alloc, image(), HOW, &mut rows, &mut names, &mut needed, &mut fault,
+        alloc,
+        image(),
+        HOW,
+        &mut rows,
+        &mut names,
+        &mut needed,
+        &mut fault,
     );
     equal(&rt, (status, needed.rows, needed.bytes), (OK, 1, 1));
     expect(&rt, names == *b"a##");
@@ -175,7 +199,14 @@ fn it_is_converted(rt: HostRuntime) {
     let mut out = [b'#'; 210];
     let mut needed = 7;
     let mut fault = FAULT;
-    let status = decompress(alloc, image(), HOW, &mut out[..207], &mut needed, &mut fault);
+    let status = decompress(
+        alloc,
+        image(),
+        HOW,
+        &mut out[..207],
+        &mut needed,
+        &mut fault,
+    );
     equal(&rt, (status, needed), (SMALL, 208));
     expect(&rt, out == [b'#'; 210]);
     let status = decompress(alloc, image(), HOW, &mut out, &mut needed, &mut fault);
