@@ -1,0 +1,285 @@
+"""Images of JFFS2, the Journalling Flash File System 2: their files, their damage, and the same nodes decompressed or
+compressed.
+
+The work is done by the shared library libjffs2.so, which is proved; what is proved of each call, and what is only
+trusted, is said in docs/BINDINGS.md of the repository. This module needs no other package.
+
+    import jffs2
+    with open("dump.img", "rb") as file:
+        image = jffs2.Image(file.read(), block=65536, through=True)
+    for entry in image.tree():
+        print(entry.directory, entry.name)
+    text = image.read("/etc/passwd")
+
+Any bytes-like object can be an image, a memory map too, and it is not copied where it can be lent. It must not change
+while a call runs. Calls may run in any threads at once; none holds the interpreter's lock.
+"""
+
+from __future__ import annotations
+
+import ctypes
+import os
+import sys
+from typing import Any, NamedTuple
+
+__all__ = ["Counts", "Entry", "Error", "Image", "Info", "Stat", "crc", "info"]
+
+#: What the numbers of faults mean.
+NAMES = {
+    1: "BlockSize",
+    2: "TooLarge",
+    3: "Incompatible",
+    4: "Compressed",
+    5: "Clash",
+    6: "RootKind",
+    7: "OutOfMemory",
+    9: "Small",
+    10: "BadPath",
+    11: "NotFound",
+    12: "NotDirectory",
+    20: "Data",
+    21: "TooLong",
+    22: "ReadOnly",
+    23: "Geometry",
+    24: "Full",
+}
+_SMALL = 9
+
+
+class Error(Exception):
+    """Why a call gives no answer: its number `status`, its `name`, the `address` of the node, and a `detail`, which is
+    the type of the node or the number of its compression."""
+
+    def __init__(self, status: int, address: int = 0, detail: int = 0) -> None:
+        self.status = status
+        self.name = NAMES.get(status, str(status))
+        self.address = address
+        self.detail = detail
+        super().__init__(f"{self.name} at {address:08x} ({detail})" if address or detail else self.name)
+
+
+class Counts(NamedTuple):
+    """How many blocks, sound nodes and findings an image has."""
+
+    blocks: int
+    entries: int
+    inodes: int
+    findings: int
+
+
+class Stat(NamedTuple):
+    """An object with its number: its whole mode, its owners, its size in bytes, its times in seconds."""
+
+    number: int
+    mode: int
+    uid: int
+    gid: int
+    size: int
+    atime: int
+    mtime: int
+    ctime: int
+
+
+class Entry(NamedTuple):
+    """A name of a directory, and the object that it stands for; none where that is missing."""
+
+    directory: int
+    name: bytes
+    number: int
+    stat: Stat | None
+
+
+class Info(NamedTuple):
+    """What an image of unknown block size and byte order tells of itself. `order` is "little", "big", or None where no
+    node is good; `least_block` and `greatest_block` are 0 where no size is known."""
+
+    bytes: int
+    order: str | None
+    least_block: int
+    greatest_block: int
+    highest_inode: int
+    highest_version: int
+    markers: int
+    nodes: int
+    other_order: int
+    entries: int
+    inodes: int
+    obsolete: int
+    damaged: int
+    other: int
+    data: dict[str, int]
+
+
+def _structure(name: str, fields: list[tuple[str, Any]]) -> Any:
+    return type(name, (ctypes.Structure,), {"_fields_": fields})
+
+
+_U32, _U64, _AT, _LEN = ctypes.c_uint32, ctypes.c_uint64, ctypes.c_void_p, ctypes.c_size_t
+_DATA = ("none", "zero", "rtime", "zlib", "lzo", "lzma", "other")
+_How = _structure("_How", [("block", _U32), ("big", _U32), ("through", _U32)])
+_Fault = _structure("_Fault", [("address", _U32), ("detail", _U32)])
+_Counted = _structure("_Counted", [(it, _U64) for it in Counts._fields])
+_Stat = _structure("_Stat", [(it, _U32) for it in Stat._fields])
+_Entry = _structure(
+    "_Entry",
+    [("directory", _U32), ("is_there", _U32), ("object", _Stat), ("name_at", _U64), ("name_len", _U64)],
+)
+_Needed = _structure("_Needed", [("rows", _U64), ("bytes", _U64)])
+_InfoRow = _structure(
+    "_InfoRow",
+    [("bytes", _U64)]
+    + [(it, _U32) for it in ("order", "least_block", "greatest_block", "highest_inode", "highest_version", "spare")]
+    + [(it, _U64) for it in ("markers", "nodes", "other_order", "entries", "inodes", "obsolete", "damaged", "other")]
+    + [("data_" + it, _U64) for it in _DATA],
+)
+
+_IMAGE = [_AT, _LEN, _AT]
+_CALLS = {
+    "jffs2_crc": [_AT, _LEN],
+    "jffs2_info": [_AT, _LEN, _AT],
+    "jffs2_check": [*_IMAGE, _AT, _AT],
+    "jffs2_stat": [*_IMAGE, _AT, _LEN, _AT, _AT],
+    "jffs2_read": [*_IMAGE, _U32, _U64, _AT, _LEN, _AT, _AT],
+    "jffs2_tree": [*_IMAGE, _AT, _LEN, _AT, _LEN, _AT, _AT],
+    "jffs2_decompress": [*_IMAGE, _AT, _LEN, _AT, _AT],
+    "jffs2_compress": [*_IMAGE, _AT, _LEN, _AT, _AT],
+}
+
+
+def _load() -> Any:
+    """The shared library: the one that JFFS2_LIB names, the one beside this module, or the system's."""
+    beside = os.path.join(os.path.dirname(os.path.abspath(__file__)), "libjffs2.so")
+    library = ctypes.CDLL(os.environ.get("JFFS2_LIB") or (beside if os.path.exists(beside) else "libjffs2.so"))
+    for name, arguments in _CALLS.items():
+        call = getattr(library, name)
+        call.restype, call.argtypes = _U32, arguments
+    return library
+
+
+_library = _load()
+_Lent = tuple[Any, int, Any]
+
+
+def _lent(data: Any) -> _Lent:
+    """An address and a length of bytes, and what keeps them there."""
+    view = memoryview(data)
+    if isinstance(data, bytes) or view.readonly or not view.c_contiguous:
+        kept = data if isinstance(data, bytes) else view.tobytes()
+        return ctypes.cast(ctypes.c_char_p(kept), _AT), len(kept), kept
+    if view.nbytes == 0:
+        return _lent(b"")
+    kept = (ctypes.c_ubyte * view.nbytes).from_buffer(view.cast("B"))
+    return ctypes.cast(kept, _AT), view.nbytes, kept
+
+
+def _tuple(row: Any, kind: Any) -> Any:
+    return kind(*(getattr(row, it) for it in kind._fields))
+
+
+def _answer(status: int, fault: Any = None) -> None:
+    if status:
+        raise Error(status, *((fault.address, fault.detail) if fault is not None else ()))
+
+
+def crc(data: Any) -> int:
+    """The checksum of bytes as nodes bear it: CRC-32 without the two complements."""
+    at, length, _kept = _lent(data)
+    return int(_library.jffs2_crc(at, length))
+
+
+def info(data: Any) -> Info:
+    """What an image of unknown block size and byte order tells of itself. Raises Error: TooLarge."""
+    at, length, _kept = _lent(data)
+    row = _InfoRow()
+    _answer(_library.jffs2_info(at, length, ctypes.byref(row)))
+    fields = {it: getattr(row, it) for it in Info._fields if it not in ("order", "data")}
+    order = {0: None, 1: "little", 2: "big"}[row.order]
+    return Info(order=order, data={it: getattr(row, "data_" + it) for it in _DATA}, **fields)
+
+
+class Image:
+    """An image in memory, with what it does not tell of itself: the bytes of an erase block, and its byte order.
+
+    `order` is "little" or "big". With `through`, `stat`, `read_at`, `read` and `tree` read compressed data through;
+    without it they raise Compressed at such data. All methods raise Error."""
+
+    def __init__(self, data: Any, block: int = 65536, order: str = "little", through: bool = False) -> None:
+        if order not in ("little", "big"):
+            raise ValueError("order is 'little' or 'big'")
+        self._at, self._length, self._kept = _lent(data)
+        self._how = _How(block, order == "big", through)
+
+    def _call(self, name: str, *more: Any) -> int:
+        call = getattr(_library, name)
+        return int(call(self._at, self._length, ctypes.byref(self._how), *more))
+
+    def check(self) -> Counts:
+        """Counts what it contains. It need not mount. BlockSize, TooLarge."""
+        row, fault = _Counted(), _Fault()
+        _answer(self._call("jffs2_check", ctypes.byref(row), ctypes.byref(fault)), fault)
+        return _tuple(row, Counts)
+
+    def stat(self, path: str | bytes) -> Stat:
+        """What a path leads to. Symlinks are not followed. BadPath, NotFound, NotDirectory, or that the image does not
+        mount."""
+        text, row, fault = os.fsencode(path), _Stat(), _Fault()
+        at, length, _kept = _lent(text)
+        _answer(self._call("jffs2_stat", at, length, ctypes.byref(row), ctypes.byref(fault)), fault)
+        return _tuple(row, Stat)
+
+    def read_at(self, number: int, offset: int, size: int) -> bytes:
+        """The bytes of a regular file or a symlink from an offset on, at most `size`; none of what is neither."""
+        out, got, fault = ctypes.create_string_buffer(size or 1), _LEN(), _Fault()
+        _answer(self._call("jffs2_read", number, offset, out, size, ctypes.byref(got), ctypes.byref(fault)), fault)
+        return out.raw[: got.value]
+
+    def read(self, path: str | bytes) -> bytes:
+        """All bytes of what a path leads to: of a regular file, or of a symlink, whose target they are."""
+        found = self.stat(path)
+        return self.read_at(found.number, 0, found.size)
+
+    def tree(self) -> list[Entry]:
+        """All names, by the number of their directory and then in byte order. The root, number 1, has none."""
+        rows, names, row_count, name_bytes = (_Entry * 1)(), ctypes.create_string_buffer(1), 0, 0
+        while True:
+            needed, fault = _Needed(), _Fault()
+            told = ctypes.byref(needed), ctypes.byref(fault)
+            status = self._call("jffs2_tree", rows, row_count, names, name_bytes, *told)
+            if status != _SMALL:
+                break
+            row_count, name_bytes = needed.rows, needed.bytes
+            rows, names = (_Entry * row_count)(), ctypes.create_string_buffer(name_bytes or 1)
+        _answer(status, fault)
+        text = names.raw
+        return [
+            Entry(
+                row.directory,
+                text[row.name_at : row.name_at + row.name_len],
+                row.object.number,
+                _tuple(row.object, Stat) if row.is_there else None,
+            )
+            for row in rows[: needed.rows]
+        ]
+
+    def _made(self, name: str) -> bytes:
+        size = max(1, self._length)
+        while True:
+            out, needed, fault = ctypes.create_string_buffer(size), _LEN(), _Fault()
+            status = self._call(name, out, size, ctypes.byref(needed), ctypes.byref(fault))
+            if status != _SMALL:
+                break
+            size = needed.value
+        _answer(status, fault)
+        return out.raw[: needed.value]
+
+    def decompress(self) -> bytes:
+        """The image of the same nodes, whose data are not compressed."""
+        return self._made("jffs2_decompress")
+
+    def compress(self) -> bytes:
+        """An image of the same nodes, whose files are compressed by ZLIB where that makes them shorter."""
+        return self._made("jffs2_compress")
+
+
+if sys.byteorder != "little":
+    raise ImportError("the library is for little-endian machines")

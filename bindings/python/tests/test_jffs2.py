@@ -1,0 +1,85 @@
+"""Tests of the module: JFFS2_TEST_DATA names the folder of the images (tests/data of the repository).
+
+Run as python3 -m unittest discover -s tests, with the module installed, or PYTHONPATH=. and JFFS2_LIB."""
+
+import os
+import unittest
+
+import jffs2
+
+DATA = os.environ.get("JFFS2_TEST_DATA") or os.path.join(os.path.dirname(__file__), "..", "..", "..", "tests", "data")
+
+
+def bytes_of(name):
+    with open(os.path.join(DATA, name), "rb") as file:
+        return file.read()
+
+
+class Calls(unittest.TestCase):
+    def setUp(self):
+        self.data = bytes_of("default.img")
+        self.image = jffs2.Image(self.data, 8192, through=True)
+
+    def refused(self, name, call, *words):
+        with self.assertRaises(jffs2.Error) as met:
+            call(*words)
+        self.assertEqual(met.exception.name, name)
+        return met.exception
+
+    def test_crc(self):
+        # CRC-32 without the two complements, of the usual nine digits
+        self.assertEqual(jffs2.crc(b""), 0)
+        self.assertEqual(jffs2.crc(b"123456789"), 0x2DFD2D88)
+
+    def test_info(self):
+        info = jffs2.info(self.data)
+        self.assertEqual((info.bytes, info.order, info.least_block, info.greatest_block), (8292, "little", 8192, 8192))
+        self.assertEqual((info.nodes, info.entries, info.inodes, info.markers), (31, 13, 16, 2))
+        self.assertEqual((info.data["none"], info.data["rtime"], info.data["zlib"]), (9, 1, 6))
+        self.assertIsNone(jffs2.info(b"").order)
+
+    def test_read(self):
+        self.assertEqual(self.image.read("/etc/passwd"), b"root:x:0:0:root:/root:/bin/sh\n")
+        number = self.image.stat("/etc/passwd").number
+        self.assertEqual(self.image.read_at(number, 5, 4), b"x:0:")
+        self.assertEqual(self.image.read_at(number, 1000, 4), b"")
+        self.assertEqual(self.image.read_at(999, 0, 4), b"")
+
+    def test_tree(self):
+        tree = self.image.tree()
+        self.assertEqual(len(tree), 13)
+        root = [entry.name for entry in tree if entry.directory == 1]
+        self.assertEqual(root, sorted(root))
+        self.assertIn(b"etc", root)
+        for entry in tree:
+            self.assertEqual(entry.stat.number, entry.number)
+
+    def test_refusals(self):
+        self.assertEqual(self.refused("Compressed", jffs2.Image(self.data, 8192).stat, "/etc").status, 4)
+        self.refused("NotFound", self.image.stat, "/nothing")
+        self.refused("BadPath", self.image.stat, "etc")
+        self.refused("NotDirectory", self.image.stat, "/etc/passwd/x")
+        self.refused("BlockSize", jffs2.Image(self.data, 8193).check)
+        self.refused("BlockSize", jffs2.Image(self.data, 0).tree)
+        self.refused("Geometry", jffs2.Image(b"", 4096).compress)
+
+    def test_round_trip(self):
+        plain = self.image.decompress()
+        image = jffs2.Image(plain, 8192)
+        self.assertEqual(image.read("/etc/passwd"), self.image.read("/etc/passwd"))
+        small = image.compress()
+        self.assertLess(len(small), len(plain))
+        self.assertEqual(jffs2.Image(small, 8192).decompress(), plain)
+
+    def test_no_image(self):
+        self.assertEqual(jffs2.Image(b"").tree(), [])
+        self.assertEqual(jffs2.Image(b"").stat("/").number, 1)
+        self.assertEqual(jffs2.Image(b"").decompress(), b"")
+
+    def test_bytes_like(self):
+        for data in (bytearray(self.data), memoryview(self.data), memoryview(bytearray(self.data))):
+            self.assertEqual(jffs2.Image(data, 8192).check(), self.image.check())
+
+
+if __name__ == "__main__":
+    unittest.main()

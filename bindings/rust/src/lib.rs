@@ -1,0 +1,483 @@
+//! Images of JFFS2, the Journalling Flash File System 2: their files, their damage, and the same
+//! nodes decompressed or compressed.
+//!
+//! The work is done by `libjffs2_c.a`, which is proved; what is proved of each call, and what is
+//! only trusted, is said in `docs/BINDINGS.md` of the repository. What the library asks of a caller
+//! follows from Rust's types, so no call here is `unsafe`. The crate has no dependencies, and calls
+//! may run in any threads at once.
+//!
+//! ```no_run
+//! let bytes = std::fs::read("dump.img")?;
+//! let image = jffs2::Image::new(&bytes, 65536, jffs2::Order::Little).through(true);
+//! for entry in image.tree()?.entries() {
+//!     println!("{} {}", entry.directory, String::from_utf8_lossy(entry.name));
+//! }
+//! let text = image.read(b"/etc/passwd")?;
+//! # Ok::<(), Box<dyn std::error::Error>>(())
+//! ```
+#![deny(missing_docs)]
+
+mod sys;
+
+use std::fmt;
+
+/// The byte order of an image. `Image::info` of an unknown one says which it is.
+#[derive(Clone, Copy, Debug, PartialEq, Eq)]
+pub enum Order {
+    /// The least byte of a number first.
+    Little,
+    /// The greatest byte of a number first.
+    Big,
+}
+
+/// Why a call gives no answer. Addresses are in bytes from the start of the image.
+#[derive(Clone, Copy, Debug, PartialEq, Eq)]
+#[non_exhaustive]
+pub enum Error {
+    /// Blocks of this size are not read: they have 4 KiB to 4 MiB, and a multiple of 4.
+    BlockSize,
+    /// The image is longer than 256 MiB.
+    TooLarge,
+    /// The node at this address may not be skipped, and its type is not known.
+    Incompatible {
+        /// Where the node is.
+        address: u32,
+        /// Its type.
+        nodetype: u32,
+    },
+    /// The data of the node at this address are compressed, by a method that is not read, or where
+    /// they are not read through.
+    Compressed {
+        /// Where the node is.
+        address: u32,
+        /// The number of the method.
+        method: u32,
+    },
+    /// The node at this address contradicts one at a lower address.
+    Clash {
+        /// Where the node is.
+        address: u32,
+    },
+    /// The root is no directory.
+    RootKind,
+    /// There is no memory.
+    OutOfMemory,
+    /// The text is no path: it has to begin with a slash.
+    BadPath,
+    /// The path names nothing.
+    NotFound,
+    /// What stands before a name of the path is no directory.
+    NotDirectory,
+    /// The data of the node at this address do not decompress.
+    Data {
+        /// Where the node is.
+        address: u32,
+    },
+    /// The node at this address is too long once it is decompressed.
+    TooLong {
+        /// Where the node is.
+        address: u32,
+    },
+    /// A node says that the image may not be written.
+    ReadOnly,
+    /// Blocks of this size are not written: they have at least 8 KiB.
+    Geometry,
+    /// The greatest flash of such blocks has no room for the nodes.
+    Full,
+    /// A number that this crate does not know.
+    Other {
+        /// The number.
+        status: u32,
+    },
+}
+
+impl fmt::Display for Error {
+    fn fmt(&self, f: &mut fmt::Formatter<'_>) -> fmt::Result {
+        match self {
+            Error::BlockSize => write!(f, "the block size is not read"),
+            Error::TooLarge => write!(f, "the image is longer than 256 MiB"),
+            Error::Incompatible { address, nodetype } => {
+                write!(
+                    f,
+                    "incompatible node of type {nodetype:04x} at {address:08x}"
+                )
+            }
+            Error::Compressed { address, method } => {
+                write!(f, "compressed data of method {method} at {address:08x}")
+            }
+            Error::Clash { address } => write!(f, "the node at {address:08x} clashes"),
+            Error::RootKind => write!(f, "the root is no directory"),
+            Error::OutOfMemory => write!(f, "out of memory"),
+            Error::BadPath => write!(f, "no path"),
+            Error::NotFound => write!(f, "not found"),
+            Error::NotDirectory => write!(f, "not a directory"),
+            Error::Data { address } => write!(f, "data at {address:08x} do not decompress"),
+            Error::TooLong { address } => write!(f, "the node at {address:08x} gets too long"),
+            Error::ReadOnly => write!(f, "the image may not be written"),
+            Error::Geometry => write!(f, "blocks of this size are not written"),
+            Error::Full => write!(f, "no flash has room for the nodes"),
+            Error::Other { status } => write!(f, "status {status}"),
+        }
+    }
+}
+
+impl std::error::Error for Error {}
+
+fn error(status: u32, fault: sys::Fault) -> Error {
+    let address = fault.address;
+    match status {
+        1 => Error::BlockSize,
+        2 => Error::TooLarge,
+        3 => Error::Incompatible {
+            address,
+            nodetype: fault.detail,
+        },
+        4 => Error::Compressed {
+            address,
+            method: fault.detail,
+        },
+        5 => Error::Clash { address },
+        6 => Error::RootKind,
+        7 => Error::OutOfMemory,
+        10 => Error::BadPath,
+        11 => Error::NotFound,
+        12 => Error::NotDirectory,
+        20 => Error::Data { address },
+        21 => Error::TooLong { address },
+        22 => Error::ReadOnly,
+        23 => Error::Geometry,
+        24 => Error::Full,
+        status => Error::Other { status },
+    }
+}
+
+fn answer<T>(status: u32, fault: sys::Fault, found: T) -> Result<T, Error> {
+    match status {
+        0 => Ok(found),
+        _ => Err(error(status, fault)),
+    }
+}
+
+/// The checksum of bytes as nodes bear it: CRC-32 without the two complements.
+pub fn crc(bytes: &[u8]) -> u32 {
+    unsafe { sys::jffs2_crc(bytes.as_ptr(), bytes.len()) }
+}
+
+/// How many blocks, sound nodes and findings an image has.
+#[repr(C)]
+#[derive(Clone, Copy, Debug, Default, PartialEq, Eq)]
+pub struct Counts {
+    /// Erase blocks, the last one also where it is not whole.
+    pub blocks: u64,
+    /// Sound entry nodes: names.
+    pub entries: u64,
+    /// Sound inode nodes whose data are not compressed.
+    pub inodes: u64,
+    /// Nodes that are not read, and runs of bytes that are neither nodes nor erased.
+    pub findings: u64,
+}
+
+/// An object with its number: its whole mode, its owners, its size in bytes, its times in seconds.
+#[repr(C)]
+#[derive(Clone, Copy, Debug, Default, PartialEq, Eq)]
+pub struct Stat {
+    /// Its inode number. The root's is 1.
+    pub number: u32,
+    /// Kind and permissions, as Linux has them.
+    pub mode: u32,
+    /// Its owner.
+    pub uid: u32,
+    /// Its group.
+    pub gid: u32,
+    /// In bytes.
+    pub size: u32,
+    /// When it was read, in seconds from 1970.
+    pub atime: u32,
+    /// When its bytes were changed.
+    pub mtime: u32,
+    /// When it was changed.
+    pub ctime: u32,
+}
+
+impl Stat {
+    /// Whether it is a directory.
+    pub fn is_directory(&self) -> bool {
+        self.mode & 0o170000 == 0o040000
+    }
+
+    /// Whether it is a regular file.
+    pub fn is_file(&self) -> bool {
+        self.mode & 0o170000 == 0o100000
+    }
+
+    /// Whether it is a symlink. What it points to are its bytes.
+    pub fn is_symlink(&self) -> bool {
+        self.mode & 0o170000 == 0o120000
+    }
+}
+
+/// What an image of unknown block size and byte order tells of itself.
+#[derive(Clone, Copy, Debug, PartialEq, Eq)]
+pub struct Info {
+    /// Its length in bytes.
+    pub bytes: u64,
+    /// Its byte order; none where no node is good.
+    pub order: Option<Order>,
+    /// From the least to the greatest size that its blocks may have, where that is known.
+    pub blocks: Option<(u32, u32)>,
+    /// Its nodes in that order.
+    pub nodes: u64,
+    /// Good headers in the other order.
+    pub other_order: u64,
+    /// Damaged nodes.
+    pub damaged: u64,
+    /// The greatest inode number, and the greatest version.
+    pub highest: (u32, u32),
+    /// Inode nodes by how their data are stored: as they are, zeros, RTIME, ZLIB, LZO, LZMA,
+    /// otherwise.
+    pub data: [u64; 7],
+}
+
+/// What an image of unknown block size and byte order tells of itself.
+///
+/// # Errors
+/// `TooLarge`.
+pub fn info(image: &[u8]) -> Result<Info, Error> {
+    let mut row = sys::InfoRow::default();
+    let status = unsafe { sys::jffs2_info(image.as_ptr(), image.len(), &mut row) };
+    let found = Info {
+        bytes: row.bytes,
+        order: match row.order {
+            1 => Some(Order::Little),
+            2 => Some(Order::Big),
+            _ => None,
+        },
+        blocks: (row.least_block != 0).then_some((row.least_block, row.greatest_block)),
+        nodes: row.nodes,
+        other_order: row.other_order,
+        damaged: row.damaged,
+        highest: (row.highest_inode, row.highest_version),
+        data: row.data,
+    };
+    answer(status, sys::Fault::default(), found)
+}
+
+/// A name of a directory.
+#[derive(Clone, Copy, Debug, PartialEq, Eq)]
+pub struct Entry<'t> {
+    /// The number of the directory.
+    pub directory: u32,
+    /// The name: any bytes but `/` and 0.
+    pub name: &'t [u8],
+    /// The number of the object that it stands for.
+    pub number: u32,
+    /// That object, if it is there.
+    pub object: Option<Stat>,
+}
+
+/// The names of an image.
+#[derive(Clone, Default)]
+pub struct Tree {
+    rows: Vec<sys::Entry>,
+    names: Vec<u8>,
+}
+
+impl Tree {
+    /// All names, by the number of their directory and then in byte order. The root has none.
+    pub fn entries(&self) -> impl Iterator<Item = Entry<'_>> + '_ {
+        self.rows.iter().map(|row| Entry {
+            directory: row.directory,
+            name: &self.names[row.name_at as usize..][..row.name_len as usize],
+            number: row.object.number,
+            object: (row.is_there != 0).then_some(row.object),
+        })
+    }
+
+    /// The names of one directory, in byte order.
+    pub fn directory(&self, number: u32) -> impl Iterator<Item = Entry<'_>> + '_ {
+        self.entries().filter(move |it| it.directory == number)
+    }
+}
+
+/// An image in memory, with what it does not tell of itself. It borrows the bytes.
+#[derive(Clone, Copy)]
+pub struct Image<'a> {
+    bytes: &'a [u8],
+    how: sys::How,
+}
+
+impl<'a> Image<'a> {
+    /// An image of erase blocks of `block` bytes, in a byte order. Nothing is read of it yet.
+    pub fn new(bytes: &'a [u8], block: u32, order: Order) -> Self {
+        let how = sys::How {
+            block,
+            big: u32::from(order == Order::Big),
+            through: 0,
+        };
+        Image { bytes, how }
+    }
+
+    /// The same, of which `stat`, `read_at`, `read` and `tree` read compressed data through, or
+    /// refuse them, as they do unless they are told otherwise.
+    #[must_use]
+    pub fn through(mut self, through: bool) -> Self {
+        self.how.through = u32::from(through);
+        self
+    }
+
+    /// Counts what it contains. It need not mount.
+    ///
+    /// # Errors
+    /// `BlockSize`, `TooLarge`.
+    pub fn check(&self) -> Result<Counts, Error> {
+        let (mut counts, mut fault) = (Counts::default(), sys::Fault::default());
+        let status = unsafe {
+            sys::jffs2_check(
+                self.bytes.as_ptr(),
+                self.bytes.len(),
+                &self.how,
+                &mut counts,
+                &mut fault,
+            )
+        };
+        answer(status, fault, counts)
+    }
+
+    /// What a path leads to. Symlinks are not followed.
+    ///
+    /// # Errors
+    /// That it does not mount; `BadPath`, `NotFound`, `NotDirectory`.
+    pub fn stat(&self, path: &[u8]) -> Result<Stat, Error> {
+        let (mut stat, mut fault) = (Stat::default(), sys::Fault::default());
+        let status = unsafe {
+            sys::jffs2_stat(
+                self.bytes.as_ptr(),
+                self.bytes.len(),
+                &self.how,
+                path.as_ptr(),
+                path.len(),
+                &mut stat,
+                &mut fault,
+            )
+        };
+        answer(status, fault, stat)
+    }
+
+    /// Reads bytes of a regular file or a symlink from an offset on, as many as there is room for,
+    /// and answers how many these are; 0 of what is neither.
+    ///
+    /// # Errors
+    /// That it does not mount. `out` is then as it was.
+    pub fn read_at(&self, number: u32, offset: u64, out: &mut [u8]) -> Result<usize, Error> {
+        let (mut got, mut fault) = (0, sys::Fault::default());
+        let status = unsafe {
+            sys::jffs2_read(
+                self.bytes.as_ptr(),
+                self.bytes.len(),
+                &self.how,
+                number,
+                offset,
+                out.as_mut_ptr(),
+                out.len(),
+                &mut got,
+                &mut fault,
+            )
+        };
+        answer(status, fault, got)
+    }
+
+    /// All bytes of what a path leads to.
+    ///
+    /// # Errors
+    /// As `stat`.
+    pub fn read(&self, path: &[u8]) -> Result<Vec<u8>, Error> {
+        let stat = self.stat(path)?;
+        let mut out = vec![0; stat.size as usize];
+        let got = self.read_at(stat.number, 0, &mut out)?;
+        out.truncate(got);
+        Ok(out)
+    }
+
+    /// All names, with the objects that they stand for. It asks twice: how much there is, and then
+    /// for it.
+    ///
+    /// # Errors
+    /// That it does not mount.
+    pub fn tree(&self) -> Result<Tree, Error> {
+        let mut tree = Tree::default();
+        loop {
+            let (mut needed, mut fault) = (sys::Needed::default(), sys::Fault::default());
+            let status = unsafe {
+                sys::jffs2_tree(
+                    self.bytes.as_ptr(),
+                    self.bytes.len(),
+                    &self.how,
+                    tree.rows.as_mut_ptr(),
+                    tree.rows.len(),
+                    tree.names.as_mut_ptr(),
+                    tree.names.len(),
+                    &mut needed,
+                    &mut fault,
+                )
+            };
+            if status != SMALL {
+                return answer(status, fault, tree);
+            }
+            tree.rows
+                .resize(needed.rows as usize, sys::Entry::default());
+            tree.names.resize(needed.bytes as usize, 0);
+        }
+    }
+
+    /// The image of the same nodes, whose data are not compressed.
+    ///
+    /// # Errors
+    /// `BlockSize` to `Compressed`, `OutOfMemory`, `Data` to `Full`.
+    pub fn decompress(&self) -> Result<Vec<u8>, Error> {
+        self.made(sys::jffs2_decompress)
+    }
+
+    /// An image of the same nodes, whose files are compressed by ZLIB where that makes them
+    /// shorter.
+    ///
+    /// # Errors
+    /// `BlockSize` to `Compressed`, `OutOfMemory`, `TooLong` to `Full`.
+    pub fn compress(&self) -> Result<Vec<u8>, Error> {
+        self.made(sys::jffs2_compress)
+    }
+
+    fn made(&self, make: Make) -> Result<Vec<u8>, Error> {
+        let mut out = vec![0; self.bytes.len()];
+        loop {
+            let (mut needed, mut fault) = (0, sys::Fault::default());
+            let status = unsafe {
+                make(
+                    self.bytes.as_ptr(),
+                    self.bytes.len(),
+                    &self.how,
+                    out.as_mut_ptr(),
+                    out.len(),
+                    &mut needed,
+                    &mut fault,
+                )
+            };
+            if status != SMALL {
+                out.truncate(needed);
+                return answer(status, fault, out);
+            }
+            out.resize(needed, 0);
+        }
+    }
+}
+
+const SMALL: u32 = 9;
+
+type Make = unsafe extern "C" fn(
+    *const u8,
+    usize,
+    *const sys::How,
+    *mut u8,
+    usize,
+    *mut usize,
+    *mut sys::Fault,
+) -> u32;

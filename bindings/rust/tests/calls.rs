@@ -1,0 +1,95 @@
+//! Each call once, on an image that `mkfs.jffs2` compressed. `JFFS2_TEST_DATA` names the folder of
+//! tests/data of the repository, which is beside this crate unless it is told otherwise.
+use jffs2::{crc, info, Error, Image, Order};
+
+fn data() -> Vec<u8> {
+    let folder = std::env::var("JFFS2_TEST_DATA")
+        .unwrap_or_else(|_| concat!(env!("CARGO_MANIFEST_DIR"), "/../../tests/data").to_string());
+    std::fs::read(folder + "/default.img").unwrap()
+}
+
+fn image(bytes: &[u8]) -> Image<'_> {
+    Image::new(bytes, 8192, Order::Little).through(true)
+}
+
+#[test]
+fn checksums() {
+    // CRC-32 without the two complements, of the usual nine digits
+    assert_eq!(crc(b""), 0);
+    assert_eq!(crc(b"123456789"), 0x2dfd_2d88);
+}
+
+#[test]
+fn tells_of_itself() {
+    let bytes = data();
+    let found = info(&bytes).unwrap();
+    assert_eq!(found.order, Some(Order::Little));
+    assert_eq!(found.blocks, Some((8192, 8192)));
+    assert_eq!((found.bytes, found.nodes), (8292, 31));
+    assert_eq!(found.data, [9, 0, 1, 6, 0, 0, 0]);
+    assert_eq!(info(&[]).unwrap().order, None);
+}
+
+#[test]
+fn reads() {
+    let bytes = data();
+    let image = image(&bytes);
+    let text = b"root:x:0:0:root:/root:/bin/sh\n";
+    assert_eq!(image.read(b"/etc/passwd").unwrap(), text);
+    let number = image.stat(b"/etc/passwd").unwrap().number;
+    let mut out = [7; 6];
+    assert_eq!(image.read_at(number, 26, &mut out), Ok(4));
+    assert_eq!(&out, b"/sh\n\x07\x07");
+    assert_eq!(image.read_at(999, 0, &mut out), Ok(0));
+}
+
+#[test]
+fn has_names() {
+    let bytes = data();
+    let tree = image(&bytes).tree().unwrap();
+    assert_eq!(tree.entries().count(), 13);
+    assert!(tree.directory(1).any(|it| it.name == b"etc"));
+    assert!(tree
+        .entries()
+        .all(|it| it.object.is_some_and(|o| o.number == it.number)));
+    assert_eq!(
+        Image::new(&[], 65536, Order::Big)
+            .tree()
+            .unwrap()
+            .entries()
+            .count(),
+        0
+    );
+}
+
+#[test]
+fn refuses() {
+    let bytes = data();
+    let plain = Image::new(&bytes, 8192, Order::Little);
+    assert!(matches!(plain.stat(b"/etc"), Err(Error::Compressed { .. })));
+    assert_eq!(image(&bytes).stat(b"/nothing"), Err(Error::NotFound));
+    assert_eq!(image(&bytes).stat(b"etc"), Err(Error::BadPath));
+    assert_eq!(
+        image(&bytes).stat(b"/etc/passwd/x"),
+        Err(Error::NotDirectory)
+    );
+    assert_eq!(
+        Image::new(&bytes, 8193, Order::Little).check(),
+        Err(Error::BlockSize)
+    );
+    assert_eq!(
+        Image::new(&[], 4096, Order::Little).compress(),
+        Err(Error::Geometry)
+    );
+}
+
+#[test]
+fn comes_back() {
+    let bytes = data();
+    let plain = image(&bytes).decompress().unwrap();
+    let small = image(&plain).compress().unwrap();
+    assert!(small.len() < plain.len());
+    assert_eq!(image(&small).decompress().unwrap(), plain);
+    let counts = image(&plain).check().unwrap();
+    assert_eq!((counts.entries, counts.findings), (13, 0));
+}

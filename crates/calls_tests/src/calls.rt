@@ -1,0 +1,223 @@
+//! Each call on an image of one file, `/a`, in two nodes, as docs/FORMAT.md writes it down; and on
+//! the same with one byte of it turned.
+
+use crate::checks::{equal, expect};
+use jcalls::{
+    Counted, Entry, Fault, How, InfoRow, Needed, OK, Place, SMALL, Stat, TOO_LARGE, check,
+    compress, crc, decompress, info, read, stat, tree,
+};
+use std::alloc::Global;
+
+const HOW: How = How {
+    block: 8192,
+    big: 0,
+    through: 1,
+};
+
+const FAULT: Fault = Fault {
+    address: 0,
+    detail: 0,
+};
+
+const NO_STAT: Stat = Stat {
+    number: 0,
+    mode: 0,
+    uid: 0,
+    gid: 0,
+    size: 0,
+    atime: 0,
+    mtime: 0,
+    ctime: 0,
+};
+
+const NO_ENTRY: Entry = Entry {
+    directory: 0,
+    is_there: 0,
+    object: NO_STAT,
+    name_at: 0,
+    name_len: 0,
+};
+
+/// An entry of the root that names object 2 `a`, and that object in two nodes: `hello`, and
+/// ` flash` behind it.
+fn image() -> &'static [u8] {
+    b"\x85\x19\x01\xe0\x29\x00\x00\x00\x6d\xa6\x2f\xd7\x01\x00\x00\x00\x01\x00\x00\x00\x02\x00\x00\
+\x00\x00\x00\x00\x00\x01\x08\x00\x00\x95\x02\x9b\x91\xce\x51\xb5\x3a\x61\xff\xff\xff\
+\x85\x19\x02\xe0\x49\x00\x00\x00\xc0\x23\x9d\x6a\x02\x00\x00\x00\x01\x00\x00\x00\xa4\x81\x00\x00\
+\x00\x00\x00\x00\x05\x00\x00\x00\x00\x00\x00\x00\x00\x00\x00\x00\x00\x00\x00\x00\x00\x00\x00\x00\
+\x05\x00\x00\x00\x05\x00\x00\x00\x00\x00\x00\x00\x9b\x51\x32\xf0\xe0\xb6\xd7\x21hello\xff\xff\xff\
+\x85\x19\x02\xe0\x4a\x00\x00\x00\x2e\x8c\x28\x78\x02\x00\x00\x00\x02\x00\x00\x00\xa4\x81\x00\x00\
+\x00\x00\x00\x00\x0b\x00\x00\x00\x00\x00\x00\x00\x00\x00\x00\x00\x00\x00\x00\x00\x05\x00\x00\x00\
+\x06\x00\x00\x00\x06\x00\x00\x00\x00\x00\x00\x00\x28\xad\x40\x6e\x28\xd5\xbc\x76 flash\xff\xff"
+}
+
+#[test]
+fn it_is_counted(rt: HostRuntime) {
+    let mut counted = Counted {
+        blocks: 9,
+        entries: 9,
+        inodes: 9,
+        findings: 9,
+    };
+    let mut fault = FAULT;
+    equal(&rt, check(image(), HOW, &mut counted, &mut fault), OK);
+    equal(&rt, (counted.blocks, counted.entries), (1, 1));
+    equal(&rt, (counted.inodes, counted.findings), (2, 0));
+    let odd = How { block: 8193, ..HOW };
+    equal(&rt, check(image(), odd, &mut counted, &mut fault), 1);
+    equal(&rt, counted.inodes, 2);
+    // CRC-32 without the two complements, of the usual nine digits
+    equal(&rt, crc(b"123456789"), 0x2DFD_2D88);
+}
+
+fn none() -> InfoRow {
+    InfoRow {
+        bytes: 0,
+        order: 9,
+        least_block: 0,
+        greatest_block: 0,
+        highest_inode: 0,
+        highest_version: 0,
+        spare: 0,
+        markers: 0,
+        nodes: 0,
+        other_order: 0,
+        entries: 0,
+        inodes: 0,
+        obsolete: 0,
+        damaged: 0,
+        other: 0,
+        data_none: 0,
+        data_zero: 0,
+        data_rtime: 0,
+        data_zlib: 0,
+        data_lzo: 0,
+        data_lzma: 0,
+        data_other: 0,
+    }
+}
+
+#[test]
+fn it_tells_of_itself(rt: HostRuntime) {
+    let mut told = none();
+    equal(&rt, info(image(), &mut told), OK);
+    equal(&rt, (told.bytes, told.order), (196, 1));
+    equal(&rt, (told.least_block, told.greatest_block), (0, 0));
+    equal(&rt, (told.nodes, told.entries, told.inodes), (3, 1, 2));
+    equal(&rt, (told.highest_inode, told.highest_version), (2, 2));
+    equal(&rt, (told.data_none, told.other_order), (2, 0));
+    equal(&rt, TOO_LARGE, 2);
+}
+
+/// What a path leads to: the status, and the number, the mode and the size.
+fn found(alloc: Global, how: How, path: &[u8]) -> (u32, u32, u32, u32) {
+    let mut row = NO_STAT;
+    let mut fault = FAULT;
+    let status = stat(alloc, image(), how, path, &mut row, &mut fault);
+    (status, row.number, row.mode, row.size)
+}
+
+#[test]
+fn its_paths_lead(rt: HostRuntime) {
+    let alloc = rt.alloc();
+    let file = (OK, 2, 0o100_644, 11);
+    equal(&rt, found(alloc, HOW, b"/a"), file);
+    equal(&rt, found(alloc, How { through: 0, ..HOW }, b"/a"), file);
+    equal(&rt, found(alloc, HOW, b"/"), (OK, 1, 0o040_755, 0));
+    equal(&rt, found(alloc, HOW, b"a"), (10, 0, 0, 0));
+    equal(&rt, found(alloc, HOW, b"/b"), (11, 0, 0, 0));
+    equal(&rt, found(alloc, HOW, b"/a/b"), (12, 0, 0, 0));
+    // in the other order it has no node
+    equal(
+        &rt,
+        found(alloc, How { big: 1, ..HOW }, b"/a"),
+        (11, 0, 0, 0),
+    );
+}
+
+#[test]
+fn its_bytes_are_read(rt: HostRuntime) {
+    let place = Place {
+        number: 2,
+        offset: 3,
+    };
+    let mut out = *b"##########";
+    let mut got = 77;
+    let mut fault = FAULT;
+    let status = read(
+        rt.alloc(),
+        image(),
+        HOW,
+        place,
+        &mut out,
+        &mut got,
+        &mut fault,
+    );
+    equal(&rt, (status, got), (OK, 8));
+    expect(&rt, out == *b"lo flash##");
+}
+
+#[test]
+fn its_names_are_given(rt: HostRuntime) {
+    let mut rows = [NO_ENTRY; 2];
+    let mut names = *b"###";
+    let mut needed = Needed { rows: 7, bytes: 7 };
+    let mut fault = FAULT;
+    let alloc = rt.alloc();
+    let status = tree(
+        alloc,
+        image(),
+        HOW,
+        &mut [],
+        &mut names,
+        &mut needed,
+        &mut fault,
+    );
+    equal(&rt, (status, needed.rows, needed.bytes), (SMALL, 1, 1));
+    let status = tree(
+        alloc,
+        image(),
+        HOW,
+        &mut rows,
+        &mut names,
+        &mut needed,
+        &mut fault,
+    );
+    equal(&rt, (status, needed.rows, needed.bytes), (OK, 1, 1));
+    expect(&rt, names == *b"a##");
+    equal(&rt, (rows[0].directory, rows[0].is_there), (1, 1));
+    equal(&rt, (rows[0].object.number, rows[0].object.size), (2, 11));
+    equal(&rt, (rows[0].name_at, rows[0].name_len), (0, 1));
+    equal(&rt, (rows[1].directory, rows[1].is_there), (0, 0));
+}
+
+/// The image decompressed is a marker and then its nodes; compressed it is as long, since so few
+/// bytes get no shorter.
+#[test]
+fn it_is_converted(rt: HostRuntime) {
+    let alloc = rt.alloc();
+    let mut out = [b'#'; 210];
+    let mut needed = 7;
+    let mut fault = FAULT;
+    let status = decompress(
+        alloc,
+        image(),
+        HOW,
+        &mut out[..207],
+        &mut needed,
+        &mut fault,
+    );
+    equal(&rt, (status, needed), (SMALL, 208));
+    expect(&rt, out == [b'#'; 210]);
+    let status = decompress(alloc, image(), HOW, &mut out, &mut needed, &mut fault);
+    equal(&rt, (status, needed), (OK, 208));
+    expect(&rt, &out[12..208] == image());
+    expect(&rt, &out[208..] == b"##".as_slice());
+    let mut packed = [b'#'; 210];
+    let status = compress(alloc, image(), HOW, &mut packed, &mut needed, &mut fault);
+    equal(&rt, (status, needed), (OK, 208));
+    expect(&rt, packed == out);
+    let small = How { block: 4096, ..HOW };
+    let status = compress(alloc, image(), small, &mut packed, &mut needed, &mut fault);
+    equal(&rt, (status, needed), (23, 208));
+}

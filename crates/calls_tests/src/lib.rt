@@ -1,0 +1,9 @@
+//! Tests of `jcalls`, each call with ample memory on images whose bytes are known from outside, and
+//! with too little room. What the calls answer over C, and where memory is refused, is in
+//! tests/bindings.sh.
+#![tactic(auto)]
+
+#[cfg(test)]
+mod calls;
+#[cfg(test)]
+mod checks;

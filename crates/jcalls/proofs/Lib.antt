@@ -1,0 +1,3 @@
+pub mod CountingLemmas
+pub mod ShownLemmas
+pub mod TreeLemmas

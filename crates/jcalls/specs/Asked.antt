@@ -1,0 +1,15 @@
+-- What a caller asks for.
+use Rattle.std.specs.Prelude.{◌==◌, Bool, not, if◌then◌else◌}
+use Rattle.jnode.specs.declared.order.Endian.{Endian}
+use Rattle.jnode.specs.declared.order.Endian.TheVariants.{Little, Big}
+use Rattle.jcalls.specs.declared.how.How.{How}
+
+abbrev pub is_big : How → Bool
+is_big how = not (how.big == 0)
+
+-- whether compressed data are read through
+abbrev pub is_through : How → Bool
+is_through how = not (how.through == 0)
+
+abbrev pub asked_order : How → Endian
+asked_order how = if is_big how then Big else Little

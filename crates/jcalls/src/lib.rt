@@ -1,0 +1,31 @@
+//! The calls that are given to C: one function an export of `jffs2_c`, over slices, numbers and
+//! rows.
+//!
+//! Each call is one-shot: an image goes in, and the answer into memory of the caller. It answers 0,
+//! or the number of a fault, and then the caller's memory is as it was, but for `fault`, which says
+//! where the fault is, and for `needed` at 9.
+//!
+//! It is built on `jmount` and `jthrough` (the file system of an image, or the one through its
+//! compression), `jscan`, `jinfo` and `jconvert`. `specs/Told.antt` says which number stands for
+//! which fault, `specs/Shown.antt` which file system an image shows, `specs/Looking.antt` what
+//! `stat`, `read` and `tree` answer, `specs/Made.antt` what `decompress` and `compress` do,
+//! `specs/Counting.antt` and `specs/InfoRows.antt` what `check` and `info` do.
+#![tactic(auto)]
+
+mod converting;
+mod giving;
+mod how;
+mod looking;
+mod mounting;
+mod naming;
+mod reading;
+mod rows;
+mod told;
+
+pub use crate::converting::{compress, decompress};
+pub use crate::how::How;
+pub use crate::looking::{check, crc, info};
+pub use crate::naming::tree;
+pub use crate::reading::{Place, read, stat};
+pub use crate::rows::{Counted, Entry, InfoRow, Needed, Request, Stat};
+pub use crate::told::{Fault, OK, SMALL, TOO_LARGE, Told};

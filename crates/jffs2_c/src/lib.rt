@@ -1,0 +1,179 @@
+//! Calls for C, over bytes of the caller: an image in, the answer into memory of the caller. Each
+//! is one of `jcalls`, with its clauses; bindings/c/jffs2.h declares them.
+#![tactic(auto)]
+
+ghost use Rattle.std.specs.Prelude.{◌≡◌, ◌≢◌, ◌<◌, ◌↔◌, ◌⊎◌, length};
+ghost use Rattle.flashbase.specs.Crc.{crc_of};
+ghost use Rattle.jscan.specs.Image.{greatest_image};
+ghost use Rattle.jinfo.specs.Infos.{info_of};
+ghost use Rattle.jmount.specs.Tree.{State};
+ghost use Rattle.jcalls.specs.Asked.{asked_order};
+ghost use Rattle.jcalls.specs.Counting.{CountsAsked, CountRefused};
+ghost use Rattle.jcalls.specs.InfoRows.{info_row};
+ghost use Rattle.jcalls.specs.Looking.{Stats, StatRefused, ReadsAt, GivesTree, NeedsForTree};
+ghost use Rattle.jcalls.specs.Made.{IsDecompressed, IsCompressed, DecompressRefused, CompressRefused, GivesMade, NeedsForMade};
+ghost use Rattle.jcalls.specs.Shown.{Shows, ShowsNone};
+ghost use Rattle.jcalls.specs.Told.{told_by};
+
+use jcalls::{Counted, Entry, Fault, How, InfoRow, Needed, Place, Stat};
+use std::alloc::Global;
+
+/// The checksum that nodes bear, of bytes. It takes no memory.
+#[unsafe(no_mangle)]
+pub extern "C" fn jffs2_crc(bytes: &[u8]) -> u32
+    ensures { result ≡ crc_of bytes.now }
+{
+    jcalls::crc(bytes)
+}
+
+/// What an image tells of itself. It takes no memory.
+#[unsafe(no_mangle)]
+pub extern "C" fn jffs2_info(image: &[u8], info: &mut InfoRow) -> u32
+    ensures done { result ≡ 0 → info.new ≡ info_row (info_of image.now) }
+    ensures too_large { result ≡ 2 ↔ greatest_image < length image.now }
+    ensures no_other { (result ≡ 0) ⊎ (result ≡ 2) }
+    ensures kept { result ≢ 0 → info.new ≡ info.old }
+{
+    jcalls::info(image, info)
+}
+
+/// Counts what an image contains. It takes no memory.
+#[unsafe(no_mangle)]
+pub extern "C" fn jffs2_check(
+    image: &[u8],
+    how: &How,
+    counted: &mut Counted,
+    fault: &mut Fault,
+) -> u32
+    ensures done { result ≡ 0
+        → CountsAsked (asked_order how.now) how.now.block image.now counted.new }
+    ensures refused { result ≢ 0
+        → CountRefused how.now.block image.now (told_by result fault.new) }
+    ensures kept { result ≢ 0 → counted.new ≡ counted.old }
+    ensures quiet { result ≡ 0 → fault.new ≡ fault.old }
+{
+    jcalls::check(image, *how, counted, fault)
+}
+
+/// What a path leads to.
+#[unsafe(no_mangle)]
+pub extern "C" fn jffs2_stat(
+    alloc: Global,
+    image: &[u8],
+    how: &How,
+    path: &[u8],
+    stat: &mut Stat,
+    fault: &mut Fault,
+) -> u32
+    ensures done { result ≡ 0 → Stats how.now image.now path.now stat.new }
+    ensures refused { result ≢ 0
+        → StatRefused how.now image.now path.now (told_by result fault.new) }
+    ensures kept { result ≢ 0 → stat.new ≡ stat.old }
+    ensures quiet { result ≡ 0 → fault.new ≡ fault.old }
+{
+    jcalls::stat(alloc, image, *how, path, stat, fault)
+}
+
+/// The bytes of an object from an offset on, as many as there is room for.
+#[unsafe(no_mangle)]
+pub extern "C" fn jffs2_read(
+    alloc: Global,
+    image: &[u8],
+    how: &How,
+    number: u32,
+    offset: u64,
+    out: &mut [u8],
+    got: &mut usize,
+    fault: &mut Fault,
+) -> u32
+    ensures done { result ≡ 0 → (s : State) × Shows how.now image.now s
+        × ReadsAt s number offset out.old out.new got.new }
+    ensures refused { result ≢ 0 → ShowsNone how.now image.now (told_by result fault.new) }
+    ensures kept { result ≢ 0 → out.new ≡ out.old }
+    ensures got_kept { result ≢ 0 → got.new ≡ got.old }
+    ensures quiet { result ≡ 0 → fault.new ≡ fault.old }
+{
+    jcalls::read(
+        alloc,
+        image,
+        *how,
+        Place { number, offset },
+        out,
+        got,
+        fault,
+    )
+}
+
+/// All names, as rows and as bytes.
+#[unsafe(no_mangle)]
+pub extern "C" fn jffs2_tree(
+    alloc: Global,
+    image: &[u8],
+    how: &How,
+    rows: &mut [Entry],
+    names: &mut [u8],
+    needed: &mut Needed,
+    fault: &mut Fault,
+) -> u32
+    ensures done { result ≡ 0 → (s : State) × Shows how.now image.now s
+        × GivesTree s rows.old rows.new names.old names.new needed.new }
+    ensures small { result ≡ 9 → (s : State) × Shows how.now image.now s
+        × NeedsForTree s rows.old names.old needed.new }
+    ensures refused { result ≢ 0 → result ≢ 9
+        → ShowsNone how.now image.now (told_by result fault.new) }
+    ensures rows_kept { result ≢ 0 → rows.new ≡ rows.old }
+    ensures names_kept { result ≢ 0 → names.new ≡ names.old }
+    ensures needed_kept { result ≢ 0 → result ≢ 9 → needed.new ≡ needed.old }
+{
+    jcalls::tree(alloc, image, *how, rows, names, needed, fault)
+}
+
+/// The image of the same nodes, whose data are not compressed.
+#[unsafe(no_mangle)]
+pub extern "C" fn jffs2_decompress(
+    alloc: Global,
+    image: &[u8],
+    how: &How,
+    out: &mut [u8],
+    needed: &mut usize,
+    fault: &mut Fault,
+) -> u32
+    ensures done { result ≡ 0
+        → GivesMade (IsDecompressed (asked_order how.now) how.now.block image.now)
+        out.old out.new needed.new }
+    ensures small { result ≡ 9
+        → NeedsForMade (IsDecompressed (asked_order how.now) how.now.block image.now)
+        out.old needed.new }
+    ensures refused { result ≢ 0 → result ≢ 9
+        → DecompressRefused (asked_order how.now) how.now.block image.now
+        (told_by result fault.new) }
+    ensures kept { result ≢ 0 → out.new ≡ out.old }
+    ensures needed_kept { result ≢ 0 → result ≢ 9 → needed.new ≡ needed.old }
+{
+    jcalls::decompress(alloc, image, *how, out, needed, fault)
+}
+
+/// An image of the same nodes, compressed where that is shorter.
+#[unsafe(no_mangle)]
+pub extern "C" fn jffs2_compress(
+    alloc: Global,
+    image: &[u8],
+    how: &How,
+    out: &mut [u8],
+    needed: &mut usize,
+    fault: &mut Fault,
+) -> u32
+    ensures done { result ≡ 0
+        → GivesMade (IsCompressed (asked_order how.now) how.now.block image.now)
+        out.old out.new needed.new }
+    ensures small { result ≡ 9
+        → NeedsForMade (IsCompressed (asked_order how.now) how.now.block image.now)
+        out.old needed.new }
+    ensures refused { result ≢ 0 → result ≢ 9
+        → CompressRefused (asked_order how.now) how.now.block image.now
+        (told_by result fault.new) }
+    ensures kept { result ≢ 0 → out.new ≡ out.old }
+    ensures needed_kept { result ≢ 0 → result ≢ 9 → needed.new ≡ needed.old }
+{
+    jcalls::compress(alloc, image, *how, out, needed, fault)
+}
