@@ -197,8 +197,7 @@ pub took_begun : (held now page : ℕ) (e : Endian) (size blocks c : ℕ) (x : I
 took_begun held now page e size blocks c x o steps streams was is end y a b f n p q r whole broke chosen put = (
   (
     whole,
-    inr
-    (
+    inr (
       (
         broke,
         (
@@ -353,6 +352,7 @@ alone T held page e size blocks from x o was end y is old new failures now place
   where
     none : held ≡ held + content_len e []
     none = omega arith
+
     stop_at : (f : SessionFault) → AppliesBy {T = T} held page e size blocks from x o was end y is old new failures now [] places (Err f)
         → AppliesAs {T = Unit {0}} (packs_by (held + content_len e []) page e size blocks) (state_by from x was []) o (state_by end y is places) (change_by old new failures now) (Err f)
     stop_at f did = any f (subst (λ (h : ℕ). AppliesBy {T = T} h page e size blocks from x o was end y is old new failures now [] places (Err f)) none did)

@@ -292,8 +292,13 @@ impl<E: Order, S: Sink> PackingSession<E, S> {
             cursor: self.log.cursor,
             held: self.held,
         };
-        let Taken { steps, chosen } =
-            accept::<E>(alloc, &self.log.index, &room, op, &mut self.packing)?;
+        let Taken { steps, chosen } = accept::<E>(
+            alloc,
+            &self.log.index,
+            &room,
+            op,
+            &mut self.packing,
+        )?;
         places.reserve(steps.len())?;
         match put_steps::<E, S>(&mut self.log, places, flash, &steps, &chosen.streams) {
             Ok(()) => {

@@ -84,7 +84,11 @@ pub fn files() -> &'static [Case] {
         Case {
             about: "a file by pages of 16384",
             flash: LARGEST,
-            lines: &["create /a 644", "write /a 0 16384", "text /a 16380 12345678"],
+            lines: &[
+                "create /a 644",
+                "write /a 0 16384",
+                "text /a 16380 12345678",
+            ],
             steps: &[
                 Change::Make(FILE, 0, 1),
                 Change::Name(b"a", 2),
@@ -235,7 +239,11 @@ pub fn bases() -> &'static [Case] {
             Change::Make(OTHER, 300, 2),
             Change::Name(b"b", 3),
         ],
-        lines: &["text /a 4000 abcdefgh", "truncate /b 100", "put /b 644 2000"],
+        lines: &[
+            "text /a 4000 abcdefgh",
+            "truncate /b 100",
+            "put /b 644 2000",
+        ],
         steps: &[
             Change::Put(0, 4000, b"abcdefgh", 1),
             Change::Cut(1, 100, 2),

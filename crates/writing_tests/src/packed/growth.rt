@@ -42,11 +42,11 @@ type Log<'b> = PackingSession<LittleEndian, Matcher<'b>>;
 /// What operations put onto an empty flash; none where a growth is refused.
 fn output_of(alloc: Global, ops: &[Op<'_>]) -> Option<Vec<u8>> {
     let mut contents = Vec::new(alloc);
-    let mounted =
-        mount_through::<LittleEndian>(alloc, &[], FLASH.geometry, &mut contents).ok()?;
+    let mounted = mount_through::<LittleEndian>(alloc, &[], FLASH.geometry, &mut contents).ok()?;
     let sink = Taker::new(alloc);
-    let mut session =
-        PackingSession::<LittleEndian, Taker>::resume(alloc, &mounted, FLASH, sink).ok()?;
+    let mut session = PackingSession::<LittleEndian, Taker>::resume(
+        alloc, &mounted, FLASH, sink,
+    ).ok()?;
     let report = session.run(alloc, ops);
     match report.stopped {
         None => Some(session.finish().bytes),
@@ -112,8 +112,7 @@ fn log_on<'b>(
 /// A session on an empty flash puts these bytes for these operations.
 fn are_put(alloc: Global, ops: &[Op<'_>], whole: &[u8], in_one_run: bool) -> bool {
     let mut contents = Vec::new(alloc);
-    let Ok(mounted) =
-        mount_through::<LittleEndian>(alloc, &[], FLASH.geometry, &mut contents)
+    let Ok(mounted) = mount_through::<LittleEndian>(alloc, &[], FLASH.geometry, &mut contents)
     else {
         return true;
     };

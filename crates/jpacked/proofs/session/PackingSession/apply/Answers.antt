@@ -23,7 +23,7 @@ returns-in-Ok-clause-applies g c =
     let places : List Place = c.apply_onto.new.places.items in
     let r : Result (Unit {0}) SessionFault = Ok (tt {0}) in
     let took : TakesBy {T = Unit {0}} s.held (page_size s.page) e s.block s.blocks s.log.cursor s.log.index o s.broken t.log.cursor t.log.index t.broken (g.S.Sink.taken s.log.sink) (g.S.Sink.taken t.log.sink)
-        (g.S.Sink.failures s.log.sink) (g.S.Sink.failures t.log.sink) [] places r t.held =
+    (g.S.Sink.failures s.log.sink) (g.S.Sink.failures t.log.sink) [] places r t.held =
     subst (λ (q : Result (Unit {0}) SessionFault). TakesBy {T = Unit {0}} s.held (page_size s.page) e s.block s.blocks s.log.cursor s.log.index o s.broken t.log.cursor t.log.index t.broken (g.S.Sink.taken s.log.sink) (g.S.Sink.taken t.log.sink)
     (g.S.Sink.failures s.log.sink) (g.S.Sink.failures t.log.sink) [] places q t.held) c.in-Ok.is
     (subst (λ (l : List Place). TakesBy {T = Unit {0}} s.held (page_size s.page) e s.block s.blocks s.log.cursor s.log.index o s.broken t.log.cursor t.log.index t.broken (g.S.Sink.taken s.log.sink) (g.S.Sink.taken t.log.sink)
@@ -60,7 +60,7 @@ returns-in-Err-clause-applies g c =
     let places : List Place = c.apply_onto.new.places.items in
     let r : Result (Unit {0}) SessionFault = Err c.in-Err.fault in
     let took : TakesBy {T = Unit {0}} s.held (page_size s.page) e s.block s.blocks s.log.cursor s.log.index o s.broken t.log.cursor t.log.index t.broken (g.S.Sink.taken s.log.sink) (g.S.Sink.taken t.log.sink)
-        (g.S.Sink.failures s.log.sink) (g.S.Sink.failures t.log.sink) [] places r t.held =
+    (g.S.Sink.failures s.log.sink) (g.S.Sink.failures t.log.sink) [] places r t.held =
     subst (λ (q : Result (Unit {0}) SessionFault). TakesBy {T = Unit {0}} s.held (page_size s.page) e s.block s.blocks s.log.cursor s.log.index o s.broken t.log.cursor t.log.index t.broken (g.S.Sink.taken s.log.sink) (g.S.Sink.taken t.log.sink)
     (g.S.Sink.failures s.log.sink) (g.S.Sink.failures t.log.sink) [] places q t.held) c.in-Err.is
     (subst (λ (l : List Place). TakesBy {T = Unit {0}} s.held (page_size s.page) e s.block s.blocks s.log.cursor s.log.index o s.broken t.log.cursor t.log.index t.broken (g.S.Sink.taken s.log.sink) (g.S.Sink.taken t.log.sink)

@@ -74,7 +74,7 @@ returns-clause-runs g c =
     let n = c.loop-accepted.accepted in
     let all : n ≡ length ops = search rules in
     let did : RunsBy s.held (page_size s.page) e s.block s.blocks s.log.cursor s.log.index ops s.broken n inv.forms l.log.cursor l.log.index l.broken (g.S.Sink.taken s.log.sink) (g.S.Sink.taken l.log.sink)
-        (g.S.Sink.failures s.log.sink) (g.S.Sink.failures l.log.sink) c.loop-accepted.places.items None =
+    (g.S.Sink.failures s.log.sink) (g.S.Sink.failures l.log.sink) c.loop-accepted.places.items None =
     (all, inv.broken, inv.run, inv.none_failed) in
     record {
       forms = inv.forms;
@@ -103,14 +103,14 @@ returns-in-Err-clause-runs g c =
     let below : n < length ops = search rules in
     let is : o ≡ get_or ops n o = search rules in
     let took : TakesBy {T = Unit {0}} (s.held + content_len e inv.forms) (page_size s.page) e s.block s.blocks l.log.cursor l.log.index o s.broken t.log.cursor t.log.index t.broken (g.S.Sink.taken l.log.sink) (g.S.Sink.taken t.log.sink)
-        (g.S.Sink.failures s.log.sink) (g.S.Sink.failures t.log.sink) c.loop-accepted.places.items c.apply_onto.new.places.items (Err c.in-Err.fault) t.held =
+    (g.S.Sink.failures s.log.sink) (g.S.Sink.failures t.log.sink) c.loop-accepted.places.items c.apply_onto.new.places.items (Err c.in-Err.fault) t.held =
     subst (λ (h : ℕ). TakesBy {T = Unit {0}} h (page_size s.page) e s.block s.blocks l.log.cursor l.log.index o s.broken t.log.cursor t.log.index t.broken (g.S.Sink.taken l.log.sink) (g.S.Sink.taken t.log.sink)
     (g.S.Sink.failures s.log.sink) (g.S.Sink.failures t.log.sink) c.loop-accepted.places.items c.apply_onto.new.places.items (Err c.in-Err.fault) t.held) inv.held
     (takes_same l.held (page_size l.page) (page_size s.page) e l.block s.block l.blocks s.blocks l.log.cursor l.log.index o l.broken s.broken t.log.cursor t.log.index t.broken
     (g.S.Sink.taken l.log.sink) (g.S.Sink.taken t.log.sink) (g.S.Sink.failures l.log.sink) (g.S.Sink.failures s.log.sink) (g.S.Sink.failures t.log.sink) c.loop-accepted.places.items c.apply_onto.new.places.items
     c.apply_onto.result (Err c.in-Err.fault) t.held (ap page_size inv.page) inv.block inv.blocks inv.broken inv.none_failed c.in-Err.is c.apply_onto.ensures.applies) in
     let did : RunsBy s.held (page_size s.page) e s.block s.blocks s.log.cursor s.log.index ops s.broken n inv.forms t.log.cursor t.log.index t.broken (g.S.Sink.taken s.log.sink) (g.S.Sink.taken t.log.sink)
-        (g.S.Sink.failures s.log.sink) (g.S.Sink.failures t.log.sink) c.apply_onto.new.places.items (Some c.in-Err.fault) = record {
+    (g.S.Sink.failures s.log.sink) (g.S.Sink.failures t.log.sink) c.apply_onto.new.places.items (Some c.in-Err.fault) = record {
       mid = log_at l.log.cursor l.log.index c.loop-accepted.places.items;
       between = g.S.Sink.taken l.log.sink;
       op = o;
