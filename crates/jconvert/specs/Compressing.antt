@@ -1,5 +1,5 @@
 -- An image of the profile, compressed: what may stand for each of its nodes, and why none goes out.
-use Rattle.std.specs.Prelude.{◌≡◌, ◌==◌, ◌&&◌, ◌⊎◌, ℕ, suc, ◌+◌, ◌^◌, ◌<◌, Bool, true, false, not, nat_le, nat_lt, IsTrue, IsFalse, List, [], ◌∷◌, length, Option, Some, None, Result, Ok, Err, if◌then◌else◌}
+use Rattle.std.specs.Prelude.{◌≡◌, ◌==◌, ◌&&◌, ◌⊎◌, ℕ, suc, ◌+◌, ◌^◌, ◌<◌, ◌≤◌, Bool, true, false, not, nat_le, nat_lt, IsTrue, IsFalse, List, [], ◌∷◌, length, Option, Some, None, Result, Ok, Err, if◌then◌else◌}
 use Rattle.std.specs.Option.{option_or}
 use Rattle.std.specs.Io.KnownBytes.{Appends}
 use Rattle.flashbase.specs.Bytes.{pad4_of}
@@ -62,12 +62,14 @@ may_be_packed inode = (inode.dsize == length (stored_bytes inode.fill))
 abbrev pub is_shorter : ℕ → ℕ → Bool
 is_shorter stream plain = nat_lt (pad4_of (inode_len + stream)) (pad4_of (inode_len + plain))
 
--- The data of a node stay as they are: they may not be packed, or what packs them is no shorter, or
--- makes a node that is not written.
+-- The data of a node stay as they are: they may not be packed; or they have a stream, of at most 11
+-- bytes more than they are, that makes no shorter node, or one that is not written. (A packer may
+-- have another one for them.)
 abbrev pub StaysPlain : InodeNode → Type 0
 StaysPlain inode = IsFalse (may_be_packed inode)
     ⊎ ((stream : List ℕ)
     × (zlib_of (length (stored_bytes inode.fill)) stream ≡ Some (stored_bytes inode.fill))
+    × (length stream ≤ length (stored_bytes inode.fill) + 11)
     × (IsFalse (is_shorter (length stream) (length (stored_bytes inode.fill)))
     ⊎ ¬ IsWritableCompressed (packed_as inode stream)))
 

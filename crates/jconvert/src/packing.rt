@@ -159,7 +159,8 @@ fn pack_bytes<E: Order>(
 }
 
 /// The same of a node whose data the image may lack the end of. Data that may be packed stay as
-/// they are only where their stream makes no shorter node, or none that is written.
+/// they are only where the packer's stream makes no shorter node, or none that is written. That it
+/// is the packer's no clause says: one says that there is such a stream.
 pub(crate) fn pack_inode<E: Order>(
     alloc: Global,
     inode: &InodeNode<'_>,
