@@ -1004,7 +1004,7 @@ run cat built /a/file; whole content
 for words in --help "check --help" "ls --help" "cat --help" "build --help" "append --help" "decompress --help" "info --help" "diff --help"; do
     run $words
     for word in $(sed -n '/^Commands:/,/^$/s/^  \([a-z]*\) .*/\1/p' out); do
-        told "$word" "^\.It Cm $word$"
+        told "$word" "^\.(Nm jffs2_image |It )?Cm $word( |$)"
     done
     for word in $(sed -n '/^Options:/,/^$/p' out | grep -oE -- '--[a-z]+'); do
         told "$word" "^\.It Fl (. , Fl )?${word#-}( |$)"
