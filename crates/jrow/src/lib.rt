@@ -12,7 +12,7 @@
 //!   `written_len` says how long it is then.
 //! - `laws`, each the contract of a function that does nothing, and `examples`, a worked row.
 //!
-//! No call here writes the log itself: that is a session's part, and none does so yet.
+//! No call here writes the log itself: the packing session of `jpacked` does.
 //!
 //! `specs/Row.antt` says what the row is, `specs/RowLeft.antt` what may be left of a write to it,
 //! `specs/Written.antt` what is put, and `specs/HeadlineInRow.antt` what survives. Nodes make the
