@@ -10,7 +10,7 @@ it anew:
 - docs/TRACE.md, of the tags in specs/ and in the edits;
 - docs/WRONG-BODIES.md, its list, of the first lines of the edits.
 
-A tag is a comment of specs/ above a definition, and a line in an edit (tests/tags.py inserts both):
+A tag is a comment of specs/ above a definition, and a line in an edit:
 
     -- rule: SECTION: what the rule says, on as many lines as it needs
     --   definitions: CRATE.FILE.NAME, ..
@@ -21,8 +21,7 @@ A tag is a comment of specs/ above a definition, and a line in an edit (tests/ta
     body: what the wrong body does
     test: the tests that meet it
 
-As long as TRACE.md and WRONG-BODIES.md have no generated part they are written by hand, and are not
-looked at. The last line is 'N passed, M failed'.
+The last line is 'N passed, M failed'.
 """
 import glob
 import os

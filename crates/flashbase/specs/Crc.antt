@@ -23,5 +23,10 @@ push_byte remainder byte = push_bits 8 remainder byte
 unfoldable pub crc_after : ℕ → List ℕ → ℕ
 crc_after start bytes = fold push_byte start bytes
 
+-- rule: Bytes and nodes: The checksum is the reflected CRC of 0xEDB88320 from 0, bit by bit.
+--   definitions: flashbase.Crc.crc_of, flashbase.Crc.crc_after
+--   code: flashbase::checksum::crc, flashbase::checksum::crc_from
+--   laws: flashbase::laws::known_checksums, flashbase::laws::crc_goes_on,
+--   flashbase::laws::crc_is_word
 abbrev pub crc_of : List ℕ → ℕ
 crc_of bytes = crc_after 0 bytes

@@ -9,6 +9,10 @@ abbrev pub end_of_places : ℕ → List Place → ℕ
 end_of_places from places = option_map_or (λ place. pad4_of (place.addr + place.totlen))
     (slice_get places (length places - 1)) from
 
+-- rule: Building and extending: The line on it.
+--   definitions: jbuild.Accepted.accepted_line, jbuild.Length.TellsLength
+--   code: jbuild::accepted::put_accepted
+--   laws: jbuild::laws::line_tells_length
 -- so many operations were accepted, their nodes have these places, and so many bytes went out for
 -- them
 abbrev pub accepted_line : ℕ → ℕ → List Place → List ℕ

@@ -43,6 +43,12 @@ TellsRefused flash log ops accepted (Some fault.Broken) blocks = blocks ≡ None
 TellsRefused flash log ops accepted (Some fault.Geometry) blocks = blocks ≡ None
 TellsRefused flash log ops accepted None blocks = blocks ≡ None
 
+-- rule: Building and extending: How many blocks would hold an operation that is refused for want of
+--   room.
+--   definitions: jbuild.Blocks.TellsRefusedOn, jlog.Places.least_blocks,
+--   jffs2_image.Writes.IsRunCause
+--   code: jbuild::emitting::emit, jreport::cause::cause_of
+--   laws: jlog::laws::blocks_are_least
 -- the same from the log that the accepted operations leave behind a base
 abbrev pub TellsRefusedOn : Flash → List ℕ → List Op → ℕ → Option SessionFault → Option ℕ → Type 0
 TellsRefusedOn flash base ops accepted stopped blocks =

@@ -38,6 +38,9 @@ resume_on flash base = resume_address flash.order flash.size flash.blocks base
 abbrev pub index_on : Flash → List ℕ → Indexed
 index_on flash base = index_of_image flash.order flash.size base
 
+-- rule: Building and extending: The output for a base and operations on it.
+--   definitions: jbuild.Emitting.IsEmitted, jbuild.Emitting.IsNotEmitted, jlog.Left.front_of
+--   code: jbuild::emitting::emit
 -- The base's bytes went out up to where writing goes on, and operations were run on it from there;
 -- so many were accepted, their nodes have these places, and this stopped them. What they did
 -- survives a stop of writing at any byte.

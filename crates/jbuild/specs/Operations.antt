@@ -15,5 +15,11 @@ bytes_of_file files (Some name) = files name
 abbrev pub op_in : Endian → (List ℕ → List ℕ) → Line → Op
 op_in e files line = op_of e line.action (bytes_of_file files (file_of line.action))
 
+-- rule: Building and extending: The operations of a listing, with the bytes of the files that it
+--   names.
+--   definitions: jbuild.Operations.ops_in, jbuild.HostFiles.read_of, jbuild.HostFiles.ReadsPart,
+--   jbuild.NamedSpans.span_of, jbuild.NamedSpans.SetsSpan
+--   code: jbuild::listed::operations, jbuild::host_files::HostFiles,
+--   jbuild::named_spans::NamedSpans
 abbrev pub ops_in : Endian → (List ℕ → List ℕ) → List Line → List Op
 ops_in e files lines = map (op_in e files) lines

@@ -9,6 +9,9 @@ abbrev pub IsNodeOfAddress : List (ℕ × NodeRef) → ℕ → Option NodeRef �
 IsNodeOfAddress ns addr None = (node : NodeRef) → Contains ns (addr, node) → ⊥
 IsNodeOfAddress ns addr (Some node) = Contains ns (addr, node)
 
+-- rule: Compressed data: The other node of a clash.
+--   definitions: jclash.Lowest.IsLowestClash, jclash.Lowest.IsClashBelow
+--   code: jclash::lowest::clash_below
 -- the address is the lowest of those of these that clash with a node
 pub record IsLowestClash (ns : List (ℕ × NodeRef)) (node : NodeRef) (at : ℕ) : Type 0 where
   pub other : NodeRef

@@ -15,6 +15,10 @@ AreByAddress (n ∷ ns) = ((m : ℕ × NodeRef) → Contains ns m → n.0 < m.0)
 abbrev pub NoneClashesWith : List (ℕ × NodeRef) → NodeRef → Type 0
 NoneClashesWith ns node = (n : ℕ × NodeRef) → Contains ns n → NodesClash n.1 node → ⊥
 
+-- rule: Compressed data: A node that clashes with one of a higher address is left out.
+--   definitions: jclash.Parting.IsHighestClash, jclash.Parting.Parts
+--   code: jclash::parting::without_clashing
+--   laws: jclash::laws::staying_do_not_clash, jclash::laws::one_parting
 -- the address is the highest of those of these that clash with a node
 pub record IsHighestClash (ns : List (ℕ × NodeRef)) (node : NodeRef) (at : ℕ) : Type 0 where
   pub other : NodeRef

@@ -305,6 +305,11 @@ abbrev pub parsed_by : Option (Text × List Row) → Option TaskParsed
 parsed_by (Some p) = parsed p.0 p.1
 parsed_by None = None
 
+-- rule: What is printed: What the words of a command line ask for.
+--   definitions: jcommand.Parsed.parsed_from, jcommand.Parsed.placing_from
+--   code: jcommand::command_line::asked, jcommand::command_line::request
+--   laws: jcommand::laws::known_requests, jcommand::laws::known_placings,
+--   jcommand::laws::known_refusals
 -- what the words ask for, by clap's matches of them
 unfoldable pub parsed_from : List Text → Option TaskParsed
 parsed_from args = parsed_by (subcommand_of program args)

@@ -3,6 +3,9 @@ use Rattle.std.specs.Prelude.{ℕ, ◌==◌, if◌then◌else◌}
 use Rattle.jcommand.specs.declared.outcome.Outcome.{Outcome}
 use Rattle.jcommand.specs.declared.outcome.Outcome.TheVariants as outcome
 
+-- rule: What is printed: Exit statuses.
+--   definitions: jcommand.Status.status_of
+--   code: jcommand::outcome::status
 abbrev pub status_of : Outcome → ℕ
 status_of outcome.Done = 0
 status_of outcome.Fault = 1

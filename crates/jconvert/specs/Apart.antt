@@ -22,6 +22,11 @@ use Rattle.jconvert.specs.declared.converted.Converted.{Converted}
 abbrev pub located_node : Endian → ℕ → List ℕ → ℕ × Seen → Option (ℕ × NodeRef)
 located_node e size image s = option_map (λ n. (s.0, n)) (expanded_node e size image s)
 
+-- rule: Compressed data: The image of the nodes that stay.
+--   definitions: jconvert.Apart.located_nodes, jconvert.Apart.GoesOutApart,
+--   jconvert.Apart.DecompressesApart
+--   code: jconvert::apart::part, jconvert::keeping::write_nodes, jconvert::apart::decompress_apart
+--   laws: jconvert::laws::apart_mounts
 -- The expanded nodes of an image, each with the address of its tile.
 abbrev pub located_nodes : Endian → ℕ → List ℕ → List (ℕ × NodeRef)
 located_nodes e size image = filter_map (located_node e size image) (sightings e size image)

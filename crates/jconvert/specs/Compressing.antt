@@ -103,6 +103,9 @@ abbrev pub packed_number : Seen → Option ℕ
 packed_number (seen.Compressed compr) = Some compr
 packed_number s = None
 
+-- rule: Compressed data: Why an image is not compressed, by the least address.
+--   definitions: jconvert.Compressing.pack_fault, jconvert.Compressing.compress_fault
+--   code: jconvert::compressing::judge_plain
 -- why a sighted tile is refused: it is compressed already, or a block does not hold its node
 abbrev pub pack_fault : Endian → ℕ → List ℕ → ℕ × Seen → Option ConvertFault
 pack_fault e size image (addr, seen.Compressed compr) = Some (fault.Compressed addr compr)

@@ -24,6 +24,12 @@ use Rattle.jconvert.specs.declared.converted.Converted.{Converted}
 abbrev pub expanded_forms : Endian → ℕ → List ℕ → List (List ℕ)
 expanded_forms e size image = map (canonical e) (expanded_nodes e size image)
 
+-- rule: Compressed data: The image that goes out for it, and its counts.
+--   definitions: jconvert.Converting.converted_image, jconvert.Converting.converted_of,
+--   jconvert.Converting.Decompresses, jconvert.Converting.Converts
+--   code: jconvert::writing::write_converted, jconvert::writing::decompress,
+--   jconvert::writing::decompressed
+--   laws: jconvert::laws::converted_mounts
 -- The image of them: what a log puts for these nodes from the start of an erased flash on.
 abbrev pub converted_image : Endian → ℕ → List ℕ → List ℕ
 converted_image e size image = output e size 0 (expanded_forms e size image)

@@ -219,6 +219,11 @@ TellsAllButEnd e flash asked from sink =
     (first_text e flash asked from (length asked.ops) ++ last_text e flash asked from)
     × (sink.now ≡ next_count sink.before)
 
+-- rule: The log: The output on operations one after the other: those accepted, then the last line;
+--   or a fault.
+--   definitions: jcuts.Cuts.PutsCuts, jcuts.Cuts.AdvancesTo, jcuts.Cuts.DeclinesNext
+--   code: jcuts::cuts::put_cuts
+--   laws: jcuts::laws::lines_are_nodes, jcuts::laws::told_survives
 -- Operations on a base are told, or those up to one that is declined; or memory ran out, and
 -- nothing is told; or the sink failed, and a beginning went out. The answer is how many nodes are
 -- weak.

@@ -34,6 +34,12 @@ nodes_told e size from x (steps ∷ plans) (line ∷ lines) =
 
 -- ---- the lines
 
+-- rule: The log: The lines on it, a node's step and its weak cut.
+--   definitions: jcuts.Lines.node_line, jcuts.Lines.weak_line, jcuts.Lines.end_line,
+--   jcuts.Lines.nodes_told
+--   code: jcuts::lines::put_nodes, jcuts::lines::put_end
+--   laws: jcuts::laws::lines_are_nodes, jcuts::examples::made_is_told,
+--   jcuts::examples::written_is_told
 -- a node's line
 abbrev pub node_line : StepNode → List ℕ
 node_line n = hex 8 n.standing.addr ++ codes " " ++ decimal n.standing.totlen ++ codes " line "

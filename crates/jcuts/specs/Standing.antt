@@ -8,6 +8,11 @@ use Rattle.jlog.specs.Left.{bytes_at}
 use Rattle.jlog.specs.declared.report.Place.{Place}
 use Rattle.jcuts.specs.declared.standing.Standing.{Standing}
 
+-- rule: The log: The byte from which on a node is whole: after its last one that is not 0xFF.
+--   definitions: jcuts.Standing.whole_len, jcuts.Standing.IsWholeLen, jcuts.Standing.standings
+--   code: jcuts::standing::standings_in
+--   laws: jcuts::laws::standing_is_least, jcuts::laws::standing_is_counted,
+--   jcuts::examples::known_whole_lens
 -- how many of its first bytes make a node whole on erased flash: those up to its last byte that is
 -- not 0xFF
 abbrev pub whole_len : List ℕ → ℕ

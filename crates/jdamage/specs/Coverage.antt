@@ -22,6 +22,10 @@ unfoldable pub is_replaced_below : List Stretch → Stretch → ℕ → Bool
 is_replaced_below others lost end =
     list_all (λ place. nat_lt place lost.from || is_replaced others lost place) (below end)
 
+-- rule: What is printed: Whether a damaged node hides anything.
+--   definitions: jdamage.Coverage.hides_nothing
+--   code: jdamage::coverage::hides_nothing, jdamage::hidden::hidden_of
+--   laws: jdamage::laws::same_without, jdamage::laws::would_change
 -- The attributes and the size of the object are of another version, and so is each byte of the lost
 -- range that is within the size: whatever the lost node said, the object is the same.
 unfoldable pub hides_nothing : List Stretch → ℕ → Stretch → Bool

@@ -98,6 +98,10 @@ unfoldable pub damage_totals : Endian → ℕ → Mount → Totals
 damage_totals e size m =
     totals_by e m (stretches e size m.image) (damaged_nodes e size m.image)
 
+-- rule: What is printed: What the damage of an image costs.
+--   definitions: jdamage.Damage.damage_text, jdamage.Damage.damage_totals
+--   code: jdamage::damage::put_damage
+--   laws: jdamage::laws::sound_has_no_lines
 unfoldable pub damage_text : Endian → ℕ → Mount → List ℕ
 damage_text e size m = text_by e m (stretches e size m.image) (damaged_nodes e size m.image)
 

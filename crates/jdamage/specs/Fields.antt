@@ -21,6 +21,9 @@ node_front image addr = take inode_len (drop addr image ++ erased inode_len)
 abbrev pub field_at : Endian → List ℕ → ℕ → ℕ → ℕ
 field_at e image addr place = number_at e 4 place (node_front image addr)
 
+-- rule: What is printed: What the fields of a damaged node say.
+--   definitions: jdamage.Fields.stretch_at, jdamage.Fields.loss_at
+--   code: jdamage::fields::stretch_at, jdamage::fields::loss_at
 -- of an inode node: its object and version, and the range of its data, from `offset` on, `dsize`
 -- bytes
 abbrev pub stretch_at : Endian → List ℕ → ℕ → Stretch

@@ -66,6 +66,12 @@ path_if s i n = if n.2 == i then path_to_name s n else None
 abbrev pub root_paths : ℕ → List (List (List ℕ))
 root_paths i = if i == 1 then [] ∷ [] else []
 
+-- rule: What is printed: The paths that lead to a number.
+--   definitions: jdamage.Ways.paths_to, jdamage.Ways.climbed, jdamage.Entered.entered
+--   code: jdamage::ways_up::climb, jdamage::ways::names_by_number, jdamage::telling::put_hurt,
+--   jdamage::nowhere::nowhere_of, jdamage::entered::entered_names
+--   laws: jdamage::laws::directory_path_leads, jdamage::laws::directory_has_path,
+--   jdamage::laws::first_names_lead
 -- the paths that lead to a number, also where its object is missing
 abbrev pub paths_to : State → ℕ → List (List (List ℕ))
 paths_to s i = root_paths i ++ filter_map (path_if s i) (all_entries s)

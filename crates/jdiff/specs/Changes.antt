@@ -16,6 +16,9 @@ is_same_object times x y =
     (x.mode % 65536 == y.mode % 65536) && (x.uid == y.uid) && (x.gid == y.gid) && (x.size == y.size)
     && (not times || (x.mtime == y.mtime))
 
+-- rule: What is printed: The first place at which bytes differ.
+--   definitions: jdiff.Changes.first_difference
+--   code: jdiff::bytes::first_difference, jdiff::compared::compare
 -- the first place at which one list of bytes has another byte than the other, or none
 abbrev pub first_difference : List ℕ → List ℕ → Option ℕ
 first_difference [] [] = None
@@ -69,6 +72,9 @@ bytes_changes times x y None = []
 bytes_changes times x y (Some place) =
     if is_symlink x.object.kind then both_lines times x y else bytes_differ_line x.path place ∷ []
 
+-- rule: What is printed: The lines on a path of two trees.
+--   definitions: jdiff.Changes.changes, jdiff.Changes.is_same_object
+--   code: jdiff::spot::put_changes
 abbrev pub changes : Bool → Option Entry → Option Entry → List (List ℕ)
 changes times None None = []
 changes times (Some x) None = removed_line times x ∷ []

@@ -36,6 +36,9 @@ AreFound s met (item ∷ todo) (entry ∷ found) =
 abbrev pub entries_found : List (Option Entry) → List Entry
 entries_found found = filter_map (λ entry. entry) found
 
+-- rule: What is printed: The entries of a tree, path by path.
+--   definitions: jdiff.Entries.AreEntries
+--   code: jdiff::walk::Walk
 -- the entries of a tree, in the order of `ls`
 abbrev pub AreEntries : State → List Entry → Type 0
 AreEntries s entries = (found : List (Option Entry)) × AreFound s none_met (([], 1) ∷ []) found

@@ -26,6 +26,10 @@ AreInOrder (place ∷ places) =
 abbrev pub IsAtPath : List (List ℕ) → Option Entry → Type 0
 IsAtPath path entry = IfSome entry (λ x. x.path ≡ path)
 
+-- rule: What is printed: The entries of two trees side by side, in order of paths.
+--   definitions: jdiff.Pairing.ArePaired, jdiff.Differing.AreDifferences
+--   code: jdiff::walk::put_differences, jdiff::pair::Pair
+--   laws: jdiff::laws::same_trees_have_no_lines, jdiff::laws::trees_have_lines
 -- the left entries are these, and the right ones those; both of a place have its path, and no two
 -- places have one path
 pub record ArePaired (left right : List Entry) (places : List Place) : Type 0 where

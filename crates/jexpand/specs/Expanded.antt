@@ -28,6 +28,11 @@ compressed_node_at e size image addr = compressed_of e (tile_of e (rest_at size 
 abbrev pub unpacked : ℕ → List ℕ → Method → Option (List ℕ)
 unpacked size bytes method = option_and_then (of_length size) (decompressed_of method size bytes)
 
+-- rule: Compressed data: The nodes of an image whose data are decompressed.
+--   definitions: jexpand.Expanded.node_content, jexpand.Expanded.expanded_node,
+--   jexpand.Expanded.expanded_nodes
+--   code: jexpand::node::expanded_len, jexpand::node::write_expanded,
+--   jexpand::node::write_with_content
 -- The bytes that a compressed node gives for its range. A range of none has none, whatever the
 -- data; else they are what the data give by their method, as many as the range has.
 abbrev pub node_content : CompressedNode → Option (List ℕ)
@@ -48,6 +53,12 @@ expanded_node e size image (addr, seen.Compressed compr) =
     compressed_node_at e size image addr in option_map (with_content packed) (node_content packed)
 expanded_node e size image _ = None
 
+-- rule: Compressed data: The contents of its compressed nodes that are held, and written from
+--   there.
+--   definitions: jexpand.Expanded.tile_content, jexpand.Expanded.unpacked_bytes,
+--   jconvert.Holding.IsHeldOf, jconvert.Holding.HasNoRoom
+--   code: jconvert::judging::judge, jconvert::holding::Held::hold,
+--   jconvert::writing::write_converted
 -- the bytes that the data of a sighted tile stand for, where they are compressed; else none
 abbrev pub tile_content : Endian → ℕ → List ℕ → ℕ × Seen → List ℕ
 tile_content e size image (addr, seen.Compressed compr) =

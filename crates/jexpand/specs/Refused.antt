@@ -26,6 +26,10 @@ compressed_fault size addr node =
     else option_or (too_long size addr (inode_len + node.dsize))
     (if is_none (node_content node) then Some (Data addr) else None)
 
+-- rule: Compressed data: Why an image is not decompressed, by the least address.
+--   definitions: jexpand.Refused.node_fault, jexpand.Refused.nodes_fault,
+--   jconvert.Converting.flash_fault, jconvert.Converting.convert_fault
+--   code: jexpand::node::expanded_len, jconvert::judging::judge
 -- why a sighted tile is not expanded, if that is so
 abbrev pub node_fault : Endian → ℕ → List ℕ → ℕ × Seen → Option ConvertFault
 node_fault e size image (addr, seen.Incompatible nodetype) = Some (Incompatible addr nodetype)

@@ -29,6 +29,10 @@ abbrev pub cell_at : List ℕ → ℕ → Option ℕ
 cell_at bytes place =
     if is_zero (block_at bytes (place / hole_block)) then None else Some (slice_index bytes place)
 
+-- rule: Listings: A block of zeros is a hole.
+--   definitions: jextract.Cells.cells_of, jextract.Cells.bytes_read
+--   code: jextract::extracting::extract
+--   laws: jextract::laws::holes_read_back
 -- what is to lie at each place of a file of these bytes
 unfoldable pub cells_of : List ℕ → Cells
 cells_of bytes = each_below (length bytes) (cell_at bytes)

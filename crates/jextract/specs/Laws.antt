@@ -64,6 +64,12 @@ is_one (Symlink target attributes ∷ []) = true
 is_one (Link first ∷ []) = true
 is_one _ = false
 
+-- rule: Listings: Each object of a folder is made once, and through no symlink.
+--   definitions: jextract.Laws.MakesOnce, jextract.Laws.MakesThroughDirectories,
+--   jextract.Laws.LinksLeadBack
+--   code: jextract::extracting::extract
+--   laws: jextract::laws::makes_once, jextract::laws::makes_through_directories,
+--   jextract::laws::links_back
 -- whatever a file system says, and wherever it ends, at no path was a second object made, and
 -- nothing was completed twice or at a path where it was not made
 abbrev pub MakesOnce : Type 0

@@ -23,6 +23,10 @@ use Rattle.jextract.specs.declared.reason.Reason.TheVariants as reason
 abbrev pub owner_if : Bool → Object → Option Owner
 owner_if owners o = if owners then Some (record { uid = o.uid; gid = o.gid }) else None
 
+-- rule: Listings: Without owners no set-id bit is given, and a note counts them.
+--   definitions: jextract.Outcomes.mode_given, jextract.Outcomes.lost_at,
+--   jextract.Outcomes.totals_of
+--   code: jextract::extracting::extract
 -- The permissions that an object is given: the low 12 bits of its mode. Without owners, whoever
 -- extracts is to own it, and the two bits are dropped by which a program runs as its file's owner
 -- and group (Linux, include/uapi/linux/stat.h: S_ISUID and S_ISGID, octal 4000 and 2000).
@@ -119,6 +123,9 @@ tasks_of path names = map (λ e. Make (path ++ e.0 ∷ []) e.1) names
 abbrev pub tasks_in : State → List (List ℕ) → ℕ → List Task
 tasks_in s path i = tasks_of path (entries_in s i) ++ Complete path i ∷ []
 
+-- rule: Listings: A name without an inode is reported, and a full disk ends the work.
+--   definitions: jextract.Outcomes.plan_made, jextract.Extracts.Extracts
+--   code: jextract::extracting::extract
 abbrev pub plan_made : State → Bool → FirstPaths → ℕ → Option Object → Plan
 plan_made s owners firsts i None = LeaveOut reason.Missing
 plan_made s owners firsts i (Some o) =
@@ -201,6 +208,10 @@ abbrev pub tasks_after : State → Task → Outcome → List Task → List Task
 tasks_after s (Make path i) o todo = todo_if s path i o.left_out todo
 tasks_after s (Complete path i) o todo = todo
 
+-- rule: Listings: All objects made are inside the folder.
+--   definitions: jextract.Outcomes.AreOutcomes, jextract.Paths.host_path
+--   code: jextract::extracting::extract
+--   laws: jextract::laws::makes_inside, jextract::laws::makes_below, jextract::laws::whole_is_first
 -- the outcomes of what is still to be done, first to last
 abbrev pub AreOutcomes : State → Bool → FirstPaths → List Task → List Outcome → Type 0
 AreOutcomes s owners firsts [] outcomes = outcomes ≡ []

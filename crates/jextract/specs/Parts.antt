@@ -53,6 +53,9 @@ part_at (name ∷ names) i s =
     if is_directory s i then part_along (way_from s (Some 1) (name ∷ names)) s
     else part_alone (end_name name names) i s
 
+-- rule: Listings: The part of a tree that a path names.
+--   definitions: jextract.Parts.IsPartAt, jextract.Parts.part_at, jextract.Parts.part_along
+--   code: jextract::parts::part_at, jextract::extracting::extract_part
 -- the part that a path names
 abbrev pub IsPartAt : State → List ℕ → State → Type 0
 IsPartAt s path part = (names : List (List ℕ)) × (i : ℕ) × (path_names path ≡ Some names)

@@ -37,6 +37,9 @@ totals_up n left_out lost_bits = record {
   lost_bits = counted_up n.lost_bits lost_bits;
 }
 
+-- rule: Listings: Paths that are left out are counted, also if they cannot be reported.
+--   definitions: jextract.Walking.Settles
+--   code: jextract::extracting::settle
 -- A call tells of a task what is to be told, and counts it, also where it can't be told. The answer
 -- is whether the task was done.
 abbrev pub Settles : Result Bool MakeFault → List (List ℕ) → SinkChange → Totals → Totals

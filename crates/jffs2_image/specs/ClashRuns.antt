@@ -59,6 +59,9 @@ IsNotApart held e size output image fault = (convert_fault e size image ≡ None
     × Parts (located_nodes e size image) stay left
     × IsNotWritten held output (image_of_nodes e size stay) fault)
 
+-- rule: Building and extending: `decompress --clashes higher`.
+--   definitions: jffs2_image.ClashRuns.DecompressesApartFile, jffs2_image.ClashRuns.RunsApart
+--   code: jffs2_image::clashes::run_apart, jffs2_image::program::run
 -- An image of the nodes that stay is given to a file that is made, and told in a line; the answer
 -- has the nodes that are left out, and how many findings the image has that was read. Or no file is
 -- made, since nothing is made of the image; or one is made, and not written to its end.

@@ -56,6 +56,9 @@ IsNotPacked held e size output image fault = (compress_fault e size image ≡ No
 abbrev pub line_of_packed : Converted → List ℕ
 line_of_packed c = compression_line c.changed c.nodes c.bytes
 
+-- rule: Building and extending: `compress` as a command.
+--   definitions: jffs2_image.Compressing.CompressesFile, jffs2_image.Compressing.RunsCompress
+--   code: jffs2_image::compressing::run_compress, jffs2_image::program::run
 -- An image of the same nodes, compressed, is given to a file that is made, and told in a line; the
 -- answer is how many findings the image that was read has. Or no file is made, since nothing is
 -- made of the image; or one is made, and not written to its end.

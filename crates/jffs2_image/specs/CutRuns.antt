@@ -179,6 +179,11 @@ pub record EndsCuts (asked : CutsAsked) (reading : FileReads) (output errors : S
       errors.before errors.now (said_after_cuts answer)
   pub ends : result ≡ outcome_of_cuts answer
 
+-- rule: The log: What `cuts` does as a command.
+--   definitions: jffs2_image.CutRuns.RunsCuts, jffs2_image.CutRuns.TellsFiles,
+--   jffs2_image.CutRuns.TellsLines, jcommand.Parsed.cuts_in
+--   code: jffs2_image::cuts::run_cuts
+--   laws: jcommand::laws::known_requests
 -- `cuts`, of what is given
 pub record RunsCuts (args : List (List ℕ)) (reading : FileReads) (output errors : SinkChange)
     (result : Outcome) : Type 0 where

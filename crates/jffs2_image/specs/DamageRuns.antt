@@ -93,6 +93,10 @@ pub record EndsDamage (options : Options) (file : List ℕ) (reading : FileReads
       errors.before errors.now (said_after_damage answer)
   pub ends : result ≡ outcome_of_damage answer
 
+-- rule: What is printed: What `damage` does as a command.
+--   definitions: jffs2_image.DamageRuns.RunsDamage, jcommand.Parsed.damage_in
+--   code: jffs2_image::damage::run_damage
+--   laws: jcommand::laws::known_requests
 -- `damage`, of what is given
 pub record RunsDamage (args : List (List ℕ)) (reading : FileReads) (untouched : Type 0)
     (output errors : SinkChange) (result : Outcome) : Type 0 where

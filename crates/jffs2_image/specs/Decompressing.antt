@@ -72,6 +72,10 @@ abbrev pub answer_noting : Option ℕ → Result ℕ ProgramFault → Result ℕ
 answer_noting None answer = answer
 answer_noting (Some n) answer = with_findings n answer
 
+-- rule: Building and extending: `--decompress`.
+--   definitions: jffs2_image.Decompressing.PutsTaken, jffs2_image.Folders.ExtractsTaken
+--   code: jffs2_image::decompressing::take_image, jffs2_image::decompressing::subject_of,
+--   jffs2_image::program::run
 -- What a command puts that may be asked to decompress its image: then it does the same of what
 -- `decompress` makes of it, and answers how many findings the image itself has; or it says why
 -- nothing is made of it.
@@ -120,6 +124,9 @@ IsNotWritten held output made (program.Session fault None cause) =
 IsNotWritten held output made program.OutOfMemory = HoldsNothing held
 IsNotWritten held output made _ = ⊥
 
+-- rule: Building and extending: `decompress` as a command.
+--   definitions: jffs2_image.Decompressing.DecompressesFile, jffs2_image.Host.BlamesDecompress
+--   code: jffs2_image::decompressing::decompress_into, jffs2_image::program::run
 -- What `decompress` makes of an image is given to a file that it makes, and told in a line; it
 -- answers how many findings the image has. Or no file is made, since nothing is made of the image;
 -- or one is made, and not written to its end.

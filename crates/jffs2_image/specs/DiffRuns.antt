@@ -129,6 +129,11 @@ pub record EndsDiff (by : Comparing) (first second : List ℕ) (reading : FileRe
       errors.before errors.now (said_after_diff first second answer)
   pub ends : result ≡ outcome_of_diff answer
 
+-- rule: What is printed: What `diff` does as a command.
+--   definitions: jffs2_image.DiffRuns.RunsDiff, jffs2_image.DiffRuns.DiffersOfFiles,
+--   jcommand.Parsed.diff_in
+--   code: jffs2_image::diff::run_diff
+--   laws: jcommand::laws::known_requests
 -- `diff`, of what is given
 pub record RunsDiff (args : List (List ℕ)) (reading : FileReads) (untouched : Type 0)
     (output errors : SinkChange) (result : Outcome) : Type 0 where

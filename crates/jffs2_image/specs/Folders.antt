@@ -187,6 +187,11 @@ abbrev pub IsPathUnread : Option (List ℕ) → ProgramFault → Type 0
 IsPathUnread None fault = ⊥
 IsPathUnread (Some word) fault = IsWordFault (path_of word) fault
 
+-- rule: Listings: What `extract` and `listing` do as commands.
+--   definitions: jffs2_image.Folders.FillsAsked, jffs2_image.Folders.ListsFolder,
+--   jffs2_image.Tasks.RunsTask
+--   code: jffs2_image::folders::run_extract, jffs2_image::folders::list_folder,
+--   jffs2_image::tasks::run_task
 -- The same by the words of a command line: `x.path` is the word here, and it is read before the
 -- image is opened. Where it can't be read, nothing is done.
 abbrev pub FillsAsked : Bool → Extracting → List ℕ → FileReads → (List ℕ → Option (List Made))

@@ -57,6 +57,11 @@ pub record EndsInfo (file : List ℕ) (reading : FileReads) (untouched : Type 0)
       errors.before errors.now (said_after_info answer)
   pub ends : result ≡ outcome_of_info answer
 
+-- rule: What is printed: What `info` does as a command.
+--   definitions: jffs2_image.InfoRuns.RunsInfo, jffs2_image.InfoRuns.InformsOfFile,
+--   jcommand.Parsed.info_in
+--   code: jffs2_image::info::run_info, jffs2_image::info::inform_of_file
+--   laws: jcommand::laws::known_requests
 -- `info`, of what is given
 pub record RunsInfo (args : List (List ℕ)) (reading : FileReads) (untouched : Type 0)
     (output errors : SinkChange) (result : Outcome) : Type 0 where

@@ -158,6 +158,11 @@ pub record EndsPack (asked : PackingParsed) (known : Known) (unmade unput : Type
       around.errors.new count around.errors.now (said_after_packing asked.weak answer notes)
   pub ends : result ≡ outcome_of_packing asked.weak answer notes
 
+-- rule: What is printed: What `pack` does as a command.
+--   definitions: jffs2_image.PackRuns.RunsPack, jffs2_image.PackedTrees.GivesFolder,
+--   jcommand.Parsed.pack_in
+--   code: jffs2_image::packing::run_pack
+--   laws: jcommand::laws::known_requests, jtree::laws::put_out_holds_tree
 -- `pack`, of what is given. `reads` is what is known of each folder of the host, by its name.
 pub record RunsPack (args : List (List ℕ)) (unmade unput : Type 0) (reads : List ℕ → Known)
     (around : PackAround) (result : Outcome) : Type 0 where

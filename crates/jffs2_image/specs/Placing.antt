@@ -238,6 +238,9 @@ held_putting old new = putting (record {
   now = new.failures;
 }) (new ≡ old)
 
+-- rule: What is printed: With them, when the line with the counts is printed.
+--   definitions: jffs2_image.Placing.RunsHeld, jffs2_image.Placing.PutsHeld
+--   code: jffs2_image::tasks::run_held, jffs2_image::tasks::put_held
 -- A command ran over a line that is held, its file was filled up or placed, and what is held went
 -- out.
 pub record RunsHeld {M B E : Type 0} (tells : Tellings M B) (Says : E → E → List ℕ → Type 0)
@@ -257,6 +260,10 @@ pub record RunsHeld {M B E : Type 0} (tells : Tellings M B) (Says : E → E → 
 abbrev pub IsUnplaced : Intent → Type 0
 IsUnplaced intent = (intent.atomic ≡ false) × (intent.filling ≡ None)
 
+-- rule: What is printed: What `--pad` and `--atomic` do about the file that was written.
+--   definitions: jffs2_image.Placing.RunsPlaced, jffs2_image.Placing.FillsUp,
+--   jffs2_image.Placing.TakesName, jffs2_image.Filling.fill_of
+--   code: jffs2_image::tasks::run_placed, jffs2_image::filling::fill_output
 -- A command ran, and what it made is as it is, or is filled up or placed, as is intended.
 pub record RunsPlaced {M B E : Type 0} (tells : Tellings M B) (Says : E → E → List ℕ → Type 0)
     (intent : Intent) (Runs : Running E) (output : Putting) (maker : M × M) (last : E)

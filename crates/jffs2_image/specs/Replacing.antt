@@ -1,6 +1,12 @@
 -- A new file that takes the place of the one of a name.
 use Rattle.std.specs.Prelude.{◌==◌, ◌+◌, ◌*◌, ◌/◌, ◌%◌, ◌++◌, ℕ, Bool, true, false, List, [], bit_and, codes, decimal, if◌then◌else◌}
 
+-- rule: What is printed: How a file is opened that takes the place of OUT, under which names, and
+--   what its mode is.
+--   definitions: jffs2_image.Replacing.name_beside, jffs2_image.Replacing.replacing_mode,
+--   jffs2_image.Replacing.rights
+--   code: jffs2_image::replacing::made_beside, jffs2_image::replacing::name_beside,
+--   jffs2_image::replacing::replacing_permissions
 -- the names that are tried for it, beside that one: NAME.tmp, NAME.tmp1, NAME.tmp2 and so on
 abbrev pub name_beside : List ℕ → ℕ → List ℕ
 name_beside name i = name ++ (codes ".tmp" ++ (if i == 0 then [] else decimal i))

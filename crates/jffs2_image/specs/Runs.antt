@@ -58,6 +58,14 @@ abbrev pub found_answer : Result Bool ProgramFault → Result ℕ ProgramFault
 found_answer (Ok found) = Ok (number_found found)
 found_answer (Err fault) = Err fault
 
+-- rule: Building and extending: Which files are read and made, and who is to blame for a fault.
+--   definitions: jffs2_image.Runs.IsImageOf, jffs2_image.Runs.RunsListed,
+--   jffs2_image.Writes.IsHanded, jffs2_image.Writes.IsTooLong, jffs2_image.Host.Blames,
+--   jffs2_image.Host.ReadsFile, jffs2_image.Host.RunsFiles, jffs2_image.Host.AreLoaded,
+--   jffs2_image.Host.IsCutShort, jffs2_image.Host.CountsFile, jffs2_image.Host.MakesFile,
+--   jffs2_image.Runs.NamesUnread, jffs2_image.Writes.IsUnreadFile
+--   code: jffs2_image::host::Loader, jffs2_image::host::Maker, jffs2_image::source::FileSource,
+--   jffs2_image::loading::load_file, jffs2_image::writing::write_image, jffs2_image::program::run
 -- the image of a request is the file of the name that it gives, where the host tells its bytes, and
 -- no longer than the greatest where it is held in memory; `build` has none
 abbrev pub IsImageOf : (List ℕ → Option (List ℕ)) → Parsed → List ℕ → Type 0

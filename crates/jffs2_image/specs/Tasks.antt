@@ -108,6 +108,9 @@ order_asked (task.Apart asked) = asked.options.endian
 order_asked (task.Damage asked) = asked.options.endian
 order_asked (task.Pack asked) = asked.options.endian
 
+-- rule: What is printed: The output, the messages and the end of a run.
+--   definitions: jffs2_image.Tasks.RunsTask, jffs2_image.Runs.RunsCommand, jffs2_image.Runs.Meets
+--   code: jffs2_image::program::run, jffs2_image::tasks::run_task, jffs2_image::output::finished
 -- The words make a request, whose answer goes out, or are answered by a text; or they ask to fill
 -- or to read a folder, for what an image tells of itself, for what stands after a stop of writing
 -- one, to compress one, for what the trees of two images differ in, to decompress one without nodes

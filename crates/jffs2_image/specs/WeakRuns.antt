@@ -125,6 +125,12 @@ pub record EndsWeak (request : Request) (reading : FileReads) (writing : FileWri
       errors.now (notes_after answer notes)
   pub ends : result ≡ outcome_of_writing answer notes
 
+-- rule: The log: What `--weak` adds to `build` and `append`: a note on each weak node when all is
+--   written.
+--   definitions: jffs2_image.WeakRuns.RunsWeak, jffs2_image.WeakRuns.AreNotes,
+--   jffs2_image.WeakRuns.weak_note, jcommand.Parsed.noting_in
+--   code: jffs2_image::weak::run_weak, jffs2_image::weak::notes_of
+--   laws: jcommand::laws::known_requests
 -- `build` and `append` with `--weak`, of what is given
 pub record RunsWeak (args : List (List ℕ)) (reading : FileReads) (writing : FileWrites)
     (untouched : Type 0) (output errors : SinkChange) (result : Outcome) : Type 0 where

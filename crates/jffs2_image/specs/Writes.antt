@@ -305,6 +305,10 @@ abbrev pub line_on : ImageForm → List ℕ → ℕ → List Place → List ℕ
 line_on form base accepted places =
     accepted_line (resume_address form.order form.block form.blocks base) accepted places
 
+-- rule: Building and extending: What `build` and `append` write, and why they do not.
+--   definitions: jffs2_image.Writes.WritesImage, jffs2_image.Writes.IsRunOn,
+--   jffs2_image.Writes.IsWriteFault
+--   code: jffs2_image::writing::write_image, jffs2_image::program::run
 -- The operations of a listing's text are run on a base, and what they did is told in a line; or a
 -- fault is due, and nothing is told.
 abbrev pub WritesImage : {T : Type 0} → Held → ImageForm → List ℕ → List ℕ → List ℕ → SinkChange

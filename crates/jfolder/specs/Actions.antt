@@ -66,6 +66,9 @@ pub record ItemFits (i : Item) : Type 0 where
   pub attributes : AttributesFit i.attributes
   pub what : WhatFits i.what
 
+-- rule: Listings: What of a folder a listing can say.
+--   definitions: jfolder.Actions.FitsListing
+--   code: jfolder::reading::read_folder
 pub record FitsListing (root : Attributes) (items : List Item) : Type 0 where
   pub root_fits : AttributesFit root
   pub items_fit : All ItemFits items

@@ -62,6 +62,9 @@ pub record Covers (known : Known) (items : List Item) (paths : List (List ℕ)) 
   pub told : All (IsNamed known) opened
   pub paths_are : IsPermutation (flat_map (λ o. children o.0 o.1) opened) paths
 
+-- rule: Listings: Each name of a folder is read or left out.
+--   definitions: jfolder.Complete.IsComplete, jfolder.Complete.Covers
+--   code: jfolder::reading::read_folder
 -- Each path of a name is that of an item, or is left out.
 abbrev pub IsComplete : Known → List Item → List LeftOut → Type 0
 IsComplete known items lefts = Covers known items (item_paths items ++ left_paths lefts)

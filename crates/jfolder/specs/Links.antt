@@ -40,6 +40,9 @@ IsLinked known i path w = IsRegular i.what → (file : FileId)
     → IsNameOf known file (string_bytes i.path) → IsNameOf known file path
     → IsLinkTo (string_bytes i.path) w
 
+-- rule: Listings: Each further name of a regular file is a link to its first.
+--   definitions: jfolder.Links.AreLinked, jfolder.Links.IsLinked, jfolder.Links.IsNameOf
+--   code: jfolder::reading::read_folder
 -- each further name of a regular file is a link to its first
 abbrev pub AreLinked : Known → List Item → Type 0
 AreLinked known items = AllPairs (λ i j. IsLinked known i (string_bytes j.path) j.what) items

@@ -76,6 +76,9 @@ TellsWhy why notes fault.Notes =
     PutsPart notes.old notes.new (not_listed_line why) × (notes.now ≡ next_count notes.before)
 TellsWhy why notes fault.OutOfMemory = ⊥
 
+-- rule: Listings: The lines on paths that a listing leaves out, and on a folder that is not listed.
+--   definitions: jfolder.Notes.Tells, jfolder.Notes.TellsWhy
+--   code: jfolder::reading::read_folder
 -- A reading tells of the paths that it leaves out, each for a reason that is right, and counts them
 -- modulo 2^64; each path that the host tells of is read, or is one of them. Where the folder itself
 -- is at fault it tells that alone. At another fault it told of those that were left out up to

@@ -28,6 +28,9 @@ abbrev pub device_bits : DeviceKind → ℕ
 device_bits Character = 2
 device_bits Block = 6
 
+-- rule: Operations as steps: The two numbers of a device, in the one that the host reports.
+--   definitions: jfolder.Objects.major_of, jfolder.Objects.minor_of, jfolder.Reasons.IsDeviceWhy
+--   code: jfolder::found::numbers_of, jfolder::found::device_of, jfolder::text::put_device
 -- the two numbers of a device in the one that the host tells (glibc, bits/sysmacros.h,
 -- gnu_dev_major and gnu_dev_minor)
 abbrev pub major_of : ℕ → ℕ
@@ -52,6 +55,9 @@ IsOfKind told what.Socket = kind_bits told.mode ≡ 12
 IsOfKind told (what.Symlink target) = kind_bits told.mode ≡ 10
 IsOfKind told (what.Link first) = kind_bits told.mode ≡ 8
 
+-- rule: Listings: The source of the bytes of a file.
+--   definitions: jfolder.Objects.HasHostFile, jfolder.Objects.IsOfKind
+--   code: jfolder::found::file_of
 -- the name of the file that the host tells at a path, and opens
 abbrev pub HasHostFile : Known → List ℕ → List ℕ → Type 0
 HasHostFile known path file =

@@ -58,6 +58,9 @@ abbrev pub HasWrongName : Known → LeftOut → Type 0
 HasWrongName known left = (directory : List ℕ) × (names : Named) × IsNamed known (directory, names)
     × IsUnlisted directory names left
 
+-- rule: Listings: A path that came before is an item's, since a walk goes in order.
+--   definitions: jfolder.Reasons.ComesAgain, jfolder.WalkOrder.InOrder
+--   code: jfolder::reading::read_folder
 -- an item has this path
 abbrev pub ComesAgain : List Item → LeftOut → Type 0
 ComesAgain items left = (left.1 ≡ reason.Repeated) × Contains (item_paths items) left.0
@@ -194,6 +197,9 @@ IsLeftFor known options path why = IsRefusal (known.looked path ≡ None) why
 
 -- ---- a path that is left out
 
+-- rule: Listings: Why a path is left out.
+--   definitions: jfolder.Reasons.IsRight, jfolder.Reasons.IsRootWhy, jfolder.Notes.reason_text
+--   code: jfolder::reading::read_folder, jfolder::reason::text
 -- Its name is wrong, or it comes again, or the host refuses to tell of it, or tells what no listing
 -- says.
 abbrev pub IsRight : Known → Options → List Item → LeftOut → Type 0

@@ -46,6 +46,9 @@ pub record HasReached (known : Known) (options : Options) (items : List Item)
   pub covers : Covers known items (item_paths items ++ (pending ++ left_paths lefts))
   pub right : All (IsRight known options items) lefts
 
+-- rule: Listings: Those lines before a fault.
+--   definitions: jfolder.SoFar.IsBeginning, jfolder.SoFar.HasReached
+--   code: jfolder::reading::read_folder
 -- These paths were left out up to somewhere in a reading. Before the names in the folder itself are
 -- told there are none.
 abbrev pub IsBeginning : Known → Options → List LeftOut → Type 0

@@ -86,5 +86,9 @@ settings_of_root a = record { time = a.time; uid = 0; gid = 0 }
 abbrev pub lines_text : List (List (List ℕ)) → List ℕ
 lines_text lines = flat_map words_line lines
 
+-- rule: Listings: The listing of a tree.
+--   definitions: jfolder.Text.listing_text, jfolder.Actions.actions_of
+--   code: jfolder::text::put_listing
+--   laws: jfolder::laws::listing_is_read_back
 unfoldable pub listing_text : Attributes → List Item → List ℕ
 listing_text root items = lines_text (root_words root ++ items_words (settings_of_root root) items)

@@ -46,6 +46,9 @@ abbrev pub IsTreeAfter : List Item → List Item → Type 0
 IsTreeAfter before [] = ⊤
 IsTreeAfter before (i ∷ items) = MayFollow before i × IsTreeAfter (before ++ i ∷ []) items
 
+-- rule: Listings: What items make up a tree, and in which order.
+--   definitions: jfolder.Trees.IsTree, jfolder.Trees.Rise
+--   code: jfolder::reading::read_folder
 abbrev pub IsTree : List Item → Type 0
 IsTree items = IsTreeAfter [] items
 

@@ -15,11 +15,17 @@ use Rattle.jfolder.specs.declared.tree.Attributes.{Attributes}
 use Rattle.jfolder.specs.declared.tree.Item.{Item}
 use Rattle.jfolder.specs.declared.tree.What.TheVariants as what
 
+-- rule: Listings: The owner and the time that take the place of the host's.
+--   definitions: jfolder.Walking.HasOptions
+--   code: jfolder::reading::read_folder
 -- the owner and the time that the options give take the place of what the host tells
 pub record HasOptions (options : Options) (a : Attributes) : Type 0 where
   pub owner : IfSome options.owner (λ o. (a.uid ≡ o.uid) × (a.gid ≡ o.gid))
   pub time : IfSome options.time (λ t. a.time ≡ t)
 
+-- rule: Listings: An object is read as the host reports it.
+--   definitions: jfolder.Walking.IsTold, jfolder.Walking.IsItemTold, jfolder.Objects.IsObjectTold
+--   code: jfolder::reading::read_folder, jfolder::found::attributes_of, jfolder::found::first_found
 -- what an object gets else: its permission bits, its owner and its time
 pub record IsTold (options : Options) (told : Looked) (a : Attributes) : Type 0 where
   pub mode : a.mode ≡ bit_and told.mode 0o7777

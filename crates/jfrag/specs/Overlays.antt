@@ -21,6 +21,12 @@ abbrev pub GivesAt : ℕ → ℕ × ℕ → Piece → Type 0
 GivesAt place there piece =
     (covers place piece ≡ true) × (piece.version ≡ there.0) × (byte_of place piece ≡ there.1)
 
+-- rule: The file system that nodes make: Each byte is that of the highest version that covers it,
+--   else 0.
+--   definitions: jfrag.Overlays.IsHighestAt, jfrag.Overlays.visible, jfrag.Overlays.content
+--   code: jfrag::all::overlay, jmount::mounted::read_at
+--   laws: jfrag::laws::visibility_laws, jfrag::laws::worked_example,
+--   jmount::laws::objects_are_of_highest, jmount::examples::three_pieces
 -- nothing is visible where no piece covers the place; else what a piece gives there, of the highest
 -- version that covers it
 abbrev pub IsHighestAt : List Piece → ℕ → Visible → Type 0

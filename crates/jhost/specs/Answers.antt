@@ -7,6 +7,9 @@ use Rattle.std.specs.declared.io.ErrorKind.TheVariants as kind
 use Rattle.jfolder.specs.declared.fault.FolderFault.{FolderFault}
 use Rattle.jfolder.specs.declared.fault.FolderFault.TheVariants as folder
 
+-- rule: Listings: What an answer of the system comes to.
+--   definitions: jhost.Answers.fault_of_kind, jhost.Answers.answer_of
+--   code: jhost::read::fault_of, jhost::read::answered
 -- Memory ran out, or what was asked for is no text; all else is a refusal.
 abbrev pub fault_of_kind : ErrorKind → FolderFault
 fault_of_kind kind.OutOfMemory = folder.OutOfMemory

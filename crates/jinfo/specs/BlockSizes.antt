@@ -101,6 +101,12 @@ range_between (Some least) (Some greatest) =
     Some (record { least = least; greatest = greatest })
 range_between _ _ = None
 
+-- rule: What is printed: The sizes that its blocks may have.
+--   definitions: jinfo.BlockSizes.size_range_of, jinfo.BlockSizes.may_be_size,
+--   jinfo.BlockSizes.size_fits
+--   code: jinfo::marks::range
+--   laws: jinfo::laws::fitting_are_told, jinfo::laws::told_are_left, jinfo::laws::left_powers_fit,
+--   jinfo::examples::known_sizes, jinfo::examples::known_places
 -- MIN and MAX are the least and the greatest size that nothing rules out. They are known where a
 -- marker stands past address 0, and some size is left.
 abbrev pub size_range_of : List Extent → Option SizeRange

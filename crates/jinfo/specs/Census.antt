@@ -55,6 +55,9 @@ is_other_tile (Tiled (seen.ReadOnly nodetype)) = true
 is_other_tile (Tiled (seen.Incompatible nodetype)) = true
 is_other_tile _ = false
 
+-- rule: What is printed: What its nodes are, counted.
+--   definitions: jinfo.Census.node_counts_of, jinfo.Census.data_counts_of, jinfo.Census.highest_of
+--   code: jinfo::census::census_of
 abbrev pub node_counts_of : List Extent → NodeCounts
 node_counts_of walk = record {
   all = count_in is_node_tile walk;

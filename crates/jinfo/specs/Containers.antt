@@ -20,6 +20,10 @@ container_magic UImage = 0x27 ∷ 0x05 ∷ 0x19 ∷ 0x56 ∷ []
 abbrev pub begins_as : List ℕ → Container → Bool
 begins_as file container = starts_with nat_eq file (container_magic container)
 
+-- rule: What is printed: The kind of a file by its first bytes.
+--   definitions: jinfo.Containers.container_of
+--   code: jinfo::container::container_of
+--   laws: jinfo::examples::known_beginnings
 -- what the file begins as; no two of these begin alike
 abbrev pub container_of : List ℕ → Option Container
 container_of file = find (begins_as file) (Gzip ∷ Xz ∷ Ubi ∷ Squashfs ∷ Trx ∷ UImage ∷ [])

@@ -53,6 +53,9 @@ unfoldable pub highest_line : Highest → List ℕ
 highest_line numbers = codes "highest" ++ codes " inode " ++ decimal numbers.ino
     ++ codes " version " ++ decimal numbers.version ++ codes "\n"
 
+-- rule: What is printed: The lines of `info`.
+--   definitions: jinfo.InfoText.info_lines
+--   code: jinfo::lines::put_info
 -- what is told of an image, a line each
 unfoldable pub info_lines : Info → List ℕ
 info_lines info =

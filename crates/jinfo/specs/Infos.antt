@@ -28,6 +28,10 @@ order_by little big =
     else if little.nodes.all == 0 then None
     else Some Little
 
+-- rule: What is printed: The byte order of an unknown image.
+--   definitions: jinfo.Infos.order_of
+--   code: jinfo::info::info_of
+--   laws: jinfo::examples::known_orders
 abbrev pub order_of : List ℕ → Option Endian
 order_of image = order_by (census_of Little image) (census_of Big image)
 

@@ -7,6 +7,9 @@ use Rattle.jline.specs.Words.{escaped}
 abbrev pub name_shown : List ℕ → List ℕ
 name_shown name = 47 ∷ escaped name
 
+-- rule: What is printed: Paths that are printed.
+--   definitions: jline.Paths.path_shown
+--   code: jline::paths::put_path
 -- a path, from its names: a slash before each; of no names a slash alone
 abbrev pub path_shown : List (List ℕ) → List ℕ
 path_shown [] = 47 ∷ []

@@ -33,6 +33,10 @@ pairs_of [] = Some []
 pairs_of (high ∷ low ∷ word) = and_byte (byte_of_digits high low) (pairs_of word)
 pairs_of (b ∷ []) = None
 
+-- rule: Listings: Escapes in words.
+--   definitions: jline.Read.unescaped
+--   code: jline::words::unescape
+--   laws: jreport::path_laws::escaped_is_read_back
 -- `\x` and two hexadecimal digits are one byte, and there is no other use of `\`
 abbrev pub unescaped : List ℕ → Option (List ℕ)
 unescaped [] = Some []

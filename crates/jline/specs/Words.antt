@@ -29,6 +29,10 @@ hex_escape b = 92 ∷ 120 ∷ hex_digit (b / 16) ∷ hex_digit (b % 16) ∷ []
 abbrev pub escaped_byte : ℕ → List ℕ
 escaped_byte b = if is_plain b then b ∷ [] else hex_escape b
 
+-- rule: What is printed: Names, numbers and addresses in a line.
+--   definitions: jline.Words.escaped, jline.Words.hex, jline.Words.octal
+--   code: jline::line::LineBuffer
+--   laws: jreport::report_examples::names_are_escaped
 abbrev pub escaped : List ℕ → List ℕ
 escaped bytes = flat_map escaped_byte bytes
 
@@ -48,6 +52,10 @@ in_line bytes = flat_map in_line_byte bytes
 abbrev pub word_byte : ℕ → List ℕ
 word_byte b = if b == 47 then b ∷ [] else escaped_byte b
 
+-- rule: What is printed: Paths in a listing that is written.
+--   definitions: jline.Words.word_of
+--   code: jline::escapes::put_word
+--   laws: jfolder::laws::listing_is_read_back
 -- a path or a target
 abbrev pub word_of : List ℕ → List ℕ
 word_of bytes = flat_map word_byte bytes

@@ -153,6 +153,11 @@ or_return line None = None
 or_return line (Some broken) = Some
     (if slice_index line (length line - 1) == 13 then rule.CarriageReturn else broken)
 
+-- rule: Listings: The first rule that a line breaks, and its note.
+--   definitions: jlisting.Broken.first_broken, jlisting.Broken.IsBadLine, jreport.Advice.rule_note
+--   code: jlisting::broken::first_broken, jreport::advice::put_fault_and_note
+--   laws: jlisting::laws::broken_lines_mean_nothing, jlisting::examples::shapes_are_judged,
+--   jlisting::examples::words_are_judged
 -- the first rule that a line breaks, if it breaks one
 unfoldable pub first_broken : List ℕ → Option Rule
 first_broken line = if is_skipped line then None else

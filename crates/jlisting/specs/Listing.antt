@@ -157,6 +157,9 @@ statement_of_words s _ = None
 abbrev pub is_skipped : List ℕ → Bool
 is_skipped line = (length line == 0) || (slice_index line 0 == 35)
 
+-- rule: Listings: The forms of a line.
+--   definitions: jlisting.Listing.statement_of
+--   code: jlisting::reading::read_line
 -- Any other line is words between single spaces. A space at an end, or a second one, makes an empty
 -- word, which no form takes.
 unfoldable pub statement_of : Settings → List ℕ → Option Statement
@@ -197,6 +200,9 @@ lines_from n s (line ∷ lines) = or_err n (statement_of s line)
 abbrev pub lines_in : ℕ → Settings → List ℕ → Result (List Line) ℕ
 lines_in n s text = lines_from n s (slice_split (λ b. b == 10) text)
 
+-- rule: Listings: Lines, and the number of the first wrong one.
+--   definitions: jlisting.Listing.lines_of
+--   code: jlisting::lines::listing
 unfoldable pub lines_of : List ℕ → Result (List Line) ℕ
 lines_of text = lines_in 1 initial_settings text
 

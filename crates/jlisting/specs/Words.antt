@@ -22,6 +22,10 @@ abbrev pub number_of : ℕ → ℕ → ℕ → List ℕ → Option ℕ
 number_of base most limit word = if nat_le 1 (length word)
     && nat_le (length word) most then digits_from base limit 0 word else None
 
+-- rule: Listings: Numbers, modes and bytes in a line.
+--   definitions: jlisting.Words.decimal_of, jlisting.Words.mode_of, jlisting.Words.hex_data_of
+--   code: jlisting::words::digits
+--   laws: jlisting::laws::numbers_are_numerals, jlisting::laws::decimals_are_read_back
 abbrev pub decimal_of : ℕ → List ℕ → Option ℕ
 decimal_of limit word = number_of 10 10 limit word
 

@@ -30,6 +30,9 @@ pub record HoldsMarker (e : Endian) (size from k : ℕ) (image : List ℕ) (bloc
   pub bytes : (i : ℕ) → i < size
       → flash_byte image (block * size + i) ≡ flash_byte (take j (clean_marker e)) i
 
+-- rule: The log: The flash after a stop.
+--   definitions: jlog.Left.IsLeft
+--   code: jlog::laws::base_stays, jlog::laws::some_are_left
 -- A stop after k bytes of `out`, which was being written from the address `from` on, may leave this
 -- image of the base.
 pub record IsLeft (e : Endian) (size blocks : ℕ) (base : List ℕ) (from : ℕ) (out : List ℕ) (k : ℕ)
@@ -53,6 +56,9 @@ bytes_at from bytes place = take place.1 (drop (place.0 - from) bytes)
 abbrev pub is_whole : ℕ → List ℕ → ℕ → ℕ × ℕ → Bool
 is_whole from out k place = bytes_eq (bytes_at from (torn out k) place) (bytes_at from out place)
 
+-- rule: The log: The nodes that are whole after a stop.
+--   definitions: jlog.Left.count_whole, jlog.Left.intact
+--   code: jlog::laws::intact_is_counted, jlog::laws::left_sightings, jlog::laws::left_nodes
 -- how many do
 abbrev pub count_whole : ℕ → List ℕ → ℕ → List (ℕ × ℕ) → ℕ
 count_whole from out k places = count_by (is_whole from out k) places

@@ -16,6 +16,14 @@ use Rattle.jexpand.specs.Expanded.{node_content, with_content}
 abbrev pub zlib_number : ℕ
 zlib_number = 6
 
+-- rule: Compressed data: The compressed node that may replace a node, and the image of such nodes
+--   that goes out.
+--   definitions: jlog.Packed.StandsFor, jconvert.Compressing.AreFormsFor,
+--   jconvert.Compressing.StaysPlain, jconvert.Compressing.IsPackedImage,
+--   jconvert.Compressing.Compresses
+--   code: jconvert::packing::pack_inode, jconvert::compressing::write_packed,
+--   jconvert::compressing::compress
+--   laws: jconvert::laws::compressed_gives_back
 -- A compressed node that stands for a node of a regular file: its data give just the bytes of that
 -- node, whose other fields it has, and it takes fewer words.
 pub record StandsFor (packed : CompressedNode) (node : NodeRef) : Type 0 where

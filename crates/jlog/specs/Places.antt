@@ -14,6 +14,10 @@ pub record IsPlace (size from len at : ℕ) : Type 0 where
   pub behind_marker : at / size * size + header_len ≤ at
   pub within : at + len ≤ at / size * size + size
 
+-- rule: The log: The place of a node.
+--   definitions: jlog.Places.IsLeastPlace, jlog.Places.places
+--   code: jlog::place::place_of
+--   laws: jlog::laws::place_is_least
 -- the least of them
 pub record IsLeastPlace (size from len at : ℕ) : Type 0 where
   pub place : IsPlace size from len at
@@ -54,6 +58,11 @@ end_of_all size from (node ∷ nodes) = end_of_all size (end_after size from (le
 
 -- ---- room
 
+-- rule: The log: Whether nodes fit, and the room in a refusal.
+--   definitions: jlog.Places.fit, jlog.Places.needed, jlog.Places.free, jlog.Places.least_blocks
+--   code: jlog::room::has_room, jlog::room::needed, jlog::room::free, jlog::room::least_blocks,
+--   jlog::session::blocks_for
+--   laws: jlog::laws::room_goes_on, jlog::laws::blocks_are_least
 -- each node ends by the end of the flash
 abbrev pub fit : ℕ → ℕ → ℕ → List (List ℕ) → Bool
 fit size blocks from nodes =

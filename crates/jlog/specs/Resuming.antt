@@ -11,6 +11,10 @@ use Rattle.jlog.specs.declared.fault.SessionFault.{SessionFault}
 use Rattle.jlog.specs.declared.fault.SessionFault.TheVariants as fault
 use Rattle.jlog.specs.declared.start.Flash.{Flash}
 
+-- rule: The log: The address at which writing goes on in an image.
+--   definitions: jlog.Resuming.resumes_at, jlog.Resuming.resumes, jscan.Blank.blank_from
+--   code: jlog::resuming::resume_at, jlog::start::of, jlog::session::begin
+--   laws: jscan::laws::blank_from_is_least
 -- An image that may not be written is not resumed, nor is one that a flash of so many blocks does
 -- not hold; any other is at the block from which on the flash is blank.
 abbrev pub resumes_at : Endian → ℕ → ℕ → Mount → Result ℕ SessionFault

@@ -149,6 +149,12 @@ pub record StopsAtAs (on : FlashAs) (from : LogState) (ops : List Op) (n : ℕ)
       (flash_as on.packs (on.held + content_len on.flash.order forms) on.flash)
       (record { log = mid; broken = from.broken }) op to (record sink { old = between }) (Err f)
 
+-- rule: The log: What it puts survives a stop at any byte, in the tail of an image or in its blank
+--   blocks.
+--   definitions: jlog.SessionAs.RunsAs, jlog.DoneThrough.SurvivesAfterAs, jrow.Arranged.arranged,
+--   jrow.Arranged.row_start
+--   code: jpacked::session::PackingSession
+--   laws: jlog::laws::forms_survive, jlog::laws::run_survives_as, jrow::laws::row_is_tail
 abbrev pub RunsAs : FlashAs → LogState → List Op → ℕ → List (List ℕ) → LogState → SinkChange
     → Option SessionFault → Type 0
 RunsAs on from ops n forms to sink None =

@@ -13,6 +13,9 @@ pub record InodesClash (a b : InodeNode) : Type 0 where
   pub version : a.version ≡ b.version
   pub contents : a ≢ b
 
+-- rule: The file system that nodes make: Two nodes of one key and unlike contents clash.
+--   definitions: jmount.Clash.NodesClash, jname.Clash.SomeEntryClashesWith
+--   code: jname::names::add, jmount::mounting::mount
 abbrev pub NodesClash : NodeRef → NodeRef → Type 0
 NodesClash (Entry a) (Entry b) = names.EntriesClash a b
 NodesClash (Inode a) (Inode b) = InodesClash a b

@@ -21,6 +21,10 @@ path_text (name ∷ names) = flat_map (λ n. 47 ∷ n) (name ∷ names)
 abbrev pub way_up : List (List ℕ) → List (List ℕ)
 way_up path = take (length path - 1) path
 
+-- rule: The file system that nodes make: Paths, and the objects they lead to.
+--   definitions: jmount.Find.IsPath, jmount.Find.find
+--   code: jmount::mounted::find
+--   laws: jmount::laws::paths_have_names
 -- the text is the path of these names
 abbrev pub IsPath : List ℕ → List (List ℕ) → Type 0
 IsPath text names = (text ≡ path_text names) × All (λ name. IsTrue (is_name name)) names

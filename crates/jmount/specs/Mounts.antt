@@ -56,6 +56,10 @@ pub record IsMountOf (e : Endian) (size : ℕ) (mount : Mount) : Type 0 where
   pub findings : mount.findings ≡ findings e size mount.image
   pub read_only : mount.read_only ≡ is_read_only e size mount.image
 
+-- rule: The file system that nodes make: What refuses a mount, and in which order.
+--   definitions: jmount.Mounts.Answers
+--   code: jmount::mounting::mount
+--   laws: jmount::laws::state_depends_on_nodes
 -- the answer of a mount
 abbrev pub Answers : Endian → ℕ → List ℕ → Result Mount MountFault → Type 0
 Answers e size image (Ok mount) = (mount.image ≡ image) × IsMountOf e size mount

@@ -34,6 +34,9 @@ pub record IsMountedWith (bytes : List ℕ) (found : List Finding) (forbids : Bo
   pub findings : mount.findings ≡ found
   pub read_only : mount.read_only ≡ forbids
 
+-- rule: Compressed data: A list of nodes that is mounted.
+--   definitions: jmount.MountsNodes.AnswersNodes
+--   code: jmount::mounting::mount_nodes, jmount::mounting::refuse_clashes
 -- The answer of a mount of these nodes. A clash is that of the first node in the list that clashes
 -- with one before it.
 abbrev pub AnswersNodes : List ℕ → List (ℕ × NodeRef) → List Finding → Bool

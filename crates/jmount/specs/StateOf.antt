@@ -70,6 +70,10 @@ with_bytes node bytes = record {
 abbrev pub object_by : List InodeNode → InodeNode → ObjectOf (List ℕ)
 object_by versions node = with_bytes node (contents versions node.isize)
 
+-- rule: The file system that nodes make: The root is inode 1, by default a directory.
+--   definitions: jmount.StateOf.default_root
+--   code: jmount::mounting::mount
+--   laws: jmount::examples::empty_image
 -- the root of an image that has no inode node for it (profile)
 abbrev pub default_root : ObjectOf (List ℕ)
 default_root =
@@ -83,6 +87,14 @@ or_root i (Some o) = Some o
 abbrev pub object_from : ℕ → List InodeNode → Option (ObjectOf (List ℕ))
 object_from i versions = or_root i (option_map (object_by versions) (latest versions))
 
+-- rule: The file system that nodes make: Attributes are those of the highest version.
+--   definitions: jmount.StateOf.object_of, jmount.StateOf.latest
+--   code: jmount::mounted::object
+--   laws: jmount::laws::objects_are_of_highest
+-- rule: The file system that nodes make: The size in an older node cuts nothing away.
+--   definitions: jmount.StateOf.object_of
+--   code: jmount::mounted::read_at
+--   laws: jmount::examples::cut_and_written
 abbrev pub object_of : List InodeNode → ℕ → Option (ObjectOf (List ℕ))
 object_of nodes i = object_from i (versions_of nodes i)
 
@@ -97,6 +109,10 @@ abbrev pub numbers_in : NodeRef → List ℕ
 numbers_in (Inode node) = node.ino ∷ []
 numbers_in (Entry entry) = entry.pino ∷ entry.ino ∷ []
 
+-- rule: The file system that nodes make: The next free number.
+--   definitions: jmount.StateOf.next_of
+--   code: jmount::mounted::next
+--   laws: jmount::laws::numbers_are_least, jmount::laws::numbers_in_use
 -- one more than the greatest number that is named, the root's among them
 abbrev pub next_of : List NodeRef → ℕ
 next_of ns = 1 + greatest (1 ∷ flat_map numbers_in ns)
@@ -111,6 +127,10 @@ abbrev pub version_of : NodeRef → ℕ
 version_of (Inode node) = node.version
 version_of (Entry entry) = entry.version
 
+-- rule: The file system that nodes make: The greatest version of a number.
+--   definitions: jmount.StateOf.top
+--   code: jmount::mounted::top
+--   laws: jmount::laws::numbers_are_least
 -- the greatest version of a number, or 0
 abbrev pub top : List NodeRef → ℕ → ℕ
 top ns i = greatest (map version_of (filter (λ node. i == owner node) ns))

@@ -67,6 +67,10 @@ entries_in t dir = map (λ e. (e.0.1, e.1)) (filter (λ e. e.0.0 == dir) (entrie
 abbrev pub all_entries : {B : Type 0} → Tree B → List (ℕ × List ℕ × ℕ)
 all_entries t = map (λ e. (e.0.0, e.0.1, e.1)) (entries t.names)
 
+-- rule: The file system that nodes make: Names without an object dangle.
+--   definitions: jmount.Tree.dangling
+--   code: jmount::mounted::dangling
+--   laws: jmount::examples::dangling_name
 -- the names whose objects are missing, in order
 abbrev pub dangling : {B : Type 0} → Tree B → List (ℕ × List ℕ × ℕ)
 dangling t = filter (λ e. not (is_there t e.2)) (all_entries t)
@@ -81,6 +85,10 @@ first_directory t i = if is_there t i then first_directory_in (all_entries t) i 
 
 -- ---- kinds: mode bits 12 to 15 (Linux, include/uapi/linux/stat.h)
 
+-- rule: The file system that nodes make: Kinds are bits 12 to 15 of the mode.
+--   definitions: jmount.Tree.type_bits
+--   code: jmount::mounted::object
+--   laws: jmount::examples::kinds_of_modes
 abbrev pub type_bits : ℕ → ℕ
 type_bits mode = mode / 4096 % 16
 

@@ -25,6 +25,12 @@ is_at key entry = (entry.pino == key.0) && bytes_eq entry.name key.1
 abbrev pub ino_if_any : Dirent → Option ℕ
 ino_if_any entry = if entry.ino == 0 then None else Some entry.ino
 
+-- rule: The file system that nodes make: A name leads to the inode of its entry of highest version;
+--   0 removes it.
+--   definitions: jname.Live.live
+--   code: jname::names::get, jname::names::of, jname::names::all
+--   laws: jname::laws::live_names_are_live, jmount::laws::names_are_of_newest,
+--   jmount::examples::removed_name
 -- the inode number that a name stands for: that of its entry of highest version
 abbrev pub live : List Dirent → Key → Option ℕ
 live given key =

@@ -33,6 +33,12 @@ compressed_of e tile = record {
   «data» = data_of e tile;
 }
 
+-- rule: Bytes and nodes: A compressed node: its fields and its data, read and written.
+--   definitions: jnode.Compressed.ReadsCompressedNode, jnode.Compressed.compressed_of,
+--   jnode.Compressed.canonical_compressed
+--   code: jnode::compressed::compressed_at, jnode::compressed::compressed_fields,
+--   jnode::compressed::write_compressed
+--   laws: jnode::laws::compressed_reads_back
 -- The tile reads as this node: a sound inode node, whose compression is neither 0 nor 1.
 pub record ReadsCompressedNode (e : Endian) (tile : List ℕ) (node : CompressedNode) : Type 0 where
   pub sound : IsSoundInode e tile

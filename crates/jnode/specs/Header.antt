@@ -77,6 +77,12 @@ is_good_front e front len =
 abbrev pub header_by_front : Endian → List ℕ → ℕ → Option Header
 header_by_front e front len = if is_good_front e front len then Some (header_of e front) else None
 
+-- rule: Bytes and nodes: A header is good by its place, magic, hdr_crc (with ACCURATE set) and
+--   totlen.
+--   definitions: jnode.Header.is_good, jnode.Header.hdr_crc_of
+--   code: jnode::header::header_at, jnode::header::header_in
+--   laws: jnode::laws::good_is_computed, jnode::laws::header_is_twelve_bytes,
+--   jnode::laws::known_headers
 unfoldable pub is_good : Endian → List ℕ → Bool
 is_good e rest = nat_le header_len (length rest) && is_good_front e rest (length rest)
 

@@ -14,6 +14,10 @@ unfoldable pub bytes_in : Endian → ℕ → ℕ → List ℕ
 bytes_in Little n x = little_bytes n x
 bytes_in Big n x = big_bytes n x
 
+-- rule: Bytes and nodes: All numbers are in one byte order.
+--   definitions: jnode.Order.number_at, jnode.Order.bytes_in
+--   code: jnode::order::Order
+--   laws: jnode::laws::number_reads_back, jnode::laws::number_is_spelled
 -- the number in the n bytes from a place on
 abbrev pub number_at : Endian → ℕ → ℕ → List ℕ → ℕ
 number_at e n place bytes = number_in e n (drop place bytes)

@@ -171,6 +171,14 @@ pub record ReadsCompressed (e : Endian) (tile : List ℕ) (compr : ℕ) : Type 0
   pub not_none : compr ≢ 0
   pub not_zero : compr ≢ 1
 
+-- rule: Bytes and nodes: A tile reads as an inode node by facts that have no order.
+--   definitions: jnode.Reading.Reads
+--   code: jnode::reading::read_node
+--   laws: jnode::laws::reads_one, jnode::laws::seen_is_read, jnode::laws::known_nodes
+-- rule: Bytes and nodes: A tile reads as an entry node by facts that have no order.
+--   definitions: jnode.Reading.Reads
+--   code: jnode::reading::read_node
+--   laws: jnode::laws::reads_one, jnode::laws::seen_is_read, jnode::laws::known_nodes
 -- The tile reads as this node.
 abbrev pub Reads : Endian → List ℕ → NodeRef → Type 0
 Reads e tile (node.Entry entry) = ReadsEntry e tile entry
@@ -193,6 +201,10 @@ unfoldable pub is_entry_in_range : Endian → List ℕ → Bool
 is_entry_in_range e tile =
     nat_le 1 (nsize_of tile) && nat_le (nsize_of tile) 254 && nat_lt 0 (number_at e 4 12 tile)
 
+-- rule: Bytes and nodes: The first failing check names the damage.
+--   definitions: jnode.Reading.entry_seen, jnode.Reading.inode_seen
+--   code: jnode::reading::read_node
+--   laws: jnode::laws::known_damage
 -- What a tile of an entry node's type is seen as: the check that fails first is named.
 unfoldable pub entry_seen : Endian → List ℕ → Seen
 entry_seen e tile =
@@ -236,6 +248,10 @@ inode_seen e tile =
 
 -- ---- any node
 
+-- rule: Bytes and nodes: Types that the table does not have go by their bits 0xC000.
+--   definitions: jnode.Reading.other_seen
+--   code: jnode::reading::read_node
+--   laws: jnode::laws::known_types
 -- what a type that no table has is seen as, by its two highest bits
 unfoldable pub other_seen : ℕ → Seen
 other_seen nodetype =
@@ -252,6 +268,10 @@ plain_seen nodetype =
     if (nodetype == xattr_type) || (nodetype == xref_type) then Attribute else
     other_seen nodetype
 
+-- rule: Bytes and nodes: A node without ACCURATE is obsolete and carries nothing.
+--   definitions: jnode.Reading.seen_of, jnode.Header.is_accurate
+--   code: jnode::reading::read_node
+--   laws: jnode::laws::known_nodes, jnode::laws::known_types
 -- What a tile with a good header is seen as.
 unfoldable pub seen_of : Endian → List ℕ → Seen
 seen_of e tile =

@@ -28,6 +28,11 @@ unfoldable pub has_bounded_header : Endian → List ℕ → Bool
 has_bounded_header e bytes = has_header e bytes && nat_le header_len (totlen_of e bytes)
     && nat_le (totlen_of e bytes) totlen_most
 
+-- rule: Bytes and nodes: A cut that no check shows is weak, of a node that is compressed or not.
+--   definitions: jnode.Weak.is_weak, jnode.Weak.IsLeastWeak, jnode.Weak.IsWrittenForm
+--   code: jnode::weak::weak_cut
+--   laws: jnode::laws::torn_header_is_none, jnode::laws::torn_node_is_damaged,
+--   jnode::laws::torn_is_tile, jnode::laws::known_cuts
 -- The checks do not show the cut after j bytes: what is left differs from the node, and either its
 -- header differs and yet holds, or its header is the node's and all its checks hold.
 unfoldable pub is_weak : Endian → List ℕ → ℕ → Bool
@@ -64,6 +69,14 @@ pub record IsWrittenCompressed (e : Endian) (bytes : List ℕ) : Type 0 where
 abbrev pub IsWrittenForm : Endian → List ℕ → Type 0
 IsWrittenForm e bytes = IsWrittenNode e bytes ⊎ IsWrittenCompressed e bytes
 
+-- rule: The log: The same for nodes that may go out compressed: the rest, seen through its
+--   compression. Laws of definitions alone, which no code meets yet.
+--   definitions: jnode.Weak.IsForm, jlog.Forms.HasForms, jview.Through.MountsThroughAs,
+--   jlog.Packed.IsNodeForm, jlog.HeadlineThrough.SurvivesAs, jlog.SessionAs.RunsAs
+--   laws: jlog::laws::left_forms, jlog::laws::left_expands, jlog::laws::mount_through,
+--   jlog::laws::forms_survive, jlog::laws::done_survives, jlog::laws::run_survives_as,
+--   jlog::laws::unpacked_is_as_ever, jlog::laws::shorter_forms_fit,
+--   jconvert::laws::through_is_converted
 -- A form: bytes that begin with a header of right magic and checksum, which tells their length, and
 -- that are seen as a sound node, compressed or not.
 pub record IsForm (e : Endian) (form : List ℕ) : Type 0 where

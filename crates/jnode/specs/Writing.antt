@@ -26,6 +26,10 @@ unfoldable pub header_bytes : Endian → ℕ → ℕ → List ℕ
 header_bytes e nodetype totlen =
     sealed e (bytes_in e 2 magic ++ bytes_in e 2 nodetype ++ bytes_in e 4 totlen)
 
+-- rule: Bytes and nodes: Clean markers and padding nodes.
+--   definitions: jnode.Writing.clean_marker, jnode.Writing.padding_node
+--   code: jnode::writing::write_marker, jnode::writing::write_padding
+--   laws: jnode::laws::marker_is_tile, jnode::laws::padding_is_tile
 -- the clean marker of an erased block
 abbrev pub clean_marker : Endian → List ℕ
 clean_marker e = header_bytes e marker_type header_len
@@ -86,6 +90,10 @@ canonical_inode e inode =
     inode_front e inode ++ bytes_in e 4 (crc_of (stored_bytes inode.fill))
     ++ bytes_in e 4 (crc_of (inode_front e inode)) ++ stored_bytes inode.fill
 
+-- rule: Bytes and nodes: Nodes have one written form.
+--   definitions: jnode.Writing.canonical
+--   code: jnode::writing::write_entry, jnode::writing::write_inode
+--   laws: jnode::laws::written_reads, jnode::laws::written_is_tile, jnode::laws::known_forms
 -- The written form of a node.
 abbrev pub canonical : Endian → NodeRef → List ℕ
 canonical e (Entry entry) = canonical_entry e entry
@@ -161,6 +169,10 @@ abbrev pub holds_range : Fill → ℕ → Bool
 holds_range Zero dsize = true
 holds_range (Data bytes) dsize = length bytes == dsize
 
+-- rule: Bytes and nodes: What may be written.
+--   definitions: jnode.Writing.is_writable
+--   code: jnode::writing::write_entry, jnode::writing::write_inode
+--   laws: jnode::laws::writable_is_computed
 unfoldable pub is_writable : NodeRef → Bool
 is_writable (Entry entry) =
     nat_le 1 (length entry.name) && nat_le (length entry.name) 254 && nat_le 1 entry.pino

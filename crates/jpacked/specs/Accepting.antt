@@ -55,6 +55,10 @@ ChoosesNone on from steps fault.Geometry = ⊥
 
 -- ---- operations
 
+-- rule: The log: A packing session accepts an operation as a whole, by the lengths of its forms.
+--   definitions: jpacked.Accepting.IsChosenFor, jpacked.Accepting.DeclinesAs,
+--   jlog.SessionAs.IsTooMuch
+--   code: jpacked::accepting::accept, jpacked::room::has_room
 -- It has these steps, and these packed data were chosen for them.
 pub record IsChosenFor (on : FlashAs) (from : Log) (o : Op) (steps : List Step)
     (streams : List (List ℕ)) (now : ℕ) : Type 0 where

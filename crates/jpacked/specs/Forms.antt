@@ -22,6 +22,10 @@ use Rattle.jlog.specs.SessionAs.{content_len}
 
 -- ---- packed data
 
+-- rule: The log: A form is a compressed node only if that has fewer words, and a length that does
+--   not spell the magic.
+--   definitions: jpacked.Forms.is_worth, jpacked.Forms.IsStreamOf, jlog.Packed.IsNodeForm
+--   code: jpacked::packing::pack
 -- So many bytes of packed data make a node of fewer words than so many bytes as they are, and of a
 -- length that does not spell the magic.
 abbrev pub is_worth : ℕ → ℕ → Bool
@@ -43,6 +47,9 @@ pub record IsFileAt (x : Indexed) (ino : ℕ) : Type 0 where
   pub taken : ino < x.tree.next
   pub regular : type_bits (object_at x ino).mode ≡ regular_bits
 
+-- rule: The log: Only the bytes of regular files are packed.
+--   definitions: jpacked.Forms.IsFileNode, jpacked.Forms.IsOfFile
+--   code: jpacked::regular::packable
 -- the node gives a regular file these bytes
 pub record IsFileNode (inode : InodeNode) (bytes : List ℕ) : Type 0 where
   pub fill : inode.fill ≡ Data bytes
@@ -52,6 +59,10 @@ pub record IsFileNode (inode : InodeNode) (bytes : List ℕ) : Type 0 where
 abbrev pub IsOfFile : NodeRef → List ℕ → Type 0
 IsOfFile n bytes = (inode : InodeNode) × (n ≡ node.Inode inode) × IsFileNode inode bytes
 
+-- rule: The log: A node is packed only while the contents of all compressed nodes stay within the
+--   bound of a mount through.
+--   definitions: jpacked.Forms.IsChosen, jview.Through.greatest_contents
+--   code: jpacked::planning::choose_all, jpacked::content::contents_len
 -- What was chosen for a node: no packed data; or some of its bytes, and there was room for these
 -- beside the contents that are held.
 abbrev pub IsChosen : NodeRef → ℕ → List ℕ → Type 0

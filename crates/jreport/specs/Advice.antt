@@ -157,6 +157,9 @@ noted_line name note =
     if length note == 0 then [] else
     codes "jffs2_image: note: " ++ (in_line name ++ (note ++ 10 ∷ []))
 
+-- rule: What is printed: The note after a fault.
+--   definitions: jreport.Advice.advice_of, jreport.Reasons.unread_note
+--   code: jreport::advice::put_fault_and_note
 -- the line after that of a fault, if there is one
 unfoldable pub advice_of : ProgramFault → List ℕ
 advice_of fault = noted_line (named_in fault) (note_of fault)

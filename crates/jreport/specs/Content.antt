@@ -20,6 +20,10 @@ abbrev pub content_found : State → Result ℕ FindFault → Result (List ℕ) 
 content_found s (Ok i) = bytes_if_regular s i
 content_found s (Err fault) = Err (program.Path fault)
 
+-- rule: What is printed: What `cat` writes, and which words are paths.
+--   definitions: jreport.Content.content_of, jreport.Paths.path_of
+--   code: jreport::files::content, jmount::mounted::put_bytes, jreport::whole_image::image_file,
+--   jreport::paths::path_word
 -- the bytes of the regular file that a path names, or why there are none
 unfoldable pub content_of : State → List ℕ → Result (List ℕ) ProgramFault
 content_of s path = content_found s (find s path)

@@ -94,6 +94,10 @@ abbrev pub line_text_of : Option ℕ → List ℕ
 line_text_of None = []
 line_text_of (Some n) = line_text n
 
+-- rule: What is printed: The texts of faults.
+--   definitions: jreport.Faults.fault_text_of
+--   code: jreport::faults::fault_text, jreport::faults::put_fault
+--   laws: jreport::fault_examples::known_fault_texts, jreport::fault_examples::known_session_texts
 unfoldable pub fault_text_of : ProgramFault → List ℕ
 fault_text_of (program.Load fault) = load_text fault
 fault_text_of (program.NotRead file) = load_text load.Device

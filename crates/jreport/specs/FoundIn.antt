@@ -21,10 +21,18 @@ found_among ss =
       attributes = count_by (λ f. is_attribute_node f.kind) found;
     }
 
+-- rule: What is printed: Findings of an image that does not mount.
+--   definitions: jreport.FoundIn.found_in
+--   code: jreport::findings::found_in
 -- those of an image
 abbrev pub found_in : Endian → ℕ → List ℕ → Found
 found_in e size image = found_among (image_extents e size image)
 
+-- rule: What is printed: An image with findings is not replaced by an image made of it, unless that
+--   is forced.
+--   definitions: jreport.FoundIn.HasFindings, jreport.FoundIn.IsFindings,
+--   jffs2_image.Judging.OfConverted, jcommand.Parsed.is_forced
+--   code: jreport::findings::refuse_findings, jffs2_image::judging::judge_image
 -- an image that can be read has findings of which a person is told
 pub record HasFindings (e : Endian) (size : ℕ) (image : List ℕ) : Type 0 where
   pub scannable : IsScannable size image

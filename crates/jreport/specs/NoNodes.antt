@@ -18,6 +18,10 @@ node_count e size image = length (sightings e size image)
 abbrev pub IsAllErased : List ℕ → Type 0
 IsAllErased image = image ≡ erased (length image)
 
+-- rule: What is printed: An image in which no node is found is refused by `decompress`, `compress`,
+--   `extract`, `diff` and `damage`.
+--   definitions: jreport.NoNodes.HasNoNode, jreport.NoNodes.IsNoNodes, jffs2_image.Judging.OfNodes
+--   code: jreport::no_nodes::refuse_no_nodes
 -- no node is found in an image that can be read, and that has been written
 pub record HasNoNode (e : Endian) (size : ℕ) (image : List ℕ) : Type 0 where
   pub scannable : IsScannable size image

@@ -17,6 +17,9 @@ IsShownRefusal ns (mount.Clash addr) fault =
     (other : ℕ) × (fault ≡ program.Clash addr other) × IsClashBelow ns addr (Some other)
 IsShownRefusal ns refused fault = fault ≡ program.Mount refused
 
+-- rule: What is printed: Both nodes of a clash, if a command's image does not mount.
+--   definitions: jreport.Refusal.IsRefusalTold, jreport.Refusal.IsShownRefusal
+--   code: jreport::refusal::mount_or_tell
 -- the image does not mount, and this says why
 abbrev pub IsRefusalTold : Endian → ℕ → List ℕ → ProgramFault → Type 0
 IsRefusalTold e size image fault = (refused : MountFault) × Answers e size image (Err refused)

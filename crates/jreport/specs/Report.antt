@@ -41,6 +41,11 @@ lines_below e size image n = flat_map (block_lines e size image) (below n)
 abbrev pub totals_line : Counts → List ℕ
 totals_line c = total_line c.blocks c.entries c.inodes c.findings
 
+-- rule: What is printed: The report of `check --scan`.
+--   definitions: jreport.Report.scan_text, jreport.Stream.ReadsTo
+--   code: jreport::report::scan_lines, jreport::stream::stream_lines
+--   laws: jreport::report_examples::entry_is_reported,
+--   jreport::report_examples::empty_image_is_reported
 -- what `check --scan` prints
 unfoldable pub scan_text : Endian → ℕ → List ℕ → List ℕ
 scan_text e size image = let blocks = block_count size image in lines_below e size image blocks

@@ -104,6 +104,14 @@ IsTextFrom s item text =
     (lines : List (List ℕ)) × AreLinesOf s none_met (item ∷ []) lines
     × (text ≡ flat_map (λ line. line) lines)
 
+-- rule: What is printed: The lines of `ls`.
+--   definitions: jreport.TreeText.IsTreeText, jreport.TreeText.object_line,
+--   jreport.TreeText.PutsPartAt, jreport.Remembering.RemembersNone,
+--   jreport.Remembering.MeetsDirectory
+--   code: jreport::tree_walk::tree_lines, jreport::tree_walk::put_subtree,
+--   jreport::whole_image::image_tree, jreport::met::new, jreport::met::meet
+--   laws: jreport::tree_laws::every_tree_has_one_text, jreport::tree_laws::root_comes_first,
+--   jreport::tree_laws::shape_is_listed_once, jreport::tree_laws::part_is_a_stretch
 -- what `ls` prints: the lines from the root on
 abbrev pub IsTreeText : State → List ℕ → Type 0
 IsTreeText s text = IsTextFrom s ([], 1) text

@@ -54,6 +54,9 @@ abbrev pub mounted_text : Bool → Mount → List ℕ
 mounted_text asked m = ok_line m.read_only
     ++ (flat_map dangling_line (dangling m.state) ++ shape_text (shape_if asked m))
 
+-- rule: What is printed: The verdict of `check`.
+--   definitions: jreport.Verdict.verdict_of
+--   code: jreport::verdict::verdict_lines, jreport::whole_image::image_check
 abbrev pub verdict_of : Bool → Result Mount MountFault → List ℕ
 verdict_of asked (Ok m) = mounted_text asked m
 verdict_of asked (Err fault) = refused_line fault

@@ -5,6 +5,10 @@ use Rattle.jnode.specs.declared.order.Endian.{Endian}
 use Rattle.jscan.specs.Blank.{is_blank}
 use Rattle.jscan.specs.Image.{block_of}
 
+-- rule: Blocks and images: Which blocks are blank, wherever they lie.
+--   definitions: jrow.Row.blank_blocks, jscan.Blank.is_blank
+--   code: jrow::row::Row
+--   laws: jrow::laws::row_is_of_blank_blocks, jrow::examples::third_block_is_taken
 -- the blank blocks of an image on a flash of so many blocks, in ascending order; one past the
 -- image's end is blank
 abbrev pub blank_blocks : Endian → ℕ → ℕ → List ℕ → List ℕ
@@ -34,6 +38,12 @@ pub record IsRowOf (blocks : ℕ) (row : List ℕ) : Type 0 where
 abbrev pub start_of_row : ℕ → ℕ → List ℕ → ℕ
 start_of_row size blocks row = (blocks - length row) * size
 
+-- rule: The log: Where an address of the row lies, and what is put of an image with bytes there.
+--   definitions: jrow.Row.address_of, jrow.Row.start_of_row, jrow.RowLeft.with_row,
+--   jrow.Written.length_with
+--   code: jrow::row::Row, jrow::placing::put_with_row, jrow::placing::written_len
+--   laws: jrow::laws::row_has_addresses, jrow::laws::image_with_row_is_left,
+--   jrow::laws::erased_ends_do_not_matter
 -- and where on the flash an address of theirs lies.
 abbrev pub address_of : ℕ → ℕ → List ℕ → ℕ → Option ℕ
 address_of size blocks row at =

@@ -25,6 +25,10 @@ pub record IsBlankFrom (e : Endian) (size : ℕ) (image : List ℕ) (blocks b : 
   pub blank : AreBlankFrom e size image blocks b
   pub least : (c : ℕ) → AreBlankFrom e size image blocks c → b ≤ c
 
+-- rule: Blocks and images: The beginning of the blank tail.
+--   definitions: jscan.Blank.blank_from, jscan.Blank.IsBlankFrom
+--   code: jscan::blank::blank_from
+--   laws: jscan::laws::blank_from_is_least, jscan::examples::blank_tail
 -- the same as a function of the number of blocks
 abbrev pub blank_from : Endian → ℕ → List ℕ → ℕ → ℕ
 blank_from e size image zero = zero

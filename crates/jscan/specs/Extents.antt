@@ -16,6 +16,10 @@ use Rattle.jscan.specs.declared.extent.Extent.{Extent}
 abbrev pub other_magic : ℕ
 other_magic = 0x8519
 
+-- rule: Blocks and images: Words and rests are erased, of the other order, or dirt.
+--   definitions: jscan.Extents.class_of
+--   code: jscan::extents::Extents
+--   laws: jscan::examples::other_order_is_known, jscan::examples::rest_is_judged_whole
 -- A word or a rest is erased if all its bytes are 0xFF. Else it is the other byte order's if it
 -- begins with that order's magic, and dirt if it does not.
 unfoldable pub class_of : Endian → List ℕ → ExtentKind
@@ -60,6 +64,10 @@ runs_joined (s ∷ ss) = in_front s (runs_joined ss)
 unfoldable pub extents_from : Endian → ℕ → ℕ → List ℕ → List Extent
 extents_from e start place rest = runs_joined (map (extent_of e start) (tiling_from e place 0 rest))
 
+-- rule: Blocks and images: Neighbours of one class are one run, within a block.
+--   definitions: jscan.Extents.extents, jscan.Extents.runs_joined
+--   code: jscan::extents::Extents
+--   laws: jscan::laws::runs_are_longest, jscan::laws::extents_make_up
 -- the extents of the block that begins at this address, in order
 abbrev pub extents : Endian → ℕ → List ℕ → List Extent
 extents e start block = extents_from e start 0 block

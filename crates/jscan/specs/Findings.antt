@@ -24,6 +24,10 @@ found Erased = None
 found OtherOrder = Some kind.OtherOrder
 found Dirt = Some kind.Dirt
 
+-- rule: Blocks and images: Findings.
+--   definitions: jscan.Findings.finding_of
+--   code: jscan::finding::finding
+--   laws: jscan::examples::no_length_is_dirt
 -- what of an extent is a finding
 abbrev pub finding_of : Extent → Option Finding
 finding_of s = option_map (λ what. record { addr = s.addr; kind = what }) (found s.kind)
@@ -39,6 +43,10 @@ abbrev pub refused : ℕ → ExtentKind → Option ScanFault
 refused addr (Tiled what) = refused_node addr what
 refused addr _ = None
 
+-- rule: Blocks and images: What refuses a scan, by the least address.
+--   definitions: jscan.Findings.refusal_of, jscan.Scans.first_refused
+--   code: jscan::finding::refusal, jscan::scanning::scan
+--   laws: jscan::laws::refusal_is_first
 -- why no image may have this extent
 abbrev pub refusal_of : Extent → Option ScanFault
 refusal_of s = refused s.addr s.kind

@@ -11,6 +11,9 @@ use Rattle.jscan.specs.Tiling.{tiling_from}
 use Rattle.jscan.specs.declared.tiles.TileKind.{TileKind}
 use Rattle.jscan.specs.declared.tiles.TileKind.TheVariants.{Node, Word, Rest}
 
+-- rule: Blocks and images: Block sizes and image lengths have limits.
+--   definitions: jscan.Image.is_block_size, jscan.Image.greatest_image
+--   code: jscan::geometry::Geometry
 -- The block sizes that are read: whole words, from 4 KiB to 4 MiB.
 abbrev pub is_block_size : ℕ → Bool
 is_block_size size = nat_le 4096 size && nat_le size 4194304 && (size % 4 == 0)
@@ -19,6 +22,10 @@ is_block_size size = nat_le 4096 size && nat_le size 4194304 && (size % 4 == 0)
 abbrev pub greatest_image : ℕ
 greatest_image = 268435456
 
+-- rule: Bytes and nodes: Bytes that an image lacks count as 0xFF.
+--   definitions: jscan.Image.block_of
+--   code: flashbase::part::Part, jnode::header::header_in, jnode::reading::read_part
+--   laws: jscan::examples::nodes_of_a_cut_image
 -- A block of the flash. What the image lacks counts as erased, the missing tail of its last block
 -- too.
 abbrev pub block_of : ℕ → List ℕ → ℕ → List ℕ
@@ -42,6 +49,11 @@ sightings_from e start place rest = filter_map
 abbrev pub sightings_in : Endian → ℕ → List ℕ → List (ℕ × Seen)
 sightings_in e start block = sightings_from e start 0 block
 
+-- rule: Blocks and images: The nodes of an image, with addresses.
+--   definitions: jscan.Image.sightings, jscan.Image.nodes
+--   code: jscan::sightings::Sightings, jscan::scanning::scan_to_refusal
+--   laws: jscan::laws::nodes_are_of_blocks, jscan::laws::nodes_are_contained,
+--   jscan::laws::addresses_ascend, jscan::laws::nodes_fit
 -- the nodes' tiles of an image, in the order of their addresses
 abbrev pub sightings : Endian → ℕ → List ℕ → List (ℕ × Seen)
 sightings e size image = flat_map (λ k. sightings_in e (k * size) (block_of size image k))

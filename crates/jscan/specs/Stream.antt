@@ -10,6 +10,9 @@ use Rattle.jscan.specs.declared.stream.StreamFault.TheVariants.{BlockSize, Devic
 use Rattle.jscan.specs.declared.stream.BlockReader.{BlockReader}
 use denote.Ref.{Bor}
 
+-- rule: Blocks and images: A source's blocks are those of its bytes, however it cuts them.
+--   definitions: jscan.Stream.IsNextBlock, jscan.Stream.IsReadTo
+--   code: jscan::stream::BlockReader, jscan::counting::scan_stream
 -- The block is the next one of these bytes, all of them within the greatest image, and the others
 -- are left.
 abbrev pub IsNextBlock : ℕ → ℕ → Option (List ℕ) → Option (List ℕ) → List ℕ → Type 0
@@ -106,11 +109,14 @@ module _ {S : Type 0} {o : OfSource S} where
 abbrev pub ComesBack : {T : Type 0} → ℕ → Option ℕ → Result T StreamFault → Type 0
 ComesBack before None (Err BlockSize) = ⊤
 ComesBack before None (Err OutOfMemory) = ⊤
-ComesBack before None _ = ⊥
+ComesBack before None (Err Device) = ⊥
+ComesBack before None (Err TooLarge) = ⊥
+ComesBack before None (Ok _) = ⊥
 ComesBack before (Some now) (Err BlockSize) = ⊥
 ComesBack before (Some now) (Err OutOfMemory) = ⊥
 ComesBack before (Some now) (Err Device) = now ≡ next_count before
-ComesBack before (Some now) _ = now ≡ before
+ComesBack before (Some now) (Err TooLarge) = now ≡ before
+ComesBack before (Some now) (Ok _) = now ≡ before
 
 -- What is left of it, of whose bytes `start` are those of the blocks given: nothing; or where it
 -- failed, all but less than a block of what follows them; or all but a part that goes past the

@@ -36,6 +36,11 @@ pub record IsTileAt (e : Endian) (block : List ℕ) (place : ℕ) (tile : Tile) 
   pub here : tile.place ≡ place
   pub rule : IsByRule e block place tile.kind tile.bytes
 
+-- rule: Blocks and images: A block falls into nodes, words and a rest, in one way.
+--   definitions: jscan.Tiling.IsTiling, jscan.Tiling.tiling
+--   code: jscan::tiles::Tiles
+--   laws: jscan::laws::one_tiling, jscan::laws::tile_then_rest, jscan::laws::tiles_are_few,
+--   jscan::examples::full_block
 -- Tiles whose bytes make up the block, each at the place where the ones before it end.
 pub record IsTiling (e : Endian) (block : List ℕ) (tiles : List Tile) : Type 0 where
   pub whole : bytes_of tiles ≡ block
@@ -44,6 +49,10 @@ pub record IsTiling (e : Endian) (block : List ℕ) (tiles : List Tile) : Type 0
 
 -- ---- the same computed: each tile from what the block has left
 
+-- rule: Blocks and images: A node's tile is as long as its totlen says, whatever its checks say.
+--   definitions: jscan.Tiling.tile_at
+--   code: jscan::tiles::Tiles
+--   laws: jscan::examples::hidden_entry_is_not_seen
 -- the tile at the front of the rest of a block
 unfoldable pub tile_at : Endian → ℕ → List ℕ → Tile
 tile_at e place rest =

@@ -21,6 +21,12 @@ old_number major minor = major * 256 + minor
 abbrev pub new_number : ℕ → ℕ → ℕ
 new_number major minor = minor % 256 + major % 4096 * 256 + minor / 256 % 4096 * 1048576
 
+-- rule: Operations as steps: Devices, whose nodes have a number, and which have no bytes.
+--   definitions: jsteps.Device.device_number, jsteps.Steps.own_bytes, jlisting.Listing.device_line,
+--   jlisting.Listing.op_of
+--   code: jsteps::device::new, jsteps::step::own_len, jsteps::planning::device, jlisting::line::op
+--   laws: jsteps::examples::device_numbers, jsteps::examples::known_nodes,
+--   jlisting::examples::devices_are_listed
 -- its bytes: two of the old form where it serves, else four of the new one (Linux,
 -- fs/jffs2/nodelist.h, jffs2_encode_dev)
 unfoldable pub device_number : Endian → ℕ → ℕ → List ℕ

@@ -50,6 +50,10 @@ write_steps page time ino size offset [] = []
 write_steps page time ino size offset (b ∷ bytes) =
     zeros_to time ino size offset ++ puts page time ino offset (b ∷ bytes)
 
+-- rule: Operations as steps: A new file with bytes, which is named last.
+--   definitions: jsteps.Planning.first_len, jsteps.Planning.bytes_steps, jsteps.Planning.file_steps
+--   code: jsteps::planning::file, jsteps::planning::make_named
+--   laws: jsteps::examples::file_pieces, jsteps::examples::file_plans
 -- the length of the first piece of so many bytes
 abbrev pub first_len : ℕ → ℕ → ℕ
 first_len page len = if min page len == spelling_len then plain_page else min page len
@@ -88,6 +92,21 @@ move_steps t time old new =
     step.SetName time (parent t new) (last_name new) (number_or_zero t old)
     ∷ step.ClearName time (parent t old) (last_name old) ∷ []
 
+-- rule: Operations as steps: A file instead of the old object of its name, and a name that is
+--   removed if it exists.
+--   definitions: jsteps.Planning.steps_of, jsteps.Refusals.is_taken, jsteps.Families.file_op
+--   code: jsteps::planning::file, jsteps::planning::remove_if
+--   laws: jsteps::examples::put_over, jsteps::examples::removed_names,
+--   jtree::laws::updates_are_whole
+-- rule: Operations as steps: A name in the place of another.
+--   definitions: jsteps.Planning.steps_of, jsteps.Planning.move_steps, jsteps.Where.is_one_entry,
+--   jsteps.Refusals.is_taken
+--   code: jsteps::planning::replace
+--   laws: jsteps::examples::replaced_names, jsteps::laws::shape_is_kept
+-- rule: Operations as steps: The steps of an operation.
+--   definitions: jsteps.Planning.steps_of
+--   code: jsteps::planning::plan
+--   laws: jsteps::laws::planned_is_ready, jsteps::laws::planned_is_writable
 -- the steps of an operation under a page
 abbrev pub steps_of : ℕ → Outline → Op → List Step
 steps_of page t (op.Mkdir time path mode uid gid) =

@@ -26,6 +26,11 @@ IsFirstViewFaultAt e size image addr why =
     IsScannable size image × IsViewFaultAt e size image addr why
     × ((at : ℕ) (other : ViewFault) → IsViewFaultAt e size image at other → addr ≤ at)
 
+-- rule: Compressed data: The mount of an image through its compression, and why it does not mount
+--   so, by the least address.
+--   definitions: jthrough.MountsThrough.AnswersThrough, jthrough.MountsThrough.IsFirstViewFaultAt,
+--   jthrough.Refusals.IsRefusedBy, jview.Through.IsMountThroughOf
+--   code: jthrough::mounting::mount_view, jthrough::mounting::mount_through
 -- the answer of a mount of an image through its compression
 abbrev pub AnswersThrough : Endian → ℕ → List ℕ → Result Mount ViewFault → Type 0
 AnswersThrough e size image (Ok mount) = (mount.image ≡ image) × IsMountThroughOf e size mount

@@ -132,6 +132,11 @@ EndsView e size image done rest view (Some why) =
     (s : ℕ × Seen) × (after : List (ℕ × Seen)) × (rest ≡ s ∷ after)
     × IsRefusedBy e size image done s why
 
+-- rule: Compressed data: What an image shows through its compression, up to the first tile that
+--   refuses it.
+--   definitions: jthrough.View.IsViewOf, jthrough.Refusals.IsRefusedBy,
+--   jview.Through.IsSoundThrough, jview.Through.IsMountThroughOf
+--   code: jthrough::viewing::view_image
 -- it is the view of an image
 pub record IsViewOf (e : Endian) (size : ℕ) (image contents : List ℕ) (view : View) : Type 0 where
   pub scannable : IsScannable size image

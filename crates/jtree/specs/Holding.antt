@@ -60,6 +60,11 @@ HoldsObject files s path a w = LeadsTo s path (object_of_what files a w)
 abbrev pub HoldsItem : Files → State → Item → Type 0
 HoldsItem files s i = HoldsObject files s (string_bytes i.path) i.attributes i.what
 
+-- rule: Listings: The listing of a tree makes that tree.
+--   definitions: jtree.Holding.HoldsTree, jtree.Numbers.HasDeviceNumber, jtree.Making.ops_with
+--   code: jfolder::text::put_listing
+--   laws: jtree::laws::listing_makes_tree, jtree::laws::image_holds_tree,
+--   jtree::laws::put_out_holds_tree
 -- The root has its attributes, each item is there, items share an object only by links, and nothing
 -- else is there: no other path leads anywhere, and each object but the root's is an item's.
 pub record HoldsTree (files : Files) (root : Attributes) (items : List Item) (s : State) : Type

@@ -29,6 +29,10 @@ use Rattle.jfolder.specs.declared.tree.Attributes.{Attributes}
 use Rattle.jfolder.specs.declared.tree.Item.{Item}
 use Rattle.jtree.specs.Making.{Files}
 
+-- rule: Operations as steps: Updates that no stop tears: no path leads to a part of a file.
+--   definitions: jtree.Updates.IsUpdate, jtree.Updates.IsWholeFile, jtree.Updates.FilesAreWhole
+--   code: jsteps::planning::file, jsteps::planning::replace
+--   laws: jtree::laws::updates_are_whole
 -- an operation that makes no regular file without its bytes, and neither writes nor cuts one
 abbrev pub IsUpdate : Op → Type 0
 IsUpdate (op.Create time path mode uid gid) = ⊥
