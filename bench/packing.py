@@ -1,8 +1,9 @@
 #!/usr/bin/env python3
 """Compression beside zlib: python3 bench/packing.py FOLDER [RUNS] [CRATES]
 
-Compresses pieces of 4 KiB of text, of machine code and of random bytes by `bench_deflate` and by zlib at level 6
-(bench/deflate.c), one after the other, so that other work on the machine meets both. It prints the least processor time of each
+Compresses pieces of 4 KiB by `bench_deflate` and by zlib at level 6 (bench/deflate.c), one after the other, so that other work on
+the machine meets both. The pieces are of text, machine code, random bytes, two and four letters at random, zeros, and 259 random
+bytes over and over. It prints the least processor time of each
 over the runs for one piece, the ratio, and the bytes that each made. Needs cc and zlib1g-dev. The program is the one that
 `rt run` built here, or in CRATES.
 """
@@ -12,10 +13,10 @@ import subprocess
 import sys
 
 HERE = os.path.dirname(os.path.abspath(__file__))
-from compression import FOLDER, PIECE, PIECES, RUNS, CRATES, machine_code, text  # noqa: E402
-from measuring import taken  # noqa: E402
+from compression import FOLDER, PIECE, PIECES, RUNS, CRATES  # noqa: E402
+from measuring import documents, machine_code, taken  # noqa: E402
 
-ROUNDS = 100
+ROUNDS = 20
 
 
 def compare(name, content):
@@ -39,12 +40,24 @@ def compare(name, content):
     print(f"{name:14} ours {ours:7.1f} us {told[0]:8} bytes  zlib 6 {theirs:7.1f} us {told[1]:8} bytes {ours / theirs:6.2f} times", flush=True)
 
 
+def contents():
+    """Each kind of content by its name."""
+    chance = random.Random(1)
+    size = PIECE * PIECES
+    yield "text", documents()
+    yield "machine code", machine_code()
+    yield "random bytes", chance.randbytes(size)
+    yield "two letters", bytes(chance.choices(b"ab", k=size))
+    yield "four letters", bytes(chance.choices(b"acgt", k=size))
+    yield "zeros", bytes(size)
+    yield "period of 259", (chance.randbytes(259) * PIECES * 16)[:size]
+
+
 def main():
     os.makedirs(FOLDER, exist_ok=True)
     subprocess.run(["cc", "-O2", "-o", f"{FOLDER}/deflate", f"{HERE}/deflate.c", "-lz"], check=True)
-    compare("text", text())
-    compare("machine code", machine_code())
-    compare("random bytes", random.Random(1).randbytes(PIECE * PIECES))
+    for name, content in contents():
+        compare(name, content)
 
 
 if __name__ == "__main__":
