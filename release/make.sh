@@ -73,9 +73,14 @@ if [[ -n $gate ]]; then
     grep -qx '[0-9]* passed, 0 failed' <(tail -n 1 "$gate") || refuse "$gate: the gate did not pass"
     tail -n 2 "$gate" | grep -qx "commit $commit" || refuse "$gate: it is not of the commit $commit"
 fi
+# the last crate that the verdict is on, with the lines on its axioms
+judged() {
+    awk '/^crate / { held = "" } /^(crate|axioms|logic=)/ { held = held $0 "\n" } END { printf "%s", held }' "$verdict"
+}
 if [[ -n $verdict ]]; then
-    grep -q "^logic=proved .*axioms=.* sum=$logic " "$verdict" \
-        || refuse "$verdict: rt verdict does not say that it is proved by the logic $logic"
+    judged | head -n 1 | grep -q '^crate jffs2_image: ' || refuse "$verdict: it is not on jffs2_image"
+    judged | tail -n 1 | grep -q "^logic=proved .*axioms=.* sum=$logic " \
+        || refuse "$verdict: it does not say that the program is proved by the logic $logic"
 fi
 known=$(release/of_commit.py "$program") || exit 1
 told=$("$program" --version) || refuse "$program does not run here"
@@ -175,7 +180,7 @@ proved() {
     echo "The gate, tests/all.sh, ended with:"
     if [[ -n $gate ]]; then tail -n 2 "$gate"; else echo "not given"; fi | indented
     echo "The toolchain's verdict on the program, with the axioms that its proofs rest on:"
-    if [[ -n $verdict ]]; then grep '^axioms \|^logic=' "$verdict"; else echo "not given"; fi | indented
+    if [[ -n $verdict ]]; then judged; else echo "not given"; fi | indented
     echo
     echo "docs/PROOFS.md of the repository says what is proved, what is only tested, and what is trusted."
 }

@@ -69,7 +69,7 @@ tar -C "$top" -c --exclude=./.git --exclude=out --exclude=must-fail --exclude=__
 cd "$source" || exit 1
 kit=$(rt version)
 printf 'commit %s\n1 passed, 0 failed\n' "$(git rev-parse HEAD)" > "$folder/gate"
-printf 'axioms libc: some\nlogic=proved functions=1 axioms=1 sum=%s native=nat\n' "${kit##* }" > "$folder/verdict"
+printf 'crate jffs2_image: all\naxioms libc: some\nlogic=proved functions=1 axioms=1 sum=%s native=nat\n' "${kit##* }" > "$folder/verdict"
 words=(--gate "$folder/gate" --verdict "$folder/verdict")
 link=static
 if [[ ! -f $program.o ]]; then
@@ -92,13 +92,13 @@ refused "a gate that failed" "did not pass" "${words[@]}" --gate "$folder/bad"
 sed 's/commit ..../commit 0000/' "$folder/gate" > "$folder/bad"
 refused "a gate of another commit" "it is not of the commit" "${words[@]}" --gate "$folder/bad"
 sed 's/sum=..../sum=0000/' "$folder/verdict" > "$folder/bad"
-refused "a verdict by another logic" "does not say that it is proved" "${words[@]}" --verdict "$folder/bad"
+refused "a verdict by another logic" "does not say that the program is proved" "${words[@]}" --verdict "$folder/bad"
 touch more
 refused "an untracked file" "the checkout is not clean" "${words[@]}"
 rm more
 echo >> crates/jline/src/lib.rt
 "${own[@]}" commit -q -a -m "other sources"
-refused "a program of other sources" "crates/jline/src/lib.rt is another one there" --trial --no-library
+refused "a program of other sources" "the sources of jline in " --trial --no-library
 "${own[@]}" reset -q --hard HEAD~1
 refused "a program that nobody built" "is not in the folder" --trial --program /bin/true
 
@@ -144,7 +144,7 @@ quick() {
     read -r good _ bad _ < <(tail -n 1 "$folder/quick")
     passed=$((passed + ${good:-0}))
     failed=$((failed + ${bad:-1}))
-    equal "$1: --version" "$("$folder/program" --version)" "$("$program" --version)"
+    equal "$1: --version" "$(cd "$root/tmp" && "$folder/program" --version)" "$("$program" --version)"
 }
 
 # held: what the root has, but for the sources, the lists of dpkg and what tests write
