@@ -73,12 +73,12 @@ if [[ -n $gate ]]; then
     grep -qx '[0-9]* passed, 0 failed' <(tail -n 1 "$gate") || refuse "$gate: the gate did not pass"
     tail -n 2 "$gate" | grep -qx "commit $commit" || refuse "$gate: it is not of the commit $commit"
 fi
-# the last crate that the verdict is on, with the lines on its axioms
+# the verdict's last line, and those on axioms before it
 judged() {
-    awk '/^crate / { held = "" } /^(crate|axioms|logic=)/ { held = held $0 "\n" } END { printf "%s", held }' "$verdict"
+    awk '/^axioms / { held = held $0 "\n" } /^logic=/ { last = held $0; held = "" } END { print last }' "$verdict"
 }
 if [[ -n $verdict ]]; then
-    judged | head -n 1 | grep -q '^crate jffs2_image: ' || refuse "$verdict: it is not on jffs2_image"
+    grep -qx 'fn jffs2_image::main: proved' "$verdict" || refuse "$verdict: it is not on jffs2_image"
     judged | tail -n 1 | grep -q "^logic=proved .*axioms=.* sum=$logic " \
         || refuse "$verdict: it does not say that the program is proved by the logic $logic"
 fi

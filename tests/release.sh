@@ -69,7 +69,7 @@ tar -C "$top" -c --exclude=./.git --exclude=out --exclude=must-fail --exclude=__
 cd "$source" || exit 1
 kit=$(rt version)
 printf 'commit %s\n1 passed, 0 failed\n' "$(git rev-parse HEAD)" > "$folder/gate"
-printf 'crate jffs2_image: all\naxioms libc: some\nlogic=proved functions=1 axioms=1 sum=%s native=nat\n' "${kit##* }" > "$folder/verdict"
+printf 'fn jffs2_image::main: proved\naxioms libc: some\nlogic=proved functions=1 axioms=1 sum=%s native=nat\n' "${kit##* }" > "$folder/verdict"
 words=(--gate "$folder/gate" --verdict "$folder/verdict")
 link=static
 if [[ ! -f $program.o ]]; then
