@@ -15,7 +15,6 @@ set -euo pipefail
 umask 022
 export LC_ALL=C TZ=UTC
 top=$(cd "$(dirname "$0")/.." && pwd)
-cd "$top"
 
 refuse() {
     echo "make.sh: $*" >&2
@@ -30,7 +29,7 @@ while (($#)); do
     case $1 in
         --to | --program | --archive | --gate | --verdict)
             (($# > 1)) || refuse "$1 wants a value"
-            printf -v "${1#--}" %s "$2"
+            printf -v "${1#--}" %s "$(realpath -ms "$2")"
             shift
             ;;
         --no-library) library=no ;;
@@ -40,6 +39,7 @@ while (($#)); do
     esac
     shift
 done
+cd "$top"
 for tool in ar cc dpkg-deb git gzip objdump python3 rt strip tar; do
     command -v "$tool" > /dev/null || refuse "there is no $tool here"
 done
@@ -236,7 +236,7 @@ make_debian() {
         -e "s/@DEPENDS@/${depends%$'\n'}${depends:+\\n}/" release/debian/control > "$work/control"
     put 644 "$work/control" DEBIAN/control
     find "$stage" -exec touch -h -d "@$SOURCE_DATE_EPOCH" {} +
-    dpkg-deb --root-owner-group -Zxz --build "$stage" "$made/${package}_${release}_amd64.deb" > "$work/said"
+    DPKG_DEB_THREADS_MAX=1 dpkg-deb --root-owner-group -Zxz --build "$stage" "$made/${package}_${release}_amd64.deb" > "$work/said"
 }
 
 # ---- The library
