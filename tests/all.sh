@@ -3,8 +3,8 @@
 # the prover must refuse, and from when it is made on the program as a user meets it and on what is made to do harm; and the
 # names in the tables of docs. `rt ci` gets a copy of the tree without the wrong bodies, which it would try one after another
 # (tests/edits.py tries many at once), and without the benchmarks, which judge nothing and are proved where they are built. The
-# last lines are where the processor time of `rt ci` and of the wrong bodies went, crate by crate in minutes, and 'N passed, M
-# failed'.
+# last lines are where the processor time of `rt ci` and of the wrong bodies went, crate by crate in minutes, which commit it was
+# (and whether something in the checkout differs from it), and 'N passed, M failed'.
 set -uo pipefail
 cd "$(dirname "$0")/.."
 logs=$(mktemp -d)
@@ -54,6 +54,7 @@ tests/placing.sh $program
 tests/listings.py $program
 tests/commands.py --try $program
 tests/quick.sh $program
+tests/release.sh $program
 tests/completions.py
 tests/kit.sh
 tests/trace.py
@@ -69,5 +70,6 @@ for status in "$logs"/*.status; do
   count "${status%.status}" "$(cat "$status")"
 done
 cat "$times"
+echo "commit $(git describe --always --abbrev=40 --exclude='*' --dirty=', changed' 2> "$logs/gone")"
 echo "$passed passed, $failed failed"
 [ "$failed" -eq 0 ]

@@ -1,5 +1,5 @@
 # shellcheck shell=bash
-# What the suites program.sh, decompress.sh and placing.sh share: which program it is, a new folder
+# What the suites program.sh, decompress.sh, placing.sh and release.sh share: which program it is, a new folder
 # that they run in and that goes away at the end, runs of the program, and how many tests passed. A
 # suite sources this first.
 top=$(cd "$(dirname "${BASH_SOURCE[0]}")/.." && pwd)

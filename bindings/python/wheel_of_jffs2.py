@@ -1,5 +1,5 @@
 """Builds the wheel of jffs2 for `pip install .`, with nothing but Python: the module and the shared library, which
-JFFS2_LIB names, or which stands here as libjffs2.so."""
+JFFS2_LIB names, or which stands here as libjffs2.so. Of a release there are PROVED.txt and LICENCE.txt here too."""
 
 from __future__ import annotations
 
@@ -13,6 +13,7 @@ from typing import Any
 NAME, VERSION = "jffs2", "0.1.0"
 ABOUT = "Images of JFFS2, by the proved library libjffs2.so"
 PYTHON = ">=3.9"
+LICENCE = "none: all rights reserved until the owner chooses"
 HERE = os.path.dirname(os.path.abspath(__file__))
 DISTRIBUTION = f"{NAME}-{VERSION}"
 TAG = f"py3-none-linux_{platform.machine()}"
@@ -34,8 +35,12 @@ def _files() -> dict[str, bytes]:
         with open(path, "rb") as file:
             files[name] = file.read()
     metadata = ["Metadata-Version: 2.1", f"Name: {NAME}", f"Version: {VERSION}", f"Summary: {ABOUT}"]
-    metadata.append(f"Requires-Python: {PYTHON}")
+    metadata += [f"Requires-Python: {PYTHON}", f"License: {LICENCE}"]
     wheel = ["Wheel-Version: 1.0", "Generator: wheel_of_jffs2", "Root-Is-Purelib: false", f"Tag: {TAG}"]
+    for name in ("PROVED.txt", "LICENCE.txt"):
+        if os.path.isfile(os.path.join(HERE, name)):
+            with open(os.path.join(HERE, name), "rb") as file:
+                files[f"{DISTRIBUTION}.dist-info/{name}"] = file.read()
     files[f"{DISTRIBUTION}.dist-info/METADATA"] = "\n".join([*metadata, ""]).encode()
     files[f"{DISTRIBUTION}.dist-info/WHEEL"] = "\n".join([*wheel, ""]).encode()
     return files
