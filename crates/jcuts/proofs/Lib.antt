@@ -6,4 +6,5 @@ pub mod StepLemmas
 pub mod JoinLemmas
 pub mod PlanLemmas
 pub mod ToldLemmas
+pub mod ToldThroughLemmas
 pub mod CutsLemmas

@@ -4,4 +4,5 @@ pub mod Planning
 pub mod Telling
 pub mod Cuts
 pub mod Laws
+pub mod ThroughLaws
 pub mod Examples

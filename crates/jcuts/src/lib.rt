@@ -19,6 +19,7 @@ pub mod laws;
 mod lines;
 mod planning;
 mod standing;
+pub mod through_laws;
 
 pub use crate::cuts::{CutsFault, put_cuts};
 pub use crate::held::Held;

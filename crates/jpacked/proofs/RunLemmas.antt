@@ -275,6 +275,17 @@ fault_as T U held page e size blocks from x o was end y is old new failures now 
 fault_as T U held page e size blocks from x o was end y is old new failures now before after fault.ReadOnly held_now did = did
 fault_as T U held page e size blocks from x o was end y is old new failures now before after fault.Geometry held_now did = did
 
+-- at a fault it is as much as before
+pub held_still : (T : Type 0) (held page : ℕ) (e : Endian) (size blocks from : ℕ) (x : Indexed) (o : Op) (was : Bool) (end : ℕ) (y : Indexed) (is : Bool) (old new : Option (List ℕ)) (failures now : ℕ) (before after : List Place) (f : SessionFault) (held_now : ℕ)
+    → TakesBy {T = T} held page e size blocks from x o was end y is old new failures now before after (Err f) held_now → held_now ≡ held
+held_still T held page e size blocks from x o was end y is old new failures now before after (fault.Refused g) held_now (did, holds) = holds
+held_still T held page e size blocks from x o was end y is old new failures now before after (fault.Full w l) held_now (did, holds) = holds
+held_still T held page e size blocks from x o was end y is old new failures now before after fault.Sink held_now (did, holds) = holds
+held_still T held page e size blocks from x o was end y is old new failures now before after fault.OutOfMemory held_now (did, holds) = holds
+held_still T held page e size blocks from x o was end y is old new failures now before after fault.Broken held_now (did, holds) = holds
+held_still T held page e size blocks from x o was end y is old new failures now before after fault.ReadOnly held_now (did, holds) = absurd holds
+held_still T held page e size blocks from x o was end y is old new failures now before after fault.Geometry held_now (did, holds) = absurd holds
+
 -- ---- what survives
 
 pub run_survives : (held page : ℕ) (e : Endian) (size blocks from : ℕ) (x : Indexed) (ops : List Op) (was : Bool) (n : ℕ) (forms : List (List ℕ)) (end : ℕ) (y : Indexed) (is : Bool) (old new : Option (List ℕ)) (failures now : ℕ)
@@ -347,7 +358,7 @@ alone T held page e size blocks from x o was end y is old new failures now place
 alone T held page e size blocks from x o was end y is old new failures now places (Err f) held_now within put (did, holds) = (
   [],
   record { mid = log_at from x []; between = old; op = o; run = none_run held page e size blocks from x (o ∷ []) old within put; next = refl; stop = stop_at f did },
-  omega (arith, holds),
+  omega (arith, held_still T held page e size blocks from x o was end y is old new failures now [] places f held_now (did, holds)),
 )
   where
     none : held ≡ held + content_len e []

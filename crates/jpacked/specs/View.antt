@@ -20,6 +20,7 @@ use Rattle.jlog.specs.Session.{Flash as LogFlash, LogState, attempted}
 use Rattle.jlog.specs.SessionAs.{FlashAs, flash_as, content_len, AppliesAs, RunsAs}
 use Rattle.jlog.specs.SessionAsLaws.{held_by}
 use Rattle.jlog.specs.declared.fault.SessionFault.{SessionFault}
+use Rattle.jlog.specs.declared.fault.SessionFault.TheVariants as fault
 use Rattle.jlog.specs.declared.report.Applied.{Applied}
 use Rattle.jlog.specs.declared.report.Place.{Place}
 use Rattle.jlog.specs.declared.report.RunReport.{RunReport}
@@ -42,7 +43,13 @@ abbrev pub HoldsAfter : {T : Type 0} (on : FlashAs) (from : LogState) (o : Op) (
     → Type 0
 HoldsAfter on from o to sink (Ok _) did held =
     held ≡ on.held + content_len on.flash.order did.2.1
-HoldsAfter on from o to sink (Err _) did held = held ≡ on.held
+HoldsAfter on from o to sink (Err (fault.Refused f)) did held = held ≡ on.held
+HoldsAfter on from o to sink (Err (fault.Full wanted left)) did held = held ≡ on.held
+HoldsAfter on from o to sink (Err fault.Sink) did held = held ≡ on.held
+HoldsAfter on from o to sink (Err fault.OutOfMemory) did held = held ≡ on.held
+HoldsAfter on from o to sink (Err fault.Broken) did held = held ≡ on.held
+HoldsAfter on from o to sink (Err fault.ReadOnly) did held = ⊥
+HoldsAfter on from o to sink (Err fault.Geometry) did held = ⊥
 
 module _ {E : Type 0} {S : Type 0} {order : OfOrder E} {numbers : OfByteOrder E}
     {sinks : OfSink S} where

@@ -1,4 +1,5 @@
 pub mod MountLemmas
 pub mod PlacedLemmas
+pub mod PlainLemmas
 pub mod RefusalLemmas
 pub mod ViewLemmas

@@ -1,3 +1,4 @@
 pub mod MountsThrough
+pub mod Plain
 pub mod Refusals
 pub mod View

@@ -14,6 +14,7 @@
 #![tactic(auto)]
 
 mod fault;
+pub mod laws;
 mod mounting;
 mod view;
 mod viewing;

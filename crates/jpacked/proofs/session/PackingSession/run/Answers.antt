@@ -11,7 +11,7 @@ use Rattle.jlog.proofs.DoneLemmas.{all_first}
 use Rattle.jlog.proofs.SurviveLemmas.{attempted_known, known_next}
 use Rattle.jpacked.proofs.MadeLemmas.{contents_on}
 use Rattle.jpacked.proofs.PutLemmas.{put_none}
-use Rattle.jpacked.proofs.RunLemmas.{RunBy, RunsBy, TakesBy, none_run, run_more, takes_same, run_survives, run_goes_on, moved}
+use Rattle.jpacked.proofs.RunLemmas.{RunBy, RunsBy, TakesBy, none_run, run_more, takes_same, held_still, run_survives, run_goes_on, moved}
 use Rattle.jpacked.proofs.session.PackingSession.run.Goals as goal
 
 pub loop-accepted-init : goal.loop-accepted-init
@@ -118,6 +118,9 @@ returns-in-Err-clause-runs g c =
       next = slice_get-get_or ops n o below ∙ ap Some (sym is);
       stop = took.0;
     } in
+    let still : t.held ≡ s.held + content_len e inv.forms =
+    held_still (Unit {0}) (s.held + content_len e inv.forms) (page_size s.page) e s.block s.blocks l.log.cursor l.log.index o s.broken t.log.cursor t.log.index t.broken (g.S.Sink.taken l.log.sink) (g.S.Sink.taken t.log.sink)
+    (g.S.Sink.failures s.log.sink) (g.S.Sink.failures t.log.sink) c.loop-accepted.places.items c.apply_onto.new.places.items c.in-Err.fault t.held took in
     record {
       forms = inv.forms;
       runs = did;
@@ -129,6 +132,6 @@ returns-in-Err-clause-runs g c =
           let on = moved s.page t.page e s.block t.block s.blocks t.blocks base (done ++ take n ops) (before ++ inv.forms) t.log.cursor t.held t.log.index
           (sym (c.apply_onto.ensures.page ∙ inv.page)) (sym (c.apply_onto.ensures.block ∙ inv.block)) (sym (c.apply_onto.ensures.blocks ∙ inv.blocks))
           (run_goes_on s.held t.held (page_size s.page) e s.block s.blocks s.log.cursor s.log.index ops s.broken n inv.forms t.log.cursor t.log.index t.broken (g.S.Sink.taken s.log.sink) (g.S.Sink.taken t.log.sink)
-          (g.S.Sink.failures s.log.sink) (g.S.Sink.failures t.log.sink) c.apply_onto.new.places.items (Some c.in-Err.fault) base done before did whole inv.known has.goes_on has.held took.1) in
+          (g.S.Sink.failures s.log.sink) (g.S.Sink.failures t.log.sink) c.apply_onto.new.places.items (Some c.in-Err.fault) base done before did whole inv.known has.goes_on has.held still) in
           record { bytes = has.bytes; goes_on = on.0; held = on.1 };
     }
