@@ -1,0 +1,1 @@
+-- Laws of what matters. Each is a statement: it holds since a public function's contract names it.
