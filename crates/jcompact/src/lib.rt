@@ -13,3 +13,4 @@
 #![tactic(auto)]
 
 pub mod examples;
+pub mod laws;
