@@ -6,3 +6,17 @@ ghost use Rattle.jcompact.specs.Laws as law;
 pub fn objects_are_kept()
     ensures { law.KeepsObjects }
 {}
+
+/// And each path leads to the same number, or to the same fault.
+pub fn paths_are_kept()
+    ensures paths { law.KeepsPaths }
+    ensures walks { law.KeepsWalks }
+{}
+
+/// The nodes that matter are some of the nodes. None of their names dangles, and names lead to each
+/// of their objects.
+pub fn nothing_is_left_over()
+    ensures part { law.ArePart }
+    ensures names { law.NoneDangle }
+    ensures objects { law.AllAreReached }
+{}
