@@ -1,0 +1,5 @@
+pub mod NameLemmas
+pub mod ObjectLemmas
+pub mod PartLemmas
+pub mod PathLemmas
+pub mod TopLemmas

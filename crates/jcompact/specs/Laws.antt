@@ -1,0 +1,42 @@
+-- Laws of what matters. Each is a statement: it holds since a public function's contract names it.
+use Rattle.std.specs.Prelude.{◌≡◌, ℕ, true, List, [], Contains, Ok}
+use Rattle.jmount.specs.Clash.{NoneClash}
+use Rattle.jmount.specs.Collected.{without_addresses}
+use Rattle.jmount.specs.Find.{find, walk}
+use Rattle.jmount.specs.StateOf.{state_of}
+use Rattle.jmount.specs.Tree.{dangling, is_there, object}
+use Rattle.jcompact.specs.Matters.{Placed, AreWhatMatters, IsReached}
+
+-- An object that names lead to has the same attributes, size and bytes.
+abbrev pub KeepsObjects : Type 0
+KeepsObjects = (ns kept : List Placed) → NoneClash (without_addresses ns) → AreWhatMatters ns kept
+    → (i : ℕ) → IsReached (state_of (without_addresses ns)) i
+    → object (state_of (without_addresses kept)) i ≡ object (state_of (without_addresses ns)) i
+
+-- Names lead from the root to the same number, or to the same fault, and so does each path.
+abbrev pub KeepsPaths : Type 0
+KeepsPaths = (ns kept : List Placed) → NoneClash (without_addresses ns) → AreWhatMatters ns kept
+    → (text : List ℕ)
+    → find (state_of (without_addresses kept)) text ≡ find (state_of (without_addresses ns)) text
+
+abbrev pub KeepsWalks : Type 0
+KeepsWalks = (ns kept : List Placed) → NoneClash (without_addresses ns) → AreWhatMatters ns kept
+    → (names : List (List ℕ))
+    → walk (state_of (without_addresses kept)) names (Ok 1)
+    ≡ walk (state_of (without_addresses ns)) names (Ok 1)
+
+-- Each node that matters is one of the nodes.
+abbrev pub ArePart : Type 0
+ArePart = (ns kept : List Placed) → NoneClash (without_addresses ns) → AreWhatMatters ns kept
+    → (n : Placed) → Contains kept n → Contains ns n
+
+-- Each of their names stands for an object that is there.
+abbrev pub NoneDangle : Type 0
+NoneDangle = (ns kept : List Placed) → NoneClash (without_addresses ns) → AreWhatMatters ns kept
+    → dangling (state_of (without_addresses kept)) ≡ []
+
+-- And names lead to each of their objects.
+abbrev pub AllAreReached : Type 0
+AllAreReached = (ns kept : List Placed) → NoneClash (without_addresses ns) → AreWhatMatters ns kept
+    → (i : ℕ) → is_there (state_of (without_addresses kept)) i ≡ true
+    → IsReached (state_of (without_addresses kept)) i

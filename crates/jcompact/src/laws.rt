@@ -1,0 +1,22 @@
+//! Laws of what matters. Each function's contract is a law, and its body is empty.
+
+ghost use Rattle.jcompact.specs.Laws as law;
+
+/// Of the nodes that matter an object that names lead to is the same: attributes, size and bytes.
+pub fn objects_are_kept()
+    ensures { law.KeepsObjects }
+{}
+
+/// And each path leads to the same number, or to the same fault.
+pub fn paths_are_kept()
+    ensures paths { law.KeepsPaths }
+    ensures walks { law.KeepsWalks }
+{}
+
+/// The nodes that matter are some of the nodes. None of their names dangles, and names lead to each
+/// of their objects.
+pub fn nothing_is_left_over()
+    ensures part { law.ArePart }
+    ensures names { law.NoneDangle }
+    ensures objects { law.AllAreReached }
+{}
