@@ -16,7 +16,7 @@ HERE = os.path.dirname(os.path.abspath(__file__))
 from compression import FOLDER, PIECE, PIECES, RUNS, CRATES  # noqa: E402
 from measuring import documents, machine_code, taken  # noqa: E402
 
-ROUNDS = 40
+ROUNDS = 20
 
 
 def compare(name, content):
