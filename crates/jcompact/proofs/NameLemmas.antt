@@ -1,8 +1,8 @@
 -- What a name stands for in a reached directory is the same of the nodes that matter.
-use Rattle.std.proofs.Common.{◌≡◌, ℕ, ◌≤◌, Bool, true, false, cond, List, ◌∷◌, Option, Some, None, refl, ap, sym, subst, ◌∙◌, arith}
+use Rattle.std.proofs.Common.{◌≡◌, ℕ, ◌≤◌, Bool, true, false, cond, List, Option, Some, None, refl, ap, sym, subst, ◌∙◌, arith}
 use Rattle.std.specs.Prelude.{◌&&◌, ◌==◌, not, filter, bytes_eq, Contains, is_some, option_and_then}
 use Rattle.std.specs.List.{list_any}
-use Rattle.std.proofs.lemmas.Bool.{eqb-true, eq-eqb, false_from_ne_true, true≢false, false≢true}
+use Rattle.std.proofs.lemmas.Bool.{eq-eqb, false_from_ne_true, true≢false, false≢true}
 use Rattle.std.proofs.lemmas.Option.{same_Some}
 use Rattle.std.proofs.lemmas.Slice.Eq.{bytes_eq-Decides}
 use Rattle.flashbase.specs.Lists.{newest}
@@ -17,7 +17,7 @@ use Rattle.jmount.specs.Clash.{NoneClash}
 use Rattle.jmount.specs.Collected.{without_addresses}
 use Rattle.jmount.specs.StateOf.{entry_in, entries}
 use Rattle.jmount.proofs.SameLemmas.{number_stable}
-use Rattle.jcompact.specs.Matters.{Placed, is_for_same, is_above, outranks, is_newest, is_folder, is_object, matters}
+use Rattle.jcompact.specs.Matters.{Placed, is_for_same, is_above, counts_above, is_newest, is_folder, is_object, matters}
 use Rattle.jcompact.proofs.TopLemmas.{both, not_true, none_of, none_any, not_above, IsTopOf, top_of}
 use Rattle.jcompact.proofs.ObjectLemmas.{kept_in, kept_from}
 
@@ -45,10 +45,7 @@ of_key key entry h = let parts = key_at key entry h in λ i. (parts.0 i, parts.1
 
 -- ---- the newest entry of a name says what it stands for
 
-version : Dirent → ℕ
-version entry = entry.version
-
-newest_live : (xs : List Placed) (addr : ℕ) (entry : Dirent) → NoneClash (without_addresses xs) → Contains xs (addr, Entry entry)
+pub newest_live : (xs : List Placed) (addr : ℕ) (entry : Dirent) → NoneClash (without_addresses xs) → Contains xs (addr, Entry entry)
     → is_newest xs (addr, Entry entry) ≡ true → live (entries (without_addresses xs)) (key_of entry) ≡ ino_if_any entry
 newest_live xs addr entry apart c is = by (newest (λ (e : Dirent). e.version) (filter (is_at (key_of entry)) (entries (without_addresses xs)))) refl
   where
@@ -63,8 +60,8 @@ newest_live xs addr entry apart c is = by (newest (λ (e : Dirent). e.version) (
         let own = Contains-filter (is_at (key_of entry)) (entries (without_addresses xs)) entry (own_key entry) (at_entry xs addr entry c) in
         let least : entry.version ≤ x.version = found.1 entry own in
         let at = entry_at xs x in_x.0 in
-        let no : outranks (at.0, Entry x) (addr, Entry entry) ≡ false =
-        none_of (λ (m : Placed). outranks m (addr, Entry entry)) xs (not_true (list_any (λ (m : Placed). outranks m (addr, Entry entry)) xs) is) (at.0, Entry x) at.1 in
+        let no : counts_above (at.0, Entry x) (addr, Entry entry) ≡ false =
+        none_of (λ (m : Placed). counts_above m (addr, Entry entry)) xs (not_true (list_any (λ (m : Placed). counts_above m (addr, Entry entry)) xs) is) (at.0, Entry x) at.1 in
         let below : is_above (at.0, Entry x) (addr, Entry entry) ≡ false =
         false_from_ne_true (is_above (at.0, Entry x) (addr, Entry entry))
         (λ up. true≢false (sym (both (is_at (key_of entry) x) (is_above (at.0, Entry x) (addr, Entry entry)) in_x.1 up) ∙ no)) in
@@ -103,9 +100,9 @@ named_top : (xs : List Placed) (key : Key) (n y : Placed) → IsTopOf (λ (m : P
 named_top xs key n (addr, Inode node) t = absurd (false≢true t.passes)
 named_top xs key n (addr, Entry entry) t =
     let same : key_of entry ≡ key = of_key key entry t.passes in
-    let none : list_any (λ (m : Placed). outranks m (addr, Entry entry)) xs ≡ false = none_any (λ (m : Placed). outranks m (addr, Entry entry)) xs
+    let none : list_any (λ (m : Placed). counts_above m (addr, Entry entry)) xs ≡ false = none_any (λ (m : Placed). counts_above m (addr, Entry entry)) xs
     (λ m cm.
-    false_from_ne_true (outranks m (addr, Entry entry))
+    false_from_ne_true (counts_above m (addr, Entry entry))
     (λ up.
     let parts = both_true (is_for_same m.1 (Entry entry)) (is_above m (addr, Entry entry)) up in
     true≢false (sym parts.1 ∙ t.none m cm (same_named m.1 entry key parts.0 same)))) in
@@ -171,10 +168,10 @@ module _ (ns kept : List Placed) (reached : ℕ → Bool) (apart : NoneClash (wi
         object_is = ap (is_object ns) (sym (ino_is entry j stands).1) ∙ object.1;
       }
 
-  fewer_newest : (n : Placed) → is_newest ns n ≡ true → is_newest kept n ≡ true
+  pub fewer_newest : (n : Placed) → is_newest ns n ≡ true → is_newest kept n ≡ true
   fewer_newest n h =
-      ap not (none_any (λ (m : Placed). outranks m n) kept
-      (λ m c. none_of (λ (x : Placed). outranks x n) ns (not_true (list_any (λ (x : Placed). outranks x n) ns) h) m (kept_from ns kept reached apart is m c).0))
+      ap not (none_any (λ (m : Placed). counts_above m n) kept
+      (λ m c. none_of (λ (x : Placed). counts_above x n) ns (not_true (list_any (λ (x : Placed). counts_above x n) ns) h) m (kept_from ns kept reached apart is m c).0))
 
   -- a live name of a reached directory, whose object is there, is one of those that matter
   pub live_kept : (dir : ℕ) (name : List ℕ) (j : ℕ) → reached dir ≡ true → is_folder ns dir ≡ true → is_object ns j ≡ true

@@ -1,5 +1,5 @@
 -- The nodes that matter make names that lead to objects, and objects that names lead to.
-use Rattle.std.proofs.Common.{◌≡◌, ℕ, Bool, true, List, [], Option, Some, Ok, ap, sym, ◌∙◌, ⊎_elim}
+use Rattle.std.proofs.Common.{◌≡◌, ℕ, Bool, true, List, [], Ok, ap, sym, ◌∙◌, ⊎_elim}
 use Rattle.std.specs.Prelude.{◌||◌, filter, not, Contains, is_some}
 use Rattle.flashbase.proofs.ListLemmas.{filter-none}
 use Rattle.flashbase.proofs.MemberLemmas.{Contains-map_from}
@@ -12,20 +12,22 @@ use Rattle.jnode.specs.declared.node.NodeRef.TheVariants.{Inode}
 use Rattle.jmount.specs.Clash.{NoneClash}
 use Rattle.jmount.specs.Collected.{without_addresses}
 use Rattle.jmount.specs.Laws.{IsLatest}
-use Rattle.jmount.specs.StateOf.{entries, inodes, object_of}
-use Rattle.jmount.specs.Tree.{ObjectOf, all_entries, dangling, has_bits, directory_bits, is_there, named}
+use Rattle.jmount.specs.StateOf.{entries, inodes, object_of, state_of}
+use Rattle.jmount.specs.Tree.{State, all_entries, dangling, has_bits, directory_bits, is_there}
 use Rattle.jmount.proofs.NumbersLemmas.{object-state_of, named-state_of}
 use Rattle.jmount.proofs.ObjectsLemmas.{object_is_of_latest}
-use Rattle.jcompact.specs.Matters.{Placed, IsReached, SaysReached, is_newest, shows, size_in, matters}
+use Rattle.jcompact.specs.Matters.{Placed, NamesLeadTo, SaysReached, is_newest, shows, latest_size, matters}
 use Rattle.jcompact.proofs.TopLemmas.{none_any}
 use Rattle.jcompact.proofs.ObjectLemmas.{inode_at, kept_from}
 use Rattle.jcompact.proofs.NameLemmas.{kept_live}
-use Rattle.jcompact.proofs.PathLemmas.{old, new, object_same, there_is, stepped, walk_same}
+use Rattle.jcompact.proofs.PathLemmas.{object_same, there_is, stepped, walk_same}
 
 module _ (ns kept : List Placed) (reached : ℕ → Bool) (apart : NoneClash (without_addresses ns)) (says : SaysReached ns reached) (is : kept ≡ filter (matters ns reached) ns) where
-  abbrev before = old ns kept reached apart says is
+  abbrev before : State
+  before = state_of (without_addresses ns)
 
-  abbrev after = new ns kept reached apart says is
+  abbrev after : State
+  after = state_of (without_addresses kept)
 
   -- a name leads to an object
   leads : (key : Key) (j : ℕ) → Contains (finite.entries after.names) (key, j) → is_there after j ≡ true
@@ -45,15 +47,15 @@ module _ (ns kept : List Placed) (reached : ℕ → Bool) (apart : NoneClash (wi
       let found = Contains-map_from (λ (x : Key × ℕ). (x.0.0, x.0.1, x.1)) (finite.entries after.names) e c in
       ap (λ (x : ℕ × List ℕ × ℕ). not (is_there after x.2)) (sym found.2) ∙ ap not (leads found.0.0 found.0.1 found.1)))
 
-  reached_node : (i : ℕ) (node : InodeNode) → IsLatest (inodes (without_addresses kept)) i node → IsReached after i
+  reached_node : (i : ℕ) (node : InodeNode) → IsLatest (inodes (without_addresses kept)) i node → NamesLeadTo after i
   reached_node i node last =
       let at = inode_at kept node last.there in
       let found = kept_from ns kept reached apart is (at.0, Inode node) at.1 in
-      let met = both_true (reached node.ino) (is_newest ns (at.0, Inode node) || shows ns (size_in ns node.ino) (at.0, Inode node)) found.1 in
+      let met = both_true (reached node.ino) (is_newest ns (at.0, Inode node) || shows ns (latest_size ns node.ino) (at.0, Inode node)) found.1 in
       let way = (says i).0 (ap reached (sym last.number) ∙ met.0) in
       (way.0, walk_same ns kept reached apart says is way.0 ∙ way.1)
 
-  pub all_reached : (i : ℕ) → is_there after i ≡ true → IsReached after i
+  pub all_reached : (i : ℕ) → is_there after i ≡ true → NamesLeadTo after i
   all_reached i h =
       let some = some_of (object_of (inodes (without_addresses kept)) i) (sym (ap is_some (object-state_of (without_addresses kept) i)) ∙ h) in
       ⊎_elim

@@ -1,8 +1,8 @@
 -- Of nodes that pass a test, one that is above all others that do.
-use Rattle.std.proofs.Common.{◌≡◌, ℕ, ◌<◌, ◌≤◌, Bool, true, false, List, [], ◌∷◌, map, Option, Some, None, refl, ap, sym, subst, ◌∙◌, arith, inl, inr, ⊎_elim}
+use Rattle.std.proofs.Common.{◌≡◌, ℕ, ◌<◌, ◌≤◌, Bool, true, false, cond, List, [], ◌∷◌, map, Option, Some, None, refl, ap, sym, subst, ◌∙◌, arith, inl, inr, ⊎_elim}
 use Rattle.std.specs.Prelude.{◌⊎◌, ◌&&◌, ◌||◌, ◌==◌, nat_lt, not, filter, Contains}
 use Rattle.std.specs.List.{list_any, Any}
-use Rattle.std.proofs.lemmas.Bool.{ltb-true, ltb-false, lt-ltb, eqb-true, eq-eqb, false_from_ne_true, true≢false, false≢true}
+use Rattle.std.proofs.lemmas.Bool.{ltb-true, ltb-false, eqb-true, eq-eqb, false_from_ne_true, true≢false, false≢true}
 use Rattle.std.proofs.lemmas.List.Elements.{Contains-get_or}
 use Rattle.std.proofs.lemmas.List.Folds.{list_any_at, list_any_none, Any-from_list_any}
 use Rattle.flashbase.specs.Lists.{newest}
@@ -35,6 +35,12 @@ not_true false h = refl
 pub any_of : {X : Type 0} (p : X → Bool) (xs : List X) (x : X) → Contains xs x → p x ≡ true → list_any p xs ≡ true
 any_of p xs x (k, within, at_k) h = list_any_at p xs k x within (ap p at_k ∙ h)
 
+of_any : {X : Type 0} (p : X → Bool) (xs : List X) → Any (λ x. p x ≡ true) xs → (x : X) × Contains xs x × (p x ≡ true)
+of_any p xs (k, x, k_in, at_k, here) = (x, (k, k_in, at_k), here)
+
+pub any_from : {X : Type 0} (p : X → Bool) (xs : List X) → list_any p xs ≡ true → (x : X) × Contains xs x × (p x ≡ true)
+any_from p xs h = of_any p xs (Any-from_list_any p xs h)
+
 pub none_of : {X : Type 0} (p : X → Bool) (xs : List X) → list_any p xs ≡ false → (x : X) → Contains xs x → p x ≡ false
 none_of p xs none x c = false_from_ne_true (p x) (λ h. true≢false (sym (any_of p xs x c h) ∙ none))
 
@@ -44,6 +50,12 @@ none_any p xs h = list_any_none p xs (λ k d l. h _ (Contains-get_or xs k d l))
 pub map_same : {X Y : Type 0} (f g : X → Y) (xs : List X) → ((x : X) → Contains xs x → f x ≡ g x) → map f xs ≡ map g xs
 map_same f g [] h = refl
 map_same f g (x ∷ xs) h = λ i. h x (Contains-here x xs) i ∷ map_same f g xs (λ y c. h y (Contains-there x xs y c)) i
+
+pub filter_all : {X : Type 0} (p : X → Bool) (xs : List X) → ((x : X) → Contains xs x → p x ≡ true) → filter p xs ≡ xs
+filter_all p [] h = refl
+filter_all {X} p (x ∷ xs) h =
+    ap (λ (b : Bool). cond b (x ∷ filter p xs) (filter p xs)) (h x (Contains-here x xs))
+    ∙ ap (λ (ys : List X). x ∷ ys) (filter_all p xs (λ y c. h y (Contains-there x xs y c)))
 
 -- ---- above
 

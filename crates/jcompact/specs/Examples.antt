@@ -1,6 +1,5 @@
 -- Worked rows of what matters.
-use Rattle.std.specs.Prelude.{ℕ, ◌==◌, ◌||◌, Bool, List, [], ◌∷◌, map, filter, length}
-use Rattle.jnode.specs.declared.node.Fill.{Fill}
+use Rattle.std.specs.Prelude.{ℕ, ◌==◌, ◌||◌, Bool, List, [], map, filter, length}
 use Rattle.jnode.specs.declared.node.Fill.TheVariants.{Data}
 use Rattle.jnode.specs.declared.node.NodeRef.{NodeRef}
 use Rattle.jnode.specs.declared.node.NodeRef.TheVariants.{Entry, Inode}

@@ -5,12 +5,12 @@ use Rattle.jmount.specs.Collected.{without_addresses}
 use Rattle.jmount.specs.Find.{find, walk}
 use Rattle.jmount.specs.StateOf.{state_of}
 use Rattle.jmount.specs.Tree.{dangling, is_there, object}
-use Rattle.jcompact.specs.Matters.{Placed, AreWhatMatters, IsReached}
+use Rattle.jcompact.specs.Matters.{Placed, AreWhatMatters, NamesLeadTo}
 
 -- An object that names lead to has the same attributes, size and bytes.
 abbrev pub KeepsObjects : Type 0
 KeepsObjects = (ns kept : List Placed) → NoneClash (without_addresses ns) → AreWhatMatters ns kept
-    → (i : ℕ) → IsReached (state_of (without_addresses ns)) i
+    → (i : ℕ) → NamesLeadTo (state_of (without_addresses ns)) i
     → object (state_of (without_addresses kept)) i ≡ object (state_of (without_addresses ns)) i
 
 -- Names lead from the root to the same number, or to the same fault, and so does each path.
@@ -39,4 +39,9 @@ NoneDangle = (ns kept : List Placed) → NoneClash (without_addresses ns) → Ar
 abbrev pub AllAreReached : Type 0
 AllAreReached = (ns kept : List Placed) → NoneClash (without_addresses ns) → AreWhatMatters ns kept
     → (i : ℕ) → is_there (state_of (without_addresses kept)) i ≡ true
-    → IsReached (state_of (without_addresses kept)) i
+    → NamesLeadTo (state_of (without_addresses kept)) i
+
+-- Among the nodes that matter each one matters: there is nothing more to leave out.
+abbrev pub AllStillMatter : Type 0
+AllStillMatter = (ns kept : List Placed) → NoneClash (without_addresses ns)
+    → AreWhatMatters ns kept → AreWhatMatters kept kept

@@ -1,3 +1,4 @@
 pub mod Examples
 pub mod Laws
 pub mod Matters
+pub mod Reaching

@@ -1,10 +1,9 @@
--- Which nodes of an image matter: those that its tree is made of (Woodhouse 2001, JFFS: of the nodes
--- of an object or a name that of highest version counts; garbage collection copies the nodes that
--- still count and drops the others).
+-- Which nodes of an image matter: those that its tree is made of (Woodhouse 2001, JFFS: of the
+-- nodes of an object or a name that of highest version counts; garbage collection copies the nodes
+-- that still count and drops the others).
 use Rattle.std.specs.Prelude.{◌≡◌, ℕ, ◌==◌, ◌&&◌, ◌||◌, Bool, false, not, nat_lt, is_some, List, filter, Option, Some, None, Ok, Decides}
 use Rattle.std.specs.List.{list_any}
 use Rattle.flashbase.specs.Lists.{below}
-use Rattle.jnode.specs.declared.node.Dirent.{Dirent}
 use Rattle.jnode.specs.declared.node.InodeNode.{InodeNode}
 use Rattle.jnode.specs.declared.node.NodeRef.{NodeRef}
 use Rattle.jnode.specs.declared.node.NodeRef.TheVariants.{Entry, Inode}
@@ -21,14 +20,18 @@ Placed = ℕ × NodeRef
 
 -- ---- reached
 
+-- rule: The file system that nodes make: Which objects names lead to.
+--   definitions: jcompact.Matters.NamesLeadTo
+--   code: jcompact::reaching::unreached
+--   laws: jcompact::laws::nothing_is_left_over
 -- names lead to an object from the root; any bytes are a name, as in a directory
-abbrev pub IsReached : {B : Type 0} → Tree B → ℕ → Type 0
-IsReached t i = (names : List (List ℕ)) × (walk t names (Ok 1) ≡ Ok i)
+abbrev pub NamesLeadTo : {B : Type 0} → Tree B → ℕ → Type 0
+NamesLeadTo t i = (names : List (List ℕ)) × (walk t names (Ok 1) ≡ Ok i)
 
 -- of each number whether names lead to it in the tree that nodes make
 abbrev pub SaysReached : List Placed → (ℕ → Bool) → Type 0
 SaysReached ns reached =
-    (i : ℕ) → Decides (reached i) (IsReached (state_of (without_addresses ns)) i)
+    (i : ℕ) → Decides (reached i) (NamesLeadTo (state_of (without_addresses ns)) i)
 
 -- ---- which of two nodes counts
 
@@ -45,12 +48,12 @@ is_above m n = nat_lt (version_of n.1) (version_of m.1)
     || ((version_of m.1 == version_of n.1) && nat_lt n.0 m.0)
 
 -- the first counts, and the second does not, where both say something
-abbrev pub outranks : Placed → Placed → Bool
-outranks m n = is_for_same m.1 n.1 && is_above m n
+abbrev pub counts_above : Placed → Placed → Bool
+counts_above m n = is_for_same m.1 n.1 && is_above m n
 
 -- none counts more
 abbrev pub is_newest : List Placed → Placed → Bool
-is_newest ns n = not (list_any (λ m. outranks m n) ns)
+is_newest ns n = not (list_any (λ m. counts_above m n) ns)
 
 -- ---- bytes
 
@@ -61,15 +64,15 @@ has_byte place (Entry entry) = false
 -- a byte of a file is read from this node
 abbrev pub shows_at : List Placed → Placed → ℕ → Bool
 shows_at ns n place =
-    has_byte place n.1 && not (list_any (λ m. outranks m n && has_byte place m.1) ns)
+    has_byte place n.1 && not (list_any (λ m. counts_above m n && has_byte place m.1) ns)
 
 abbrev pub size_if : Option InodeNode → ℕ
 size_if None = 0
 size_if (Some node) = node.isize
 
 -- the size of an object, 0 where it has no node
-abbrev pub size_in : List Placed → ℕ → ℕ
-size_in ns i = size_if (latest (versions_of (inodes (without_addresses ns)) i))
+abbrev pub latest_size : List Placed → ℕ → ℕ
+latest_size ns i = size_if (latest (versions_of (inodes (without_addresses ns)) i))
 
 -- some byte below the size is
 abbrev pub shows : List Placed → ℕ → Placed → Bool
@@ -90,11 +93,13 @@ matters ns reached (addr, Entry entry) =
     is_newest ns (addr, Entry entry) && (not (entry.ino == 0)
     && (reached entry.pino && (is_folder ns entry.pino && is_object ns entry.ino)))
 matters ns reached (addr, Inode node) = reached node.ino
-    && (is_newest ns (addr, Inode node) || shows ns (size_in ns node.ino) (addr, Inode node))
+    && (is_newest ns (addr, Inode node) || shows ns (latest_size ns node.ino) (addr, Inode node))
 
 -- rule: The file system that nodes make: Which nodes matter to it.
 --   definitions: jcompact.Matters.AreWhatMatters, jcompact.Matters.matters
---   laws: jcompact::examples::names_kept, jcompact::examples::bytes_kept
+--   laws: jcompact::laws::objects_are_kept, jcompact::laws::paths_are_kept,
+--   jcompact::laws::nothing_is_left_over, jcompact::laws::all_still_matter,
+--   jcompact::examples::names_kept, jcompact::examples::bytes_kept
 -- these are the nodes that matter, in the order in which they stand
 abbrev pub AreWhatMatters : List Placed → List Placed → Type 0
 AreWhatMatters ns kept =

@@ -20,3 +20,8 @@ pub fn nothing_is_left_over()
     ensures names { law.NoneDangle }
     ensures objects { law.AllAreReached }
 {}
+
+/// Among the nodes that matter each one still does: what is left has nothing more to leave out.
+pub fn all_still_matter()
+    ensures { law.AllStillMatter }
+{}

@@ -14,3 +14,6 @@
 
 pub mod examples;
 pub mod laws;
+mod reaching;
+
+pub use crate::reaching::unreached;
