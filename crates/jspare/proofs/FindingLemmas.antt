@@ -45,11 +45,12 @@ pub taken : (layouts : List PageLayout) (dump : List ℕ) (best : Option PageLay
     → IsFoundIn (layouts ++ l ∷ []) dump (Some l) count
 taken layouts dump best most l count found is more =
     let so_far = least_so_far layouts dump best most found in
-    let all = at_most_more layouts dump most count so_far.1 more in
-    ( Contains-push layouts l
-    , is
-    , omega (arith, so_far.0, more)
-    , one_more layouts dump count l all (omega (arith, is)) )
+    let all = at_most_more layouts dump most count so_far.1 more in (
+      Contains-push layouts l,
+      is,
+      omega (arith, so_far.0, more),
+      one_more layouts dump count l all (omega (arith, is)),
+    )
 
 -- what was found in all of them
 pub found : (layouts : List PageLayout) (dump : List ℕ) (best : Option PageLayout) (most : ℕ)

@@ -62,12 +62,12 @@ one_page w d page from count fits is_count =
     let as_many : from + count - from ≡ count = omega arith in
     let left : length (drop from d) ≡ length d - from = length-drop from d in
     let whole : take count (drop from d) ≡ take page (drop from d) =
-      ap (λ k. take k (drop from d)) (is_count ∙ ap (min page) (sym left)) ∙ take_min page (drop from d) in
+    ap (λ k. take k (drop from d)) (is_count ∙ ap (min page) (sym left)) ∙ take_min page (drop from d) in
     let first : take (length w) xs ≡ w = take_at w (drop (length w) d) (length w) refl in
     let second : take (from + count - from) (drop from xs) ≡ take page (drop from d) =
-      ap (λ k. take k (drop from xs)) as_many ∙ ap (take count) (behind w d from fits) ∙ whole in
+    ap (λ k. take k (drop from xs)) as_many ∙ ap (take count) (behind w d from fits) ∙ whole in
     let third : drop (length w + (from + count - from)) xs ≡ drop (length w + count) d =
-      ap (λ k. drop (length w + k) xs) as_many ∙ behind w d (length w + count) (omega arith) in
+    ap (λ k. drop (length w + k) xs) as_many ∙ behind w d (length w + count) (omega arith) in
     ap (λ a. (a ++ take (from + count - from) (drop from xs)) ++ drop (length w + (from + count - from)) xs) first
     ∙ ap (λ b. (w ++ b) ++ drop (length w + (from + count - from)) xs) second
     ∙ ap (λ c. (w ++ take page (drop from d)) ++ c) third
@@ -87,7 +87,7 @@ page_length w d page from count is_count =
     let short = length-take page (drop from d) in
     let joined = length-append w (take page (drop from d)) in
     let as_many : count ≡ length (take page (drop from d)) =
-      is_count ∙ ap (min page) (sym left) ∙ sym short in
+    is_count ∙ ap (min page) (sym left) ∙ sym short in
     omega (arith, as_many, joined)
 
 -- all pages but the last one are whole
@@ -122,12 +122,12 @@ byte_of_next l d w n j whole below =
     let row = div-mul-add n l.page j in_page in
     let column = mod-mul-add n l.page j in_page in
     let place : (n * l.page + j) / l.page * s + (n * l.page + j) % l.page ≡ n * s + j =
-      ap (λ k. k * s + (n * l.page + j) % l.page) row ∙ ap (λ k. n * s + k) column in
+    ap (λ k. k * s + (n * l.page + j) % l.page) row ∙ ap (λ k. n * s + k) column in
     let back : n * l.page + j - n * l.page ≡ j = omega arith in
     let taken : get_or (w ++ page_at l d n) (n * l.page + j) 0 ≡ get_or d (n * s + j) 0 =
-      get_or-append_right w (page_at l d n) (n * l.page) (n * l.page + j) 0 whole (omega arith)
-      ∙ ap (λ k. get_or (page_at l d n) k 0) back
-      ∙ get_or-take l.page (drop (n * s) d) j 0 in_page ∙ get_or-drop (n * s) d j 0 in
+    get_or-append_right w (page_at l d n) (n * l.page) (n * l.page + j) 0 whole (omega arith)
+    ∙ ap (λ k. get_or (page_at l d n) k 0) back
+    ∙ get_or-take l.page (drop (n * s) d) j 0 in_page ∙ get_or-drop (n * s) d j 0 in
     record {
       there = subst (λ k. k < length d) (sym place) (omega (arith, below, short, left));
       same = taken ∙ ap (λ k. get_or d k 0) (sym place);
@@ -142,11 +142,11 @@ byte_of_pages l d (suc n) i few below =
     let whole = full_pages l d n (omega (arith, few)) in
     let joined = length-append w (page_at l d n) in
     let before : i < length w → IsByteOf l d (w ++ page_at l d n) i = λ inside.
-      let at = byte_of_pages l d n i (omega (arith, few)) inside in
-      record { there = at.there; same = get_or_append_left w (page_at l d n) 0 i inside ∙ at.same; } in
+    let at = byte_of_pages l d n i (omega (arith, few)) inside in
+    record { there = at.there; same = get_or_append_left w (page_at l d n) 0 i inside ∙ at.same } in
     let behind_them : length w ≤ i → IsByteOf l d (w ++ page_at l d n) i = λ past.
-      let j : ℕ = i - n * l.page in
-      let sum : n * l.page + j ≡ i = omega (arith, past, whole) in
-      subst (IsByteOf l d (w ++ page_at l d n)) sum
-        (byte_of_next l d w n j whole (omega (arith, below, joined, past, whole))) in
+    let j : ℕ = i - n * l.page in
+    let sum : n * l.page + j ≡ i = omega (arith, past, whole) in
+    subst (IsByteOf l d (w ++ page_at l d n)) sum
+    (byte_of_next l d w n j whole (omega (arith, below, joined, past, whole))) in
     ⊎_elim before behind_them (cases_lt i (length w))

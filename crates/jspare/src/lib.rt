@@ -12,8 +12,8 @@
 mod dropping;
 pub mod examples;
 mod finding;
-mod layout;
 pub mod laws;
+mod layout;
 
 pub use crate::dropping::drop_spare;
 pub use crate::finding::spare_of;
