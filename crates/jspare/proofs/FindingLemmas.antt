@@ -1,7 +1,7 @@
 -- The best layout of those looked at.
-use Rattle.std.proofs.Common.{◌≡◌, ◌⊎◌, ⊎_elim, ◌+◌, ◌<◌, ◌≤◌, ℕ, zero, suc, List, [], ◌∷◌, ◌++◌, Contains, Option, Some, None, refl, sym, subst, ap, ◌∙◌, arith}
+use Rattle.std.proofs.Common.{◌≡◌, ⊎_elim, ◌<◌, ◌≤◌, ℕ, List, [], ◌∷◌, ◌++◌, Contains, Option, Some, None, subst, arith}
 use Rattle.std.proofs.lemmas.List.Elements.{Contains-append_left, Contains-push, Contains-push_cases}
-use Rattle.jspare.specs.Finding.{IsSpareOf, IsBestOf, sound_nodes}
+use Rattle.jspare.specs.Finding.{IsSpareOf, sound_nodes}
 use Rattle.jspare.specs.Spare.{without_spare}
 use Rattle.jspare.specs.declared.layout.PageLayout.{PageLayout}
 

@@ -1,5 +1,5 @@
 -- The layout of a dump of which nobody says it.
-use Rattle.std.specs.Prelude.{◌≡◌, ◌<◌, ◌≤◌, ℕ, ◌+◌, nat_lt, if◌then◌else◌, List, [], ◌∷◌, length, Contains, Option, Some, None}
+use Rattle.std.specs.Prelude.{◌<◌, ◌≤◌, ℕ, ◌+◌, nat_lt, if◌then◌else◌, List, [], ◌∷◌, length, Contains, Option, Some, None}
 use Rattle.jscan.specs.Image.{greatest_image}
 use Rattle.jinfo.specs.Infos.{info_of}
 use Rattle.jinfo.specs.declared.info.Info.{Info}
@@ -20,8 +20,8 @@ sound_in info = info.census.nodes.entries + info.census.nodes.inodes
 unfoldable pub sound_nodes : List ℕ → ℕ
 sound_nodes image = if nat_lt greatest_image (length image) then 0 else sound_in (info_of image)
 
--- The image by this layout has more sound nodes than the dump as it is, and by none of these layouts
--- it has more.
+-- The image by this layout has more sound nodes than the dump as it is, and by no other of these
+-- layouts it has more.
 pub record IsBestOf (layouts : List PageLayout) (dump : List ℕ) (best : PageLayout) : Type 0 where
   pub listed : Contains layouts best
   pub more : sound_nodes dump < sound_nodes (without_spare best dump)

@@ -11,7 +11,7 @@ pub fn known_pages()
         ≡ 1 ∷ 2 ∷ 3 ∷ 4 ∷ [] }
     ensures short { without_spare (record { page = 2; spare = 1 }) (1 ∷ 2 ∷ 9 ∷ 3 ∷ [])
         ≡ 1 ∷ 2 ∷ 3 ∷ [] }
-    ensures spare_missing { without_spare (record { page = 2; spare = 1 }) (1 ∷ 2 ∷ 9 ∷ 3 ∷ 4 ∷ [])
+    ensures cut_spare { without_spare (record { page = 2; spare = 1 }) (1 ∷ 2 ∷ 9 ∷ 3 ∷ 4 ∷ [])
         ≡ 1 ∷ 2 ∷ 3 ∷ 4 ∷ [] }
     ensures no_spare { without_spare (record { page = 2; spare = 0 }) (1 ∷ 2 ∷ 3 ∷ [])
         ≡ 1 ∷ 2 ∷ 3 ∷ [] }

@@ -1,6 +1,5 @@
-use Rattle.std.proofs.Common.{◌≡◌, ◌+◌, ◌-◌, ◌*◌, ◌/◌, ◌<◌, ◌≤◌, ℕ, List, ◌++◌, length, take, drop, min, refl, sym, subst, ap, ◌∙◌, arith}
-use Rattle.std.proofs.lemmas.List.{take_at}
-use Rattle.jspare.specs.Spare.{first_pages, page_at, without_spare}
+use Rattle.std.proofs.Common.{◌≡◌, ◌+◌, ◌-◌, ◌*◌, ◌/◌, ◌<◌, ◌≤◌, ℕ, ◌++◌, length, drop, min, refl, sym, subst, ap, ◌∙◌, arith}
+use Rattle.jspare.specs.Spare.{first_pages, page_at}
 use Rattle.jspare.proofs.PageLemmas.{copied, more_pages, pages_before, page_begins, one_page, page_length}
 use Rattle.jspare.proofs.dropping.drop_spare.Goals as goal
 

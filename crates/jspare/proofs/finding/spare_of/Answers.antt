@@ -1,7 +1,6 @@
-use Rattle.std.proofs.Common.{◌≡◌, ◌+◌, ◌<◌, ◌≤◌, ℕ, List, ◌∷◌, [], ◌++◌, length, take, get_or, refl, sym, subst, ap, ◌∙◌, Option, Some, arith}
+use Rattle.std.proofs.Common.{ℕ, ◌∷◌, [], ◌++◌, take, get_or, refl, sym, subst, Some, arith}
 use Rattle.std.proofs.lemmas.List.{take_more, take_all}
-use Rattle.jspare.specs.Finding.{usual_layouts, sound_nodes}
-use Rattle.jspare.specs.Spare.{without_spare}
+use Rattle.jspare.specs.Finding.{usual_layouts}
 use Rattle.jspare.proofs.FindingLemmas.{IsFoundIn, passed_over, taken, found}
 use Rattle.jspare.proofs.finding.spare_of.Goals as goal
 use Rattle.jspare.proofs.finding.spare_of.Goals.{then-most-count, else-most-count}

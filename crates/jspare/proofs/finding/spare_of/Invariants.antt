@@ -1,6 +1,5 @@
-use Rattle.std.proofs.Common.{◌≡◌, ◌≤◌, ◌<◌, ℕ, take, Option, Some, None}
-use Rattle.jspare.specs.Finding.{IsSpareOf, sound_nodes, usual_layouts}
-use Rattle.jspare.specs.Spare.{without_spare}
+use Rattle.std.proofs.Common.{◌≡◌, take}
+use Rattle.jspare.specs.Finding.{usual_layouts}
 use Rattle.jspare.proofs.FindingLemmas.{IsFoundIn}
 use Rattle.jspare.proofs.finding.spare_of.Given as goal
 

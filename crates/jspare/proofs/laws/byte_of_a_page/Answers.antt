@@ -1,6 +1,6 @@
-use Rattle.std.proofs.Common.{◌≡◌, ◌+◌, ◌*◌, ◌/◌, ◌%◌, ◌<◌, ◌≤◌, ℕ, suc, length, subst, sym, ap, ◌∙◌, Some, arith}
+use Rattle.std.proofs.Common.{◌+◌, ◌*◌, ◌/◌, ◌%◌, ℕ, suc, length, sym, ap, ◌∙◌, Some, arith}
 use Rattle.std.proofs.lemmas.Option.{slice_get-get_or}
-use Rattle.jspare.specs.Spare.{first_pages, without_spare}
+use Rattle.jspare.specs.Spare.{without_spare}
 use Rattle.jspare.proofs.PageLemmas.{byte_of_pages}
 use Rattle.jspare.proofs.laws.byte_of_a_page.Goals as goal
 
