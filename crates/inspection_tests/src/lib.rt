@@ -13,3 +13,5 @@ mod diff;
 mod info;
 #[cfg(test)]
 mod report;
+#[cfg(test)]
+mod spare;

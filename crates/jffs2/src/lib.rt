@@ -12,6 +12,8 @@
 //! | see kind, mode, owner, size and times of it | [`Mounted::object`] |
 //! | read its bytes | [`Mounted::read_at`], or [`Mounted::put_bytes`] into a [`Sink`] |
 //! | list a directory | [`Mounted::entries`]; [`Mounted::names`] has the names of all directories |
+//! | have the image of a dump with spare bytes | [`drop_spare`], by a [`PageLayout`] |
+//! | find the layout of such a dump | [`spare_of`], of the usual [`LAYOUTS`] |
 //! | know which nodes clash, where a mount says so | [`clash_below`]: the other one |
 //! | know what is damaged | [`Mounted::findings`], [`Mounted::dangling`], [`Mounted::shape`] |
 //! | print what the damage of an image costs | [`put_damage`], of a [`Mounted`] |
@@ -65,5 +67,6 @@ pub use jscan::{
     Counts, Extent, ExtentKind, Extents, Finding, FindingKind, GREATEST_IMAGE, Geometry, Page,
     Scan, ScanFault, Sightings, StreamFault, scan, scan_stream,
 };
+pub use jspare::{LAYOUTS, PageLayout, drop_spare, spare_of};
 pub use jsteps::{Attributes, Op, OpFault, Text};
 pub use jthrough::{View, ViewFault, mount_through, mount_view, view_image};

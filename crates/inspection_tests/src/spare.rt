@@ -1,0 +1,3 @@
+//! Tests of `jspare`: pages with their spare bytes, and the layouts of dumps.
+
+mod dumps;

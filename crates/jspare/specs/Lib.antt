@@ -1,0 +1,3 @@
+pub mod Spare
+pub mod Finding
+pub mod Laws

@@ -1,0 +1,20 @@
+//! A dump of NAND flash that has the spare bytes behind each page, and the image that it holds.
+//!
+//! A programmer, or `nanddump -o`, reads each page with its spare bytes (OOB): those of the flash's
+//! own error correction, which are no part of the file system. It is built on `jinfo` (the nodes of
+//! an image of which nothing is known).
+//!
+//! - `PageLayout` is the size of a page and of its spare bytes; `LAYOUTS` are the usual ones.
+//! - `drop_spare` makes the image of a dump, in the dump's own memory.
+//! - `spare_of` finds the layout of a dump by its whole nodes.
+#![tactic(auto)]
+
+mod dropping;
+pub mod examples;
+mod finding;
+pub mod laws;
+mod layout;
+
+pub use crate::dropping::drop_spare;
+pub use crate::finding::spare_of;
+pub use crate::layout::{LAYOUTS, PageLayout};
