@@ -8,8 +8,8 @@
 
 use anyhow::{Context, Result};
 use jffs2::{
-    Flash, FromWriter, Geometry, HostFiles, LittleEndian, Mounted, PackingSession, Page, Session,
-    listing, mount, mount_through, operations,
+    Flash, FromWriter, Geometry, HostFiles, LittleEndian, Mounted, NodeForms, PackingSession, Page,
+    Session, listing, mount, mount_through, operations,
 };
 use std::alloc::Global;
 
@@ -50,7 +50,13 @@ fn build_packed(alloc: Global, text: &[u8]) -> Result<Vec<u8>> {
     let mut contents = Vec::new(alloc);
     let empty = mount_through::<LittleEndian>(alloc, &[], GEOMETRY, &mut contents)?;
     let sink = FromWriter::new(Vec::new(alloc));
-    let mut session = match PackingSession::<LittleEndian, _>::resume(alloc, &empty, FLASH, sink) {
+    let mut session = match PackingSession::<LittleEndian, _>::resume(
+        alloc,
+        &empty,
+        FLASH,
+        NodeForms::Packed,
+        sink,
+    ) {
         Ok(session) => session,
         Err((fault, _)) => return Err(fault.into()),
     };

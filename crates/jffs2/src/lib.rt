@@ -26,6 +26,7 @@
 //! | judge once where writing goes on | [`Start::of`], for [`Session::begin`] and [`emit_from`] |
 //! | see the file system of an image with compressed data | [`mount_through`], as it is |
 //! | write to such an image, compressed too | [`PackingSession::resume`], then as a [`Session`] |
+//! | write to it without compressing | the same, with [`NodeForms::Own`] |
 //! | write to its blank blocks, wherever they lie | [`Row::of`], [`PackingSession::resume_in_row`] |
 //! | put an image with what was written there | [`put_with_row`] |
 //! | know where such data lie, before it is mounted | [`view_image`], then [`mount_view`] |
@@ -58,7 +59,7 @@ pub use jlisting::{Action, BadLine, Line, ListingFault, Rule, WordRule, listing}
 pub use jlog::{Applied, Flash, Place, RunReport, Session, SessionFault, Start};
 pub use jmount::{FindFault, Kind, MountFault, Mounted, Object, mount};
 pub use jnode::{Damage, Dirent, Endian, Fill, InodeNode, NodeRef, Order, Seen, weak_cut};
-pub use jpacked::PackingSession;
+pub use jpacked::{NodeForms, PackingSession};
 pub use jreport::{
     ProgramFault, content, put_subtree, scan_lines, stream_lines, tree_lines, verdict_lines,
 };

@@ -1,5 +1,5 @@
 -- A session that begins on a mount through.
-use Rattle.std.proofs.Common.{◌≡◌, ℕ, ◌+◌, ◌-◌, ◌*◌, ◌≤◌, List, [], Ok, length, refl, sym, ap, subst, ◌∙◌, arith}
+use Rattle.std.proofs.Common.{◌≡◌, ℕ, ◌+◌, ◌-◌, ◌*◌, ◌≤◌, List, [], Ok, length, refl, sym, ap, subst, arith}
 use Rattle.std.specs.Prelude.{IsTrue, IsOk, ◌&&◌, nat_le, nat_lt}
 use Rattle.std.proofs.lemmas.Bool.{and_parts, leb-true}
 use Rattle.flashbase.specs.Ranges.{AreBytes}

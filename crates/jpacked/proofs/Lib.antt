@@ -5,6 +5,7 @@ pub mod CountLemmas
 pub mod FileLemmas
 pub mod MadeLemmas
 pub mod Parts
+pub mod PlainLemmas
 pub mod PutLemmas
 pub mod RoomLemmas
 pub mod RunLemmas

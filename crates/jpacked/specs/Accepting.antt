@@ -1,5 +1,5 @@
 -- Whether an operation is accepted, with what was chosen for its nodes.
-use Rattle.std.specs.Prelude.{◌≡◌, ℕ, true, IsTrue, IsFalse, List, Result, Ok, Err}
+use Rattle.std.specs.Prelude.{◌≡◌, ℕ, Bool, IsTrue, IsFalse, List, Ok, Err}
 use Rattle.jnode.specs.declared.order.Endian.{Endian}
 use Rattle.jscan.specs.Pages.{page_size}
 use Rattle.jsteps.specs.Nodes.{nodes_of}
@@ -11,12 +11,12 @@ use Rattle.jlog.specs.Running.{Log}
 use Rattle.jlog.specs.SessionAs.{FlashAs, flash_as, IsTooMuch}
 use Rattle.jlog.specs.declared.fault.SessionFault.{SessionFault}
 use Rattle.jlog.specs.declared.fault.SessionFault.TheVariants as fault
-use Rattle.jpacked.specs.Forms.{AreMadeOf, ArePacked, step_forms}
+use Rattle.jpacked.specs.Forms.{AreMadeOf, ArePacked, AreNoneUnless, step_forms}
 use Rattle.jpacked.specs.declared.accepting.Room.{Room}
 
--- the flash, as a session that packs sees it
-abbrev pub flash_of_room : Endian → Room → FlashAs
-flash_of_room e room = flash_as true room.held (record {
+-- the flash, as such a session sees it
+abbrev pub flash_of_room : Endian → Bool → Room → FlashAs
+flash_of_room e packs room = flash_as packs room.held (record {
   order = e;
   size = room.flash.size;
   blocks = room.flash.count;
@@ -30,6 +30,7 @@ flash_of_room e room = flash_as true room.held (record {
 pub record AreFitting (on : FlashAs) (from : Log) (steps : List Step) (streams : List (List ℕ))
     (now : ℕ) : Type 0 where
   pub packed : ArePacked on.flash.order from.index steps on.held streams now
+  pub plain : AreNoneUnless on.packs streams
   pub fits : IsTrue (fit on.flash.size on.flash.blocks from.cursor
       (step_forms on.flash.order from.index steps streams))
 
@@ -38,6 +39,7 @@ pub record IsFullFor (on : FlashAs) (from : Log) (steps : List Step) (wanted lef
     0 where
   pub streams : List (List ℕ)
   pub made : AreMadeOf on.flash.order (nodes_of from.index steps) streams
+  pub plain : AreNoneUnless on.packs streams
   pub fits : IsFalse (fit on.flash.size on.flash.blocks from.cursor
       (step_forms on.flash.order from.index steps streams))
   pub wanted_is : wanted ≡ needed (step_forms on.flash.order from.index steps streams)

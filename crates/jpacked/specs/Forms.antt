@@ -1,5 +1,6 @@
 -- The forms that are chosen for the nodes of steps.
-use Rattle.std.specs.Prelude.{◌≡◌, ◌≢◌, ◌==◌, ◌&&◌, ℕ, ◌+◌, ◌-◌, ◌<◌, ◌≤◌, Bool, not, nat_lt, List, [], ◌∷◌, length, Some}
+use Rattle.std.specs.Prelude.{◌≡◌, ◌≢◌, ◌==◌, ◌&&◌, ℕ, ◌+◌, ◌-◌, ◌<◌, ◌≤◌, Bool, true, false, not, nat_lt, List, [], ◌∷◌, length, Some}
+use Rattle.std.specs.List.{AllByRecursion}
 use Rattle.flashbase.specs.Bytes.{pad4_of}
 use Rattle.jcompr.specs.Zlib.{zlib_of}
 use Rattle.jnode.specs.Compressed.{canonical_compressed}
@@ -19,6 +20,8 @@ use Rattle.jview.specs.Through.{greatest_contents}
 use Rattle.jlog.specs.Packed.{zlib_number, IsNodeForm}
 use Rattle.jlog.specs.Running.{node_len}
 use Rattle.jlog.specs.SessionAs.{content_len}
+use Rattle.jpacked.specs.declared.choice.NodeForms.{NodeForms}
+use Rattle.jpacked.specs.declared.choice.NodeForms.TheVariants as forms_in
 
 -- ---- packed data
 
@@ -119,6 +122,19 @@ AreMadeOf e [] [] = Unit {0}
 AreMadeOf e [] (stream ∷ streams) = ⊥
 AreMadeOf e (n ∷ nodes) [] = ⊥
 AreMadeOf e (n ∷ nodes) (stream ∷ streams) = IsMadeOf e n stream × AreMadeOf e nodes streams
+
+-- whether nodes are packed
+abbrev pub is_packed : NodeForms → Bool
+is_packed forms_in.Packed = true
+is_packed forms_in.Own = false
+
+-- rule: The log: A session that does not pack puts each node in its own form.
+--   definitions: jpacked.Forms.AreNoneUnless, jlog.SessionAs.AreFormsBy
+--   code: jpacked::planning::choose_by, jpacked::session::PackingSession
+-- where nodes are not packed, none of them has packed data
+abbrev pub AreNoneUnless : Bool → List (List ℕ) → Type 0
+AreNoneUnless true streams = Unit {0}
+AreNoneUnless false streams = AllByRecursion (λ stream. stream ≡ []) streams
 
 -- how long such a form of a step's node is, and how many bytes of content it has
 abbrev pub form_len : Step → List ℕ → ℕ

@@ -1,5 +1,5 @@
 -- What contracts see of a session that packs.
-use Rattle.std.specs.Prelude.{◌≡◌, ℕ, ◌+◌, Bool, true, IsFalse, List, [], ◌∷◌, ◌++◌, take, length, IfOk, IsOk, Option, Some, None, Result, Ok, Err}
+use Rattle.std.specs.Prelude.{◌≡◌, ℕ, ◌+◌, Bool, IsFalse, List, [], ◌∷◌, ◌++◌, take, length, IfOk, IsOk, Option, Some, None, is_some, Result, Ok, Err}
 use Rattle.byteorder.specs.declared.ByteOrder.{Ghosts as OfByteOrder}
 use Rattle.flashbase.specs.Ranges.{AreBytes}
 use Rattle.flashbase.specs.Sinks.{SinkChange, change_of}
@@ -23,7 +23,6 @@ use Rattle.jlog.specs.declared.fault.SessionFault.{SessionFault}
 use Rattle.jlog.specs.declared.fault.SessionFault.TheVariants as fault
 use Rattle.jlog.specs.declared.report.Applied.{Applied}
 use Rattle.jlog.specs.declared.report.Place.{Place}
-use Rattle.jlog.specs.declared.report.RunReport.{RunReport}
 use Rattle.jlog.specs.declared.start.Flash.{Flash}
 use Rattle.jrow.specs.Arranged.{arranged, row_start}
 use Rattle.jpacked.specs.declared.session.PackingSession.{PackingSession}
@@ -92,9 +91,13 @@ module _ {E : Type 0} {S : Type 0} {order : OfOrder E} {numbers : OfByteOrder E}
     page = page_size (page_of session);
   }
 
-  -- the same, as one that packs sees it
+  -- whether it packs
+  abbrev pub packs_of : PackingSession E S order numbers sinks → Bool
+  packs_of session = is_some session.packing
+
+  -- the flash, as one that may pack sees it
   abbrev pub packed_flash_of : PackingSession E S order numbers sinks → FlashAs
-  packed_flash_of session = flash_as true (held_of session) (flash_of_log session)
+  packed_flash_of session = flash_as (packs_of session) (held_of session) (flash_of_log session)
 
   -- its state, with the places of its nodes
   abbrev pub state_with : PackingSession E S order numbers sinks → List Place → LogState

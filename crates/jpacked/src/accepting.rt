@@ -1,6 +1,6 @@
 //! Whether an operation is accepted: as a whole, before a byte of it is put.
 
-ghost use Rattle.std.specs.Prelude.{◌≡◌, ◌≤◌, ◌+◌, [], length, IsTrue, Ok, IfOk, IfErr};
+ghost use Rattle.std.specs.Prelude.{◌≡◌, ◌≤◌, ◌+◌, [], length, is_some, IsTrue, Ok, IfOk, IfErr};
 ghost use Rattle.jscan.specs.Pages.{page_size};
 ghost use Rattle.jsteps.specs.Laws.{OpFits};
 ghost use Rattle.jsteps.specs.Planning.{most_steps};
@@ -12,7 +12,7 @@ ghost use Rattle.jview.specs.Through.{greatest_contents};
 ghost use Rattle.jpacked.specs.Accepting.{flash_of_room, AreFitting, ChoosesNone, IsChosenFor, DeclinesAs};
 
 use crate::packing::Packing;
-use crate::planning::{Chosen, choose_all};
+use crate::planning::{Chosen, choose_by};
 use crate::room::{has_room, needed};
 use jlog::{Blocks, SessionFault, free};
 use jnode::Order;
@@ -57,25 +57,27 @@ fn plan<'o>(
     }
 }
 
-/// Packs the data of steps, and judges whether the forms of their nodes fit.
+/// Packs the data of steps, if they are packed, and judges whether the forms of their nodes fit.
 fn choose_fitting<E: Order>(
     alloc: Global,
     index: &Index,
     room: &Room,
     steps: &[Step<'_>],
-    packing: &mut Packing,
+    packing: &mut Option<Packing>,
 ) -> Result<Chosen, SessionFault>
     requires flash { IsTrue (is_writable_flash room.now.flash.size room.now.flash.count) }
     requires going { IsGoing room.now.flash.size room.now.flash.count room.now.cursor index.now }
     requires steps { CanWriteIn room.now.flash.size E.order index.now steps.now }
     requires few { length steps.now ≤ most_steps }
     requires held { room.now.held ≤ greatest_contents }
-    ensures fitting { IfOk result (λ chosen. AreFitting (flash_of_room E.order room.now)
+    ensures fitting { IfOk result (λ chosen. AreFitting
+        (flash_of_room E.order (is_some packing.old) room.now)
         (log_at room.now.cursor index.now []) steps.now chosen.streams.items chosen.held) }
-    ensures none { IfErr result (ChoosesNone (flash_of_room E.order room.now)
+    ensures packs { is_some packing.new ≡ is_some packing.old }
+    ensures none { IfErr result (ChoosesNone (flash_of_room E.order (is_some packing.old) room.now)
         (log_at room.now.cursor index.now []) steps.now) }
 {
-    let chosen = choose_all::<E>(alloc, index, steps, room.held, packing)?;
+    let chosen = choose_by::<E>(alloc, index, steps, room.held, packing)?;
     if !has_room::<E>(index, room.flash, room.cursor, steps, &chosen.streams) {
         return Err(SessionFault::Full {
             needed: needed::<E>(index, steps, &chosen.streams),
@@ -92,17 +94,20 @@ pub(crate) fn accept<'o, E: Order>(
     index: &Index,
     room: &Room,
     op: &'o Op<'_>,
-    packing: &mut Packing,
+    packing: &mut Option<Packing>,
 ) -> Result<Taken<'o>, SessionFault>
     requires flash { IsTrue (is_writable_flash room.now.flash.size room.now.flash.count) }
     requires holds { page_size room.now.page + 80 ≤ room.now.flash.size }
     requires going { IsGoing room.now.flash.size room.now.flash.count room.now.cursor index.now }
     requires held { room.now.held ≤ greatest_contents }
     requires known { OpFits op.now }
-    ensures accepted { IfOk result (λ taken. IsChosenFor (flash_of_room E.order room.now)
+    ensures accepted { IfOk result (λ taken. IsChosenFor
+        (flash_of_room E.order (is_some packing.old) room.now)
         (log_at room.now.cursor index.now []) op.now taken.steps.items
         taken.chosen.streams.items taken.chosen.held) }
-    ensures declined { IfErr result (DeclinesAs (flash_of_room E.order room.now)
+    ensures packs { is_some packing.new ≡ is_some packing.old }
+    ensures declined { IfErr result (DeclinesAs
+        (flash_of_room E.order (is_some packing.old) room.now)
         (log_at room.now.cursor index.now []) op.now) }
 {
     let steps = plan(alloc, index, room.page, op)?;

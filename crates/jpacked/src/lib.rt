@@ -1,5 +1,5 @@
 //! A session that packs: a log that goes on from an image mounted through its compression, and puts
-//! each node compressed where that is shorter.
+//! each node compressed where that is shorter, or each in its own form.
 //!
 //! It is built on `jlog` (where nodes go, what goes out for them, and what a stop leaves) and
 //! `jpack` (bytes compressed). Its promise to the layer above is that of a session of `jlog`, over
@@ -11,6 +11,7 @@
 #![tactic(auto)]
 
 mod accepting;
+mod choice;
 mod content;
 mod packing;
 mod planning;
@@ -21,4 +22,5 @@ mod start;
 mod stream;
 mod writing;
 
+pub use crate::choice::NodeForms;
 pub use crate::session::PackingSession;

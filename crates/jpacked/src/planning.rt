@@ -1,12 +1,12 @@
 //! The forms of the nodes of steps, chosen before a byte is put.
 
-ghost use Rattle.std.specs.Prelude.{◌≡◌, ◌≤◌, ◌+◌, ℕ, [], ◌∷◌, length, IfOk};
+ghost use Rattle.std.specs.Prelude.{◌≡◌, ◌≤◌, ◌+◌, ℕ, false, [], ◌∷◌, length, is_some, IfOk};
 ghost use Rattle.jscan.specs.Pages.{IsPage};
 ghost use Rattle.jnode.specs.Writing.{totlen_most};
 ghost use Rattle.jsteps.specs.Nodes.{advanced_all, node_of};
 ghost use Rattle.jlog.specs.Running.{node_len, CanWriteAll};
 ghost use Rattle.jview.specs.Through.{greatest_contents};
-ghost use Rattle.jpacked.specs.Forms.{ArePacked, IsChosen, content_chosen, form_len};
+ghost use Rattle.jpacked.specs.Forms.{ArePacked, AreNoneUnless, IsChosen, content_chosen, form_len};
 
 use crate::packing::{Packing, pack};
 use crate::regular::packable;
@@ -80,7 +80,7 @@ pub(crate) struct Chosen {
 }
 
 /// Packs the data of steps, with so much content held before.
-pub(crate) fn choose_all<E: Order>(
+fn choose_all<E: Order>(
     alloc: Global,
     index: &Index,
     steps: &[Step<'_>],
@@ -103,4 +103,49 @@ pub(crate) fn choose_all<E: Order>(
         i += 1;
     }
     Ok(Chosen { streams, held: sum })
+}
+
+/// Chooses no packed data for steps.
+fn choose_none<E: Order>(
+    alloc: Global,
+    _index: &Index,
+    steps: &[Step<'_>],
+    held: u32,
+) -> Result<Chosen, AllocError>
+    requires steps { (page : ℕ) × IsPage page × CanWriteAll page E.order _index.now steps.now }
+    requires held { held ≤ greatest_contents }
+    ensures chosen { IfOk result (λ chosen.
+        ArePacked E.order _index.now steps.now held chosen.streams.items chosen.held) }
+    ensures plain { IfOk result (λ chosen. AreNoneUnless false chosen.streams.items) }
+{
+    let mut streams = Vec::with_capacity(alloc, steps.len())?;
+    let mut i = 0;
+    while i < steps.len() {
+        let stream = Stream::none(alloc);
+        streams.push(stream)?;
+        i += 1;
+    }
+    Ok(Chosen { streams, held })
+}
+
+/// What is chosen for steps by a session that packs, and by one that does not.
+pub(crate) fn choose_by<E: Order>(
+    alloc: Global,
+    index: &Index,
+    steps: &[Step<'_>],
+    held: u32,
+    packing: &mut Option<Packing>,
+) -> Result<Chosen, AllocError>
+    requires steps { (page : ℕ) × IsPage page × CanWriteAll page E.order index.now steps.now }
+    requires held { held ≤ greatest_contents }
+    ensures chosen { IfOk result (λ chosen.
+        ArePacked E.order index.now steps.now held chosen.streams.items chosen.held) }
+    ensures plain { IfOk result
+        (λ chosen. AreNoneUnless (is_some packing.old) chosen.streams.items) }
+    ensures packs { is_some packing.new ≡ is_some packing.old }
+{
+    match packing {
+        Some(packing) => choose_all::<E>(alloc, index, steps, held, packing),
+        None => choose_none::<E>(alloc, index, steps, held),
+    }
 }

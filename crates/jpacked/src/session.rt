@@ -1,6 +1,6 @@
 //! A log that is written packed, operation by operation.
 
-ghost use Rattle.std.specs.Prelude.{◌≡◌, ◌≢◌, ◌<◌, ◌≤◌, ◌+◌, ℕ, slice_index, IsTrue, IsFalse, Err, IfOk, IfErr, IsOk};
+ghost use Rattle.std.specs.Prelude.{◌≡◌, ◌≢◌, ◌<◌, ◌≤◌, ◌+◌, ℕ, slice_index, is_some, IsTrue, IsFalse, Err, IfOk, IfErr, IsOk};
 ghost use Rattle.jsteps.specs.Nodes.{indexed};
 ghost use Rattle.jscan.specs.Pages.{page_size};
 ghost use Rattle.jlog.specs.Places.{is_writable_flash};
@@ -9,8 +9,10 @@ ghost use Rattle.jlog.specs.Session.{IsGoing};
 ghost use Rattle.jrow.specs.Row.{blank_blocks};
 ghost use Rattle.jview.specs.Through.{greatest_contents, IsMountThroughOf};
 ghost use Rattle.jlog.specs.declared.fault.SessionFault.TheVariants.{OutOfMemory};
+ghost use Rattle.jpacked.specs.Forms.{is_packed};
 
 use crate::accepting::{Room, Taken, accept};
+use crate::choice::NodeForms;
 use crate::content::contents_len;
 use crate::packing::Packing;
 use crate::start::start_at;
@@ -26,8 +28,8 @@ use std::alloc::{AllocError, Global};
 use std::marker::PhantomData;
 use std::mem;
 
-/// A log that goes on from an image mounted through its compression, and packs what it writes. It
-/// keeps nothing of the image but its index.
+/// A log that goes on from an image mounted through its compression, and packs what it writes, or
+/// puts each node in its own form. It keeps nothing of the image but its index.
 #[derive(Drop)]
 pub struct PackingSession<E: Order, S: Sink> {
     block: u32,
@@ -38,7 +40,8 @@ pub struct PackingSession<E: Order, S: Sink> {
     held: u32,
     /// An operation was written in part.
     broken: bool,
-    packing: Packing,
+    /// Where data are packed, if nodes are.
+    packing: Option<Packing>,
     order: PhantomData<E>,
     ghost flash: { IsTrue (is_writable_flash block blocks) },
     ghost holds: { page_size page + 80 ≤ block },
@@ -53,28 +56,43 @@ fn known_bytes(bytes: &[u8])
     let _known = bytes.len();
 }
 
+/// Where data are packed, if nodes are.
+fn packing_for(alloc: Global, forms: NodeForms) -> Result<Option<Packing>, AllocError>
+    ensures { IfOk result (λ packing. is_some packing ≡ is_packed forms) }
+{
+    if forms.is_packed() {
+        let packing = Packing::new(alloc)?;
+        Ok(Some(packing))
+    } else {
+        Ok(None)
+    }
+}
+
 /// What a session has beside its sink: the index of a mounted image, a buffer for a node, and where
 /// data are packed.
 fn index_and_buffer(
     alloc: Global,
     mounted: &Mounted<'_>,
     page: Page,
-) -> Result<(Index, Vec<u8>, Packing), AllocError>
-    ensures { IfOk result (λ parts. parts.0 ≡ indexed mounted.now) }
+    forms: NodeForms,
+) -> Result<(Index, Vec<u8>, Option<Packing>), AllocError>
+    ensures index { IfOk result (λ parts. parts.0 ≡ indexed mounted.now) }
+    ensures packs { IfOk result (λ parts. is_some parts.2 ≡ is_packed forms) }
 {
     let index = Index::of(alloc, mounted)?;
     let buffer = Vec::with_capacity(alloc, INODE_LEN + page.size() as usize)?;
-    Ok((index, buffer, Packing::new(alloc)?))
+    let packing = packing_for(alloc, forms)?;
+    Ok((index, buffer, packing))
 }
 
 impl<E: Order, S: Sink> PackingSession<E, S> {
     ghost use Rattle.std.specs.Prelude.{List, [], ◌∷◌};
-    ghost use Rattle.jpacked.specs.View.{block_size_of, blocks_of, page_of, cursor_of, index_of_log, held_of, is_broken, sink_of, base_of_mount, IsBegunOn, IsBegunInRow, IsSessionOf, AppliesTo, HasApplied, HasRun};
+    ghost use Rattle.jpacked.specs.View.{block_size_of, blocks_of, page_of, cursor_of, index_of_log, held_of, is_broken, packs_of, sink_of, base_of_mount, IsBegunOn, IsBegunInRow, IsSessionOf, AppliesTo, HasApplied, HasRun};
     ghost use Rattle.jlog.specs.declared.report.Place.{Place};
 
     /// Goes on from an image mounted through its compression, on a flash, from the block on from
-    /// which all of it is blank. Nothing is put, and a refusal hands the sink back. It is in `E`'s
-    /// order and of the geometry that the image was mounted with.
+    /// which all of it is blank, in these forms. Nothing is put, and a refusal hands the sink back.
+    /// It is in `E`'s order and of the geometry that the image was mounted with.
     ///
     /// # Errors
     /// `ReadOnly`, `Geometry` and `OutOfMemory` as a session of `jlog` answers them, with the sink.
@@ -82,10 +100,12 @@ impl<E: Order, S: Sink> PackingSession<E, S> {
         alloc: Global,
         mounted: &Mounted<'_>,
         flash: Flash,
+        forms: NodeForms,
         sink: S,
     ) -> Result<PackingSession<E, S>, (SessionFault, S)>
         requires { IsMountThroughOf E.order flash.geometry.block mounted.now }
         ensures begun { IfOk result (IsBegunOn mounted.now flash sink) }
+        ensures packs { IfOk result (λ session. packs_of session ≡ is_packed forms) }
         ensures fault { IfErr result (λ refused. refused.0 ≢ OutOfMemory
             → resumes E.order flash mounted.now ≡ Err refused.0) }
         ensures memory { IfErr result (λ refused. refused.0 ≡ OutOfMemory
@@ -97,7 +117,7 @@ impl<E: Order, S: Sink> PackingSession<E, S> {
             Err(fault) => return Err((fault, sink)),
         };
         known_bytes(mounted.image());
-        match PackingSession::<E, S>::begin(alloc, mounted, flash, cursor, sink) {
+        match PackingSession::<E, S>::begin(alloc, mounted, flash, cursor, forms, sink) {
             Ok(session) => Ok(session),
             Err((error, sink)) => Err((SessionFault::from(error), sink)),
         }
@@ -116,12 +136,14 @@ impl<E: Order, S: Sink> PackingSession<E, S> {
         mounted: &Mounted<'_>,
         flash: Flash,
         row: &Row,
+        forms: NodeForms,
         sink: S,
     ) -> Result<PackingSession<E, S>, (SessionFault, S)>
         requires through { IsMountThroughOf E.order flash.geometry.block mounted.now }
         requires row { row.now
             ≡ blank_blocks E.order flash.geometry.block flash.blocks (base_of_mount mounted.now) }
         ensures begun { IfOk result (IsBegunInRow mounted.now flash sink) }
+        ensures packs { IfOk result (λ session. packs_of session ≡ is_packed forms) }
         ensures fault { IfErr result (λ refused. refused.0 ≢ OutOfMemory
             → resumes E.order flash mounted.now ≡ Err refused.0) }
         ensures memory { IfErr result (λ refused. refused.0 ≡ OutOfMemory
@@ -134,7 +156,7 @@ impl<E: Order, S: Sink> PackingSession<E, S> {
         };
         known_bytes(mounted.image());
         let cursor = row.start(flash.geometry, flash.blocks);
-        match PackingSession::<E, S>::begin(alloc, mounted, flash, cursor, sink) {
+        match PackingSession::<E, S>::begin(alloc, mounted, flash, cursor, forms, sink) {
             Ok(session) => Ok(session),
             Err((error, sink)) => Err((SessionFault::from(error), sink)),
         }
@@ -146,6 +168,7 @@ impl<E: Order, S: Sink> PackingSession<E, S> {
         mounted: &Mounted<'_>,
         flash: Flash,
         cursor: u32,
+        forms: NodeForms,
         sink: S,
     ) -> Result<PackingSession<E, S>, (AllocError, S)>
         requires through { IsMountThroughOf E.order flash.geometry.block mounted.now }
@@ -153,9 +176,10 @@ impl<E: Order, S: Sink> PackingSession<E, S> {
         requires holds { page_size flash.page + 80 ≤ flash.geometry.block }
         requires going { IsGoing flash.geometry.block flash.blocks cursor (indexed mounted.now) }
         ensures begun { IfOk result (IsSessionOf mounted.now flash cursor sink) }
+        ensures packs { IfOk result (λ session. packs_of session ≡ is_packed forms) }
         ensures back { IfErr result (λ refused. refused.1 ≡ sink) }
     {
-        let (index, buffer, packing) = match index_and_buffer(alloc, mounted, flash.page) {
+        let (index, buffer, packing) = match index_and_buffer(alloc, mounted, flash.page, forms) {
             Ok(parts) => parts,
             Err(error) => return Err((error, sink)),
         };
@@ -201,6 +225,7 @@ impl<E: Order, S: Sink> PackingSession<E, S> {
         ensures index { index_of_log self.new ≡ index_of_log self.old }
         ensures held { held_of self.new ≡ held_of self.old }
         ensures whole { is_broken self.new ≡ is_broken self.old }
+        ensures packs { packs_of self.new ≡ packs_of self.old }
     {
         mem::replace(&mut self.log.sink, sink)
     }
@@ -224,6 +249,7 @@ impl<E: Order, S: Sink> PackingSession<E, S> {
         ensures block { block_size_of self.new ≡ block_size_of self.old }
         ensures blocks { blocks_of self.new ≡ blocks_of self.old }
         ensures page { page_of self.new ≡ page_of self.old }
+        ensures packs { packs_of self.new ≡ packs_of self.old }
         ensures applies { HasApplied self.old op.now self.new result }
     {
         op.known();
@@ -239,6 +265,7 @@ impl<E: Order, S: Sink> PackingSession<E, S> {
         ensures block { block_size_of self.new ≡ block_size_of self.old }
         ensures blocks { blocks_of self.new ≡ blocks_of self.old }
         ensures page { page_of self.new ≡ page_of self.old }
+        ensures packs { packs_of self.new ≡ packs_of self.old }
         ensures runs { HasRun self.old ops.now self.new result.accepted result.places.items
             result.stopped }
     {
@@ -275,6 +302,7 @@ impl<E: Order, S: Sink> PackingSession<E, S> {
         ensures block { self.new.block ≡ self.old.block }
         ensures blocks { self.new.blocks ≡ self.old.blocks }
         ensures page { self.new.page ≡ self.old.page }
+        ensures packs { is_some self.new.packing ≡ is_some self.old.packing }
         ensures applies { AppliesTo self.old op.now self.new places.old.items places.new.items
             result }
     {

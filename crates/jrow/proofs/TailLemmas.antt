@@ -27,7 +27,7 @@ use Rattle.jsteps.proofs.ConsistentLemmas.{index_is_consistent}
 use Rattle.jexpand.specs.Expanded.{expanded_nodes}
 use Rattle.jexpand.proofs.SightedLemmas.{size_some, size_words}
 use Rattle.jview.specs.Through.{MountsThroughAs, IsMountThroughOf, first_fault}
-use Rattle.jlog.specs.Places.{places, fit, is_writable_flash}
+use Rattle.jlog.specs.Places.{places, end_of_all, fit, is_writable_flash}
 use Rattle.jlog.specs.Output.{output}
 use Rattle.jlog.specs.Left.{IsLeft, count_whole}
 use Rattle.jlog.specs.Headline.{is_flash_of, resume_address}
@@ -37,7 +37,7 @@ use Rattle.jlog.proofs.ByteLemmas.{block_byte}
 use Rattle.jlog.proofs.HeadlineThroughLemmas.{all_fit_through, forms_survive}
 use Rattle.jlog.proofs.PlaceLemmas.{times_words}
 use Rattle.jlog.proofs.ResumeLemmas.{resumed_at}
-use Rattle.jrow.specs.Arranged.{taken_blocks, blank_last, arranged, row_start, BaseIsArranged, ArrangedMounts, RowIsTail, ArrangedBegins, ArrangedSurvives}
+use Rattle.jrow.specs.Arranged.{taken_blocks, blank_last, arranged, row_start, BaseIsArranged, ArrangedMounts, RowIsTail, ArrangedBegins, ArrangedSurvives, ArrangedEarlierStand}
 use Rattle.jrow.specs.HeadlineInRow.{AreAcceptedInRow, FormsSurviveInRow}
 use Rattle.jrow.specs.RowLeft.{IsLeftInRow}
 use Rattle.jrow.specs.Row.{blank_blocks, side_by_side}
@@ -229,18 +229,23 @@ arranged_begins flash at m is are_bytes resumes =
     }
 
 -- what an arranged image mounts through as, the image does, from the base's file system on
-mounts_back : (e : Endian) (size blocks : ℕ) (base image : List ℕ) (steps : List Step) → IsBaseThrough e size blocks base → length image ≤ blocks * size
-    → MountsThroughAs e size (arranged e size blocks base image) (after bytes (state_through e size (arranged e size blocks base base)) steps)
-    → MountsThroughAs e size image (after bytes (state_through e size base) steps)
-mounts_back e size blocks base image steps is_base within mounts =
+mounts_from : (e : Endian) (size blocks : ℕ) (base image : List ℕ) (f : State → State) → IsBaseThrough e size blocks base → length image ≤ blocks * size
+    → MountsThroughAs e size (arranged e size blocks base image) (f (state_through e size (arranged e size blocks base base)))
+    → MountsThroughAs e size image (f (state_through e size base))
+mounts_from e size blocks base image f is_base within mounts =
     let limits = limits_of size blocks base is_base.flash in
     let was : List ℕ = arranged e size blocks base base in
     let flash : List ℕ = arranged e size blocks base image in
     let seen : AreSeenSame e size was base = arranged_seen e size blocks base base limits.size_is limits.within in
     let state : state_through e size was ≡ state_through e size base =
     sym (order_does_not_matter (expanded_nodes e size base) (expanded_nodes e size was) (same_sym (expanded_nodes e size was) (expanded_nodes e size base) seen.nodes) is_base.mounts.sound.apart).state in
-    (arranged_mounts e size blocks base image (after bytes (state_through e size base) steps) limits.size_is limits.small within).1
-    (subst (λ (s : State). MountsThroughAs e size flash (after bytes s steps)) state mounts)
+    (arranged_mounts e size blocks base image (f (state_through e size base)) limits.size_is limits.small within).1
+    (subst (λ (s : State). MountsThroughAs e size flash (f s)) state mounts)
+
+mounts_back : (e : Endian) (size blocks : ℕ) (base image : List ℕ) (steps : List Step) → IsBaseThrough e size blocks base → length image ≤ blocks * size
+    → MountsThroughAs e size (arranged e size blocks base image) (after bytes (state_through e size (arranged e size blocks base base)) steps)
+    → MountsThroughAs e size image (after bytes (state_through e size base) steps)
+mounts_back e size blocks base image steps is_base within mounts = mounts_from e size blocks base image (λ s. after bytes s steps) is_base within mounts
 
 pub arranged_survives : ArrangedSurvives
 arranged_survives e size blocks base steps forms is_base survive none k image within left =
@@ -268,6 +273,24 @@ whole_survives e size blocks base steps forms is_base survive image left =
     → MountsThroughAs e size other (after bytes (state_through e size was) steps))
     (base_is_arranged e size blocks base is_base.flash).resumes survive.whole in
     mounts_back e size blocks base image steps is_base left.no_longer (whole (arranged e size blocks base image) (row_is_tail e size blocks (length out) base out image some left))
+
+-- the same while more is written after earlier forms
+pub arranged_earlier_stand : ArrangedEarlierStand
+arranged_earlier_stand e size blocks base earlier steps before forms is_base stand none k image within left =
+    let some : 0 < size = omega (arith, size_some size (limits_of size blocks base is_base.flash).size_is) in
+    let was : List ℕ = arranged e size blocks base base in
+    let start : ℕ = row_start e size blocks base in
+    let from : ℕ = end_of_all size start before in
+    let out : List ℕ = output e size from forms in
+    let whole : List ℕ = output e size start before ++ out in
+    let cuts = subst
+    (λ (c : ℕ). (i : ℕ) (other : List ℕ) → i ≤ length (output e size (end_of_all size c before) forms)
+    → IsLeft e size blocks was c (output e size c before ++ output e size (end_of_all size c before) forms) (length (output e size c before) + i) other
+    → MountsThroughAs e size other (after bytes (after bytes (state_through e size was) earlier)
+    (take (count_whole (end_of_all size c before) (output e size (end_of_all size c before) forms) i (places size (end_of_all size c before) forms)) steps)))
+    (base_is_arranged e size blocks base is_base.flash).resumes (stand none) in
+    mounts_from e size blocks base image (λ s. after bytes (after bytes s earlier) (take (count_whole from out k (places size from forms)) steps)) is_base left.no_longer
+    (cuts k (arranged e size blocks base image) within (row_is_tail e size blocks (length (output e size start before) + k) base whole image some left))
 
 -- ---- accepted operations
 

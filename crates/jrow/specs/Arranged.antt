@@ -1,6 +1,6 @@
 -- A flash with its blocks in another order: the blank blocks of a base last. What is written to
 -- them is then written to a tail, so that all that is known of a log there holds of it.
-use Rattle.std.specs.Prelude.{◌≡◌, ◌↔◌, ℕ, ◌*◌, ◌<◌, ◌≤◌, not, IsTrue, List, [], ◌++◌, length, take, filter, Some, Ok}
+use Rattle.std.specs.Prelude.{◌≡◌, ◌↔◌, ℕ, ◌*◌, ◌+◌, ◌<◌, ◌≤◌, not, IsTrue, List, [], ◌++◌, length, take, filter, Some, Ok}
 use Rattle.flashbase.specs.Lists.{below}
 use Rattle.flashbase.specs.Ranges.{AreBytes}
 use Rattle.jnode.specs.declared.order.Endian.{Endian}
@@ -14,13 +14,13 @@ use Rattle.jsteps.specs.Steps.{bytes, after}
 use Rattle.jsteps.specs.declared.step.Step.{Step}
 use Rattle.jexpand.specs.Expanded.{expanded_nodes}
 use Rattle.jview.specs.Through.{MountsThroughAs, IsMountThroughOf}
-use Rattle.jlog.specs.Places.{places}
+use Rattle.jlog.specs.Places.{places, end_of_all}
 use Rattle.jlog.specs.Output.{output}
 use Rattle.jlog.specs.Left.{flash_byte, IsLeft, count_whole}
 use Rattle.jlog.specs.Forms.{NoFormWeak}
 use Rattle.jlog.specs.Headline.{is_flash_of, resume_address}
 use Rattle.jlog.specs.HeadlineThrough.{state_through, IsBaseThrough, index_through, SurvivesAs}
-use Rattle.jlog.specs.DoneThrough.{GoesOnAs}
+use Rattle.jlog.specs.DoneThrough.{GoesOnAs, EarlierStandAs}
 use Rattle.jlog.specs.Resuming.{resumes_at}
 use Rattle.jlog.specs.Session.{Flash, IsGoing}
 use Rattle.jrow.specs.Row.{blank_blocks, side_by_side, start_of_row, address_of}
@@ -110,3 +110,27 @@ ArrangedSurvives = (e : Endian) (size blocks : ℕ) (base : List ℕ) (steps : L
     → IsLeftInRow e size blocks base (blank_blocks e size blocks base) out k image
     → MountsThroughAs e size image (after bytes (state_through e size base)
     (take (count_whole from out k (places size from forms)) steps))
+
+-- A stop while more forms were being written to the row, after all bytes of the earlier ones and k
+-- more, leaves an image that mounts through as the file system after all earlier steps, and after
+-- those of the others whose forms stand whole. Of the earlier forms some may be weak.
+abbrev pub EarlierStandInRow : Endian → ℕ → ℕ → List ℕ → List Step → List Step → List (List ℕ)
+    → List (List ℕ) → Type 0
+EarlierStandInRow e size blocks base earlier steps before forms =
+    let start = row_start e size blocks base in
+    let from = end_of_all size start before in
+    let out = output e size from forms in
+    NoFormWeak e forms
+    → (k : ℕ) (image : List ℕ) → k ≤ length out
+    → IsLeftInRow e size blocks base (blank_blocks e size blocks base)
+    (output e size start before ++ out) (length (output e size start before) + k) image
+    → MountsThroughAs e size image (after bytes (after bytes (state_through e size base) earlier)
+    (take (count_whole from out k (places size from forms)) steps))
+
+-- While more is written to the tail of the arranged base the earlier steps stand, and so they do
+-- while it is written to the row.
+abbrev pub ArrangedEarlierStand : Type 0
+ArrangedEarlierStand = (e : Endian) (size blocks : ℕ) (base : List ℕ) (earlier steps : List Step)
+    (before forms : List (List ℕ)) → IsBaseThrough e size blocks base
+    → EarlierStandAs e size blocks (arranged e size blocks base base) earlier steps before forms
+    → EarlierStandInRow e size blocks base earlier steps before forms

@@ -1,6 +1,6 @@
 //! Laws of a row. Each function's contract is a law, and its body is empty.
 
-ghost use Rattle.jrow.specs.Arranged.{BaseIsArranged, ArrangedMounts, RowIsTail, RowAddressHolds, RowStarts, ArrangedBegins, ArrangedSurvives};
+ghost use Rattle.jrow.specs.Arranged.{BaseIsArranged, ArrangedMounts, RowIsTail, RowAddressHolds, RowStarts, ArrangedBegins, ArrangedSurvives, ArrangedEarlierStand};
 ghost use Rattle.jrow.specs.HeadlineInRow.{FormsSurviveInRow};
 ghost use Rattle.jrow.specs.MergedLaws.{RowIsMerged};
 ghost use Rattle.jrow.specs.Moved.{LogIsMoved};
@@ -71,6 +71,7 @@ pub fn row_is_tail()
     ensures tail { RowIsTail }
     ensures begins { ArrangedBegins }
     ensures survives { ArrangedSurvives }
+    ensures earlier { ArrangedEarlierStand }
 {}
 
 /// A log that begins so many blocks further on has the same bytes, each form so many blocks further

@@ -11,7 +11,7 @@ mod growth;
 mod place_tests;
 pub mod plain;
 mod refusal_tests;
-mod sessions;
+pub mod sessions;
 mod sink_tests;
 mod start_tests;
 mod stopped;

@@ -35,8 +35,9 @@ pub struct Case {
     pub before: &'static [Change],
     pub lines: &'static [&'static str],
     pub steps: &'static [Change],
-    /// How many bytes the output has at most. As they are the nodes take more.
+    /// How many bytes the output has at most. Where a node is packed they take more as they are.
     pub most: usize,
+    pub is_packed: bool,
 }
 
 const FILE: u32 = 0o100644;
@@ -51,6 +52,7 @@ const EMPTY: Case = Case {
     lines: &[],
     steps: &[],
     most: 0,
+    is_packed: true,
 };
 
 /// Files of one page and of several.
@@ -222,6 +224,7 @@ pub fn plain() -> &'static [Case] {
                 Change::Put(0, 0, b"0123456789", 2),
             ],
             most: 204,
+            is_packed: false,
             ..EMPTY
         },
     ]

@@ -4,10 +4,11 @@
 use crate::checks::expect_at;
 use crate::log::plain::{Change, Plain};
 use crate::packed::cases::{Case, bases, changes, files, plain, replaced};
-use crate::packed::sessions::{Outcome, run_packed};
+use crate::packed::sessions::{Outcome, run_in};
 use byteorder::{BigEndian, LittleEndian};
 use jlog::Place;
 use jnode::Order;
+use jpacked::NodeForms;
 use jscan::Geometry;
 use jsteps::Op;
 use jthrough::mount_through;
@@ -35,7 +36,7 @@ pub fn ops_in_time(alloc: Global, lines: &[&'static str]) -> Result<Vec<Op<'stat
 /// The flash up to where a base ends, and what the base's operations put there.
 pub fn base_of<E: Order>(alloc: Global, case: &Case) -> Result<Vec<u8>, Fail> {
     let ops = ops_in_time(alloc, case.base)?;
-    Ok(run_packed::<E>(alloc, &[], case.flash, &ops)?.output)
+    Ok(run_in::<E>(alloc, &[], case.flash, NodeForms::Packed, &ops)?.output)
 }
 
 /// Takes steps.
@@ -107,14 +108,14 @@ pub fn is_shown_after<E: Order>(
 }
 
 /// Whether each stop leaves the state after the steps whose forms are whole.
-fn survives<E: Order>(alloc: Global, case: &Case) -> Result<bool, Fail> {
+fn survives<E: Order>(alloc: Global, case: &Case, forms: NodeForms) -> Result<bool, Fail> {
     let base = base_of::<E>(alloc, case)?;
     let ops = ops_in_time(alloc, case.lines)?;
-    let run = run_packed::<E>(alloc, &base, case.flash, &ops)?;
+    let run = run_in::<E>(alloc, &base, case.flash, forms, &ops)?;
     let states = states_of(alloc, case)?;
     let mut is_well = run.report.accepted == ops.len()
         && run.report.places.len() == case.steps.len()
-        && run.output.len() <= case.most;
+        && (run.output.len() <= case.most) == (forms == NodeForms::Packed || !case.is_packed);
     for count in 0..run.output.len() + 1 {
         let left = left_after(alloc, &base, &run, count)?;
         is_well = is_well
@@ -123,10 +124,15 @@ fn survives<E: Order>(alloc: Global, case: &Case) -> Result<bool, Fail> {
     Ok(is_well)
 }
 
-fn all_survive(rt: &impl Abort, alloc: Global, cases: &[Case]) -> Result<(), Fail> {
+fn all_survive(
+    rt: &impl Abort,
+    alloc: Global,
+    cases: &[Case],
+    forms: NodeForms,
+) -> Result<(), Fail> {
     for case in cases {
-        let little = survives::<LittleEndian>(alloc, case)?;
-        let big = survives::<BigEndian>(alloc, case)?;
+        let little = survives::<LittleEndian>(alloc, case, forms)?;
+        let big = survives::<BigEndian>(alloc, case, forms)?;
         expect_at(rt, little && big, case.about);
     }
     Ok(())
@@ -135,7 +141,16 @@ fn all_survive(rt: &impl Abort, alloc: Global, cases: &[Case]) -> Result<(), Fai
 #[test]
 fn what_is_left_of_packed_nodes(rt: HostRuntime) -> Result<(), Fail> {
     for cases in [files(), changes(), replaced(), plain(), bases()] {
-        all_survive(&rt, rt.alloc(), cases)?;
+        all_survive(&rt, rt.alloc(), cases, NodeForms::Packed)?;
+    }
+    Ok(())
+}
+
+/// On a compressed base too.
+#[test]
+fn what_is_left_of_nodes_in_their_own_forms(rt: HostRuntime) -> Result<(), Fail> {
+    for cases in [plain(), bases()] {
+        all_survive(&rt, rt.alloc(), cases, NodeForms::Own)?;
     }
     Ok(())
 }

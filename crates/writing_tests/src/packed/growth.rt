@@ -8,7 +8,7 @@ use byteorder::LittleEndian;
 use flashbase::pad4;
 use jlog::{Flash, Place, SessionFault};
 use jmount::Mounted;
-use jpacked::PackingSession;
+use jpacked::{NodeForms, PackingSession};
 use jscan::{Geometry, Page};
 use jsteps::Op;
 use jthrough::mount_through;
@@ -45,7 +45,11 @@ fn output_of(alloc: Global, ops: &[Op<'_>]) -> Option<Vec<u8>> {
     let mounted = mount_through::<LittleEndian>(alloc, &[], FLASH.geometry, &mut contents).ok()?;
     let sink = Taker::new(alloc);
     let mut session = PackingSession::<LittleEndian, Taker>::resume(
-        alloc, &mounted, FLASH, sink,
+        alloc,
+        &mounted,
+        FLASH,
+        NodeForms::Packed,
+        sink,
     ).ok()?;
     let report = session.run(alloc, ops);
     match report.stopped {
@@ -103,9 +107,11 @@ fn log_on<'b>(
 ) -> Result<Log<'b>, Matcher<'b>>
     requires { IsMountThroughOf Little 8192 mounted.now }
 {
-    match Log::resume(alloc, mounted, FLASH, sink) {
+    match Log::resume(alloc, mounted, FLASH, NodeForms::Packed, sink) {
         Ok(log) => Ok(log),
-        Err((_, sink)) => Log::resume(alloc, mounted, FLASH, sink).map_err(|(_, sink)| sink),
+        Err((_, sink)) => {
+            Log::resume(alloc, mounted, FLASH, NodeForms::Packed, sink).map_err(|(_, sink)| sink)
+        }
     }
 }
 

@@ -8,6 +8,7 @@ use crate::packed::sessions::{Outcome, run_in_row};
 use byteorder::{BigEndian, LittleEndian};
 use jlog::Flash;
 use jnode::Order;
+use jpacked::NodeForms;
 use jrow::{Row, RowOnFlash, put_with_row, written_len};
 use jscan::{Geometry, Page};
 use jthrough::mount_through;
@@ -32,11 +33,16 @@ fn image_of<E: Order>(alloc: Global, case: &Case) -> Result<Vec<u8>, Fail> {
 }
 
 /// What the operations of a case put into the row of an image.
-fn run_of<E: Order>(alloc: Global, case: &Case, image: &[u8]) -> Result<Outcome, Fail> {
+fn run_of<E: Order>(
+    alloc: Global,
+    case: &Case,
+    image: &[u8],
+    forms: NodeForms,
+) -> Result<Outcome, Fail> {
     let ops = ops_in_time(alloc, case.lines)?;
     let mut contents = Vec::new(alloc);
     let mounted = mount_through::<E>(alloc, image, FLASH.geometry, &mut contents)?;
-    run_in_row::<E>(alloc, &mounted, FLASH, &ops)
+    run_in_row::<E>(alloc, &mounted, FLASH, forms, &ops)
 }
 
 /// The image after so many bytes went out to its row.
@@ -64,13 +70,14 @@ fn is_placed(image: &[u8], left: &[u8], written: &[u8]) -> bool {
 }
 
 /// Whether each stop leaves the state after the steps whose forms are whole.
-fn survives<E: Order>(alloc: Global, case: &Case) -> Result<bool, Fail> {
+fn survives<E: Order>(alloc: Global, case: &Case, forms: NodeForms) -> Result<bool, Fail> {
     let image = image_of::<E>(alloc, case)?;
-    let run = run_of::<E>(alloc, case, &image)?;
+    let run = run_of::<E>(alloc, case, &image, forms)?;
     let states = states_of(alloc, case)?;
     let mut is_well = run.from == 8192
         && run.report.accepted == case.lines.len()
-        && run.report.places.len() == case.steps.len();
+        && run.report.places.len() == case.steps.len()
+        && (run.output.len() <= case.most) == (forms == NodeForms::Packed);
     for count in 0..run.output.len() + 1 {
         let written = run.output.get(..count).unwrap_or(&[]);
         let left = left_after::<E>(alloc, &image, written)?;
@@ -81,10 +88,15 @@ fn survives<E: Order>(alloc: Global, case: &Case) -> Result<bool, Fail> {
     Ok(is_well)
 }
 
-fn all_survive(rt: &impl Abort, alloc: Global, cases: &[Case]) -> Result<(), Fail> {
+fn all_survive(
+    rt: &impl Abort,
+    alloc: Global,
+    cases: &[Case],
+    forms: NodeForms,
+) -> Result<(), Fail> {
     for case in cases {
-        let little = survives::<LittleEndian>(alloc, case)?;
-        let big = survives::<BigEndian>(alloc, case)?;
+        let little = survives::<LittleEndian>(alloc, case, forms)?;
+        let big = survives::<BigEndian>(alloc, case, forms)?;
         expect_at(rt, little && big, case.about);
     }
     Ok(())
@@ -92,5 +104,10 @@ fn all_survive(rt: &impl Abort, alloc: Global, cases: &[Case]) -> Result<(), Fai
 
 #[test]
 fn what_is_left_of_updates(rt: HostRuntime) -> Result<(), Fail> {
-    all_survive(&rt, rt.alloc(), bases())
+    all_survive(&rt, rt.alloc(), bases(), NodeForms::Packed)
+}
+
+#[test]
+fn what_is_left_of_updates_in_their_own_forms(rt: HostRuntime) -> Result<(), Fail> {
+    all_survive(&rt, rt.alloc(), bases(), NodeForms::Own)
 }

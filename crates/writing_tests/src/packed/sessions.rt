@@ -1,4 +1,4 @@
-//! Operations run packed onto an image. What may fail while a mounted image or a session lives is a
+//! Operations run onto an image, packed or not. What may fail while a mounted image or a session lives is a
 //! call of its own: each `?` proves anew that all that lives is dropped.
 
 ghost use Rattle.std.specs.Prelude.{◌≡◌, ◌≤◌, ◌*◌, true};
@@ -10,7 +10,7 @@ ghost use Rattle.jview.specs.Through.{IsMountThroughOf};
 use jlog::{Flash, RunReport, SessionFault};
 use jmount::Mounted;
 use jnode::Order;
-use jpacked::PackingSession;
+use jpacked::{NodeForms, PackingSession};
 use jrow::Row;
 use jsteps::Op;
 use jthrough::mount_through;
@@ -26,14 +26,17 @@ pub struct Outcome {
     pub report: RunReport,
 }
 
-fn session_on<E: Order>(
+/// A session on a mounted image.
+pub fn session_on<E: Order>(
     alloc: Global,
     mounted: &Mounted<'_>,
     flash: Flash,
+    forms: NodeForms,
+    sink: Taker,
 ) -> Result<PackingSession<E, Taker>, SessionFault>
     requires { IsMountThroughOf E.order flash.geometry.block mounted.now }
 {
-    match PackingSession::<E, Taker>::resume(alloc, mounted, flash, Taker::new(alloc)) {
+    match PackingSession::<E, Taker>::resume(alloc, mounted, flash, forms, sink) {
         Ok(session) => Ok(session),
         Err((fault, _)) => Err(fault),
     }
@@ -43,11 +46,12 @@ fn run_on<E: Order>(
     alloc: Global,
     mounted: &Mounted<'_>,
     flash: Flash,
+    forms: NodeForms,
     ops: &[Op<'_>],
 ) -> Result<Outcome, Fail>
     requires { IsMountThroughOf E.order flash.geometry.block mounted.now }
 {
-    let mut session = session_on::<E>(alloc, mounted, flash)?;
+    let mut session = session_on::<E>(alloc, mounted, flash, forms, Taker::new(alloc))?;
     let from = session.cursor();
     let report = session.run(alloc, ops);
     Ok(Outcome {
@@ -63,12 +67,14 @@ fn session_in_row<E: Order>(
     mounted: &Mounted<'_>,
     flash: Flash,
     row: &Row,
+    forms: NodeForms,
 ) -> Result<PackingSession<E, Taker>, SessionFault>
     requires through { IsMountThroughOf E.order flash.geometry.block mounted.now }
     requires row { row.now
         ≡ blank_blocks E.order flash.geometry.block flash.blocks (base_of_mount mounted.now) }
 {
-    match PackingSession::<E, Taker>::resume_in_row(alloc, mounted, flash, row, Taker::new(alloc)) {
+    let sink = Taker::new(alloc);
+    match PackingSession::<E, Taker>::resume_in_row(alloc, mounted, flash, row, forms, sink) {
         Ok(session) => Ok(session),
         Err((fault, _)) => Err(fault),
     }
@@ -79,13 +85,14 @@ fn run_with<E: Order>(
     mounted: &Mounted<'_>,
     flash: Flash,
     row: &Row,
+    forms: NodeForms,
     ops: &[Op<'_>],
 ) -> Result<Outcome, Fail>
     requires through { IsMountThroughOf E.order flash.geometry.block mounted.now }
     requires row { row.now
         ≡ blank_blocks E.order flash.geometry.block flash.blocks (base_of_mount mounted.now) }
 {
-    let mut session = session_in_row::<E>(alloc, mounted, flash, row)?;
+    let mut session = session_in_row::<E>(alloc, mounted, flash, row, forms)?;
     let from = session.cursor();
     let report = session.run(alloc, ops);
     Ok(Outcome {
@@ -95,11 +102,12 @@ fn run_with<E: Order>(
     })
 }
 
-/// Runs operations packed into the row of a mounted image.
+/// Runs operations into the row of a mounted image, in these forms.
 pub fn run_in_row<E: Order>(
     alloc: Global,
     mounted: &Mounted<'_>,
     flash: Flash,
+    forms: NodeForms,
     ops: &[Op<'_>],
 ) -> Result<Outcome, Fail>
     requires through { IsMountThroughOf E.order flash.geometry.block mounted.now }
@@ -108,17 +116,18 @@ pub fn run_in_row<E: Order>(
 {
     let image = mounted.image();
     let row = Row::of::<E>(alloc, image, flash.geometry, flash.blocks)?;
-    run_with::<E>(alloc, mounted, flash, &row, ops)
+    run_with::<E>(alloc, mounted, flash, &row, forms, ops)
 }
 
-/// Runs operations packed onto an image.
-pub fn run_packed<E: Order>(
+/// Runs operations onto an image, in these forms.
+pub fn run_in<E: Order>(
     alloc: Global,
     image: &[u8],
     flash: Flash,
+    forms: NodeForms,
     ops: &[Op<'_>],
 ) -> Result<Outcome, Fail> {
     let mut contents = Vec::new(alloc);
     let mounted = mount_through::<E>(alloc, image, flash.geometry, &mut contents)?;
-    run_on::<E>(alloc, &mounted, flash, ops)
+    run_on::<E>(alloc, &mounted, flash, forms, ops)
 }

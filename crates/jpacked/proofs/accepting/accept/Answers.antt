@@ -1,4 +1,4 @@
-use Rattle.std.proofs.Common.{List, [], subst, sym}
+use Rattle.std.proofs.Common.{List, [], is_some, subst, sym}
 use Rattle.jscan.specs.Pages.{page_size}
 use Rattle.jsteps.specs.declared.step.Step.{Step}
 use Rattle.jsteps.proofs.FewLemmas.{sizes_are_pages}
@@ -20,5 +20,5 @@ choose_fitting-requires-clause-steps g c =
 pub returns-clause-declined : goal.returns-clause-declined
 returns-clause-declined g c =
     let r = c.args.room.now in
-    declines r.held (flash_by (page_size r.page) g.E.Order.order r.flash.size r.flash.count) (log_at r.cursor c.args.index.now []) c.args.op.now c.in_ok-steps.steps.items c.deref.result.now c.in-Err.fault
+    declines (is_some c.args.packing.now) r.held (flash_by (page_size r.page) g.E.Order.order r.flash.size r.flash.count) (log_at r.cursor c.args.index.now []) c.args.op.now c.in_ok-steps.steps.items c.deref.result.now c.in-Err.fault
     c.in_ok-steps.ensures.planned c.deref.ensures.value c.in-Err.ensures.none

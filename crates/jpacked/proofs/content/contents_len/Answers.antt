@@ -1,6 +1,5 @@
-use Rattle.std.proofs.Common.{rules, ◌≡◌, ◌≤◌, ◌+◌, ℕ, ap, sym, subst, ◌∙◌, arith, length}
+use Rattle.std.proofs.Common.{rules, ◌≤◌, ◌+◌, ap, ◌∙◌, arith, length}
 use Rattle.jscan.specs.ImageLeft.{image_left}
-use Rattle.jscan.specs.Scans.{image_extents}
 use Rattle.jexpand.specs.Expanded.{tile_content}
 use Rattle.jpacked.proofs.CountLemmas.{counting_start, counting_sighted, counting_sound, counting_small, counting_next, counting_skip, counting_end}
 use Rattle.jpacked.proofs.content.contents_len.Goals as goal

@@ -1,7 +1,6 @@
-use Rattle.std.proofs.Common.{rules, ◌≡◌, ◌∙◌, List, [], Ok, Err, true, refl, subst, sym, ap}
+use Rattle.std.proofs.Common.{rules, is_some, ◌∙◌, [], Ok, Err, true, refl, subst, sym, ap}
 use Rattle.std.specs.Prelude.{IsFalse}
 use Rattle.jscan.specs.Pages.{page_size}
-use Rattle.jsteps.specs.declared.step.Step.{Step}
 use Rattle.jsteps.proofs.FewLemmas.{sizes_are_pages}
 use Rattle.jlog.specs.Running.{log_at, CanWriteAll}
 use Rattle.jlog.specs.Session.{IsGoing}
@@ -32,7 +31,7 @@ invariant_of-self-in-Ok g c =
     let t = c.in_ok-steps.field-0 in
     let whole : IsFalse s.broken = search rules in
     let log = c.put_steps.new.log in
-    let chosen : IsChosenFor (packs_by s.held (page_size s.page) e s.block s.blocks) (log_at s.log.cursor s.log.index []) o t.steps.items t.chosen.streams.items t.chosen.held = c.in_ok-steps.ensures.accepted in
+    let chosen : IsChosenFor (packs_by (is_some s.packing) s.held (page_size s.page) e s.block s.blocks) (log_at s.log.cursor s.log.index []) o t.steps.items t.chosen.streams.items t.chosen.held = c.in_ok-steps.ensures.accepted in
     let put = puts_same e s.block s.log.cursor s.log.index c.deref.result.now t.steps.items c.deref-2.result.now t.chosen.streams.items log.cursor log.index (g.S.Sink.taken s.log.sink) (g.S.Sink.taken log.sink)
     (g.S.Sink.failures s.log.sink) (g.S.Sink.failures log.sink) c.reserve.new.self.items c.args.places.now.items c.put_steps.new.places.items c.put_steps.result (Ok (tt {0}))
     c.deref.ensures.value c.deref-2.ensures.value c.in_ok-reserve.ensures.items c.in-Ok.is c.put_steps.ensures in
@@ -54,11 +53,11 @@ returns-in-Ok-clause-applies g c =
     let t = c.in_ok-steps.field-0 in
     let whole : IsFalse s.broken = search rules in
     let log = c.put_steps.new.log in
-    let chosen : IsChosenFor (packs_by s.held (page_size s.page) e s.block s.blocks) (log_at s.log.cursor s.log.index []) o t.steps.items t.chosen.streams.items t.chosen.held = c.in_ok-steps.ensures.accepted in
+    let chosen : IsChosenFor (packs_by (is_some s.packing) s.held (page_size s.page) e s.block s.blocks) (log_at s.log.cursor s.log.index []) o t.steps.items t.chosen.streams.items t.chosen.held = c.in_ok-steps.ensures.accepted in
     let put = puts_same e s.block s.log.cursor s.log.index c.deref.result.now t.steps.items c.deref-2.result.now t.chosen.streams.items log.cursor log.index (g.S.Sink.taken s.log.sink) (g.S.Sink.taken log.sink)
     (g.S.Sink.failures s.log.sink) (g.S.Sink.failures log.sink) c.reserve.new.self.items c.args.places.now.items c.put_steps.new.places.items c.put_steps.result (Ok (tt {0}))
     c.deref.ensures.value c.deref-2.ensures.value c.in_ok-reserve.ensures.items c.in-Ok.is c.put_steps.ensures in
-    took_all s.held t.chosen.held (page_size s.page) e s.block s.blocks s.log.cursor s.log.index o t.steps.items t.chosen.streams.items s.broken s.broken log.cursor log.index (g.S.Sink.taken s.log.sink) (g.S.Sink.taken log.sink)
+    took_all (is_some s.packing) s.held t.chosen.held (page_size s.page) e s.block s.blocks s.log.cursor s.log.index o t.steps.items t.chosen.streams.items s.broken s.broken log.cursor log.index (g.S.Sink.taken s.log.sink) (g.S.Sink.taken log.sink)
     (g.S.Sink.failures s.log.sink) (g.S.Sink.failures log.sink) c.args.places.now.items c.put_steps.new.places.items [] whole whole chosen put
 
 pub returns-in-Err-Begun-clause-applies : goal.returns-in-Err-Begun-clause-applies
@@ -69,11 +68,11 @@ returns-in-Err-Begun-clause-applies g c =
     let t = c.in_ok-steps.field-0 in
     let whole : IsFalse s.broken = search rules in
     let log = c.put_steps.new.log in
-    let chosen : IsChosenFor (packs_by s.held (page_size s.page) e s.block s.blocks) (log_at s.log.cursor s.log.index []) o t.steps.items t.chosen.streams.items t.chosen.held = c.in_ok-steps.ensures.accepted in
+    let chosen : IsChosenFor (packs_by (is_some s.packing) s.held (page_size s.page) e s.block s.blocks) (log_at s.log.cursor s.log.index []) o t.steps.items t.chosen.streams.items t.chosen.held = c.in_ok-steps.ensures.accepted in
     let put = puts_same e s.block s.log.cursor s.log.index c.deref.result.now t.steps.items c.deref-2.result.now t.chosen.streams.items log.cursor log.index (g.S.Sink.taken s.log.sink) (g.S.Sink.taken log.sink)
     (g.S.Sink.failures s.log.sink) (g.S.Sink.failures log.sink) c.reserve.new.self.items c.args.places.now.items c.put_steps.new.places.items c.put_steps.result (Err stop.Begun)
     c.deref.ensures.value c.deref-2.ensures.value c.in_ok-reserve.ensures.items (c.in-Err-Begun.is ∙ ap (λ (it : Stop). Err it) c.in-Err-Begun.field-0-is) c.put_steps.ensures in
-    took_begun s.held t.chosen.held (page_size s.page) e s.block s.blocks s.log.cursor s.log.index o t.steps.items t.chosen.streams.items s.broken true log.cursor log.index (g.S.Sink.taken s.log.sink) (g.S.Sink.taken log.sink)
+    took_begun (is_some s.packing) s.held t.chosen.held (page_size s.page) e s.block s.blocks s.log.cursor s.log.index o t.steps.items t.chosen.streams.items s.broken true log.cursor log.index (g.S.Sink.taken s.log.sink) (g.S.Sink.taken log.sink)
     (g.S.Sink.failures s.log.sink) (g.S.Sink.failures log.sink) c.args.places.now.items c.put_steps.new.places.items [] whole refl chosen put
 
 pub returns-clause-applies : goal.returns-clause-applies
@@ -84,9 +83,9 @@ returns-clause-applies g c =
     let t = c.in_ok-steps.field-0 in
     let whole : IsFalse s.broken = search rules in
     let log = c.put_steps.new.log in
-    let chosen : IsChosenFor (packs_by s.held (page_size s.page) e s.block s.blocks) (log_at s.log.cursor s.log.index []) o t.steps.items t.chosen.streams.items t.chosen.held = c.in_ok-steps.ensures.accepted in
+    let chosen : IsChosenFor (packs_by (is_some s.packing) s.held (page_size s.page) e s.block s.blocks) (log_at s.log.cursor s.log.index []) o t.steps.items t.chosen.streams.items t.chosen.held = c.in_ok-steps.ensures.accepted in
     let put = puts_same e s.block s.log.cursor s.log.index c.deref.result.now t.steps.items c.deref-2.result.now t.chosen.streams.items log.cursor log.index (g.S.Sink.taken s.log.sink) (g.S.Sink.taken log.sink)
     (g.S.Sink.failures s.log.sink) (g.S.Sink.failures log.sink) c.reserve.new.self.items c.args.places.now.items c.put_steps.new.places.items c.put_steps.result (Err stop.Sink)
     c.deref.ensures.value c.deref-2.ensures.value c.in_ok-reserve.ensures.items (c.in-Err-Sink.is ∙ ap (λ (it : Stop). Err it) c.in-Err-Sink.field-0-is) c.put_steps.ensures in
-    took_sink s.held t.chosen.held (page_size s.page) e s.block s.blocks s.log.cursor s.log.index o t.steps.items t.chosen.streams.items s.broken true log.cursor log.index (g.S.Sink.taken s.log.sink) (g.S.Sink.taken log.sink)
+    took_sink (is_some s.packing) s.held t.chosen.held (page_size s.page) e s.block s.blocks s.log.cursor s.log.index o t.steps.items t.chosen.streams.items s.broken true log.cursor log.index (g.S.Sink.taken s.log.sink) (g.S.Sink.taken log.sink)
     (g.S.Sink.failures s.log.sink) (g.S.Sink.failures log.sink) c.args.places.now.items c.put_steps.new.places.items [] whole refl chosen put

@@ -1,6 +1,6 @@
-use Rattle.std.proofs.Common.{◌≡◌, ◌∙◌, ◌+◌, ◌≤◌, ℕ, List, ap, refl, subst, sym, arith, length}
+use Rattle.std.proofs.Common.{◌≡◌, ◌∙◌, ◌≤◌, ℕ, List, ap, refl, subst, sym, arith, length}
 use Rattle.jmount.specs.Mount.{Mount}
-use Rattle.jsteps.specs.Nodes.{Indexed, indexed}
+use Rattle.jsteps.specs.Nodes.{indexed}
 use Rattle.jexpand.specs.Expanded.{unpacked_bytes}
 use Rattle.jview.specs.Through.{greatest_contents, IsSoundThrough}
 use Rattle.jlog.specs.Session.{IsGoing}
@@ -15,7 +15,7 @@ invariant_of-result g c =
     let e = g.E.Order.order in
     let a = c.args in
     let m : Mount = a.mounted.now in
-    let index : c.in-Ok.parts.0 ≡ indexed m = c.in-Ok.ensures in
+    let index : c.in-Ok.parts.0 ≡ indexed m = c.in-Ok.ensures.index in
     let sound : length (unpacked_bytes e a.flash.geometry.block m.image) ≤ greatest_contents = c.requires.through.mounts.sound.contents in
     record {
       flash = c.requires.writable;
@@ -32,7 +32,7 @@ returns-clause-begun g c =
       block = refl;
       blocks = refl;
       page = refl;
-      index = c.in-Ok.ensures;
+      index = c.in-Ok.ensures.index;
       held = c.contents_len.ensures ∙ ap (λ (l : List ℕ). length (unpacked_bytes e a.flash.geometry.block l)) c.image.ensures;
       cursor = refl;
       whole = refl;

@@ -1,4 +1,4 @@
-use Rattle.std.proofs.Common.{◌≡◌, ◌∙◌, ◌+◌, ℕ, [], Ok, ap, refl, subst, sym, arith, length}
+use Rattle.std.proofs.Common.{◌≡◌, ◌∙◌, ℕ, [], Ok, ap, refl, subst, sym, arith}
 use Rattle.flashbase.specs.Ranges.{AreBytes}
 use Rattle.jscan.specs.Pages.{page_size}
 use Rattle.jmount.specs.Mount.{Mount}

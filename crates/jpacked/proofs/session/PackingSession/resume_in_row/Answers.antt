@@ -1,4 +1,4 @@
-use Rattle.std.proofs.Common.{◌≡◌, ◌∙◌, ◌+◌, ℕ, List, [], Ok, ap, refl, subst, sym, arith, length}
+use Rattle.std.proofs.Common.{◌≡◌, ◌∙◌, ℕ, List, [], Ok, ap, subst, sym, arith}
 use Rattle.flashbase.specs.Ranges.{AreBytes}
 use Rattle.jscan.specs.Pages.{page_size}
 use Rattle.jmount.specs.Mount.{Mount}
@@ -6,7 +6,7 @@ use Rattle.jsteps.specs.Nodes.{indexed}
 use Rattle.jlog.specs.Resuming.{resumes_by}
 use Rattle.jlog.specs.Session.{IsGoing}
 use Rattle.jlog.specs.SessionAsLaws.{held_by}
-use Rattle.jrow.specs.Arranged.{arranged, row_start}
+use Rattle.jrow.specs.Arranged.{arranged}
 use Rattle.jpacked.proofs.BeginLemmas.{begins_in_row, done_by, resumed_is_ok}
 use Rattle.jpacked.proofs.session.PackingSession.resume_in_row.Goals as goal
 

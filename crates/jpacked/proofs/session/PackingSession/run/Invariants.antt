@@ -1,4 +1,4 @@
-use Rattle.std.proofs.Common.{◌≡◌, ◌≤◌, ◌+◌, ◌-◌, ℕ, List, [], length, take}
+use Rattle.std.proofs.Common.{◌≡◌, ◌≤◌, ◌+◌, ◌-◌, ℕ, is_some, List, length, take}
 use Rattle.std.specs.List.{AllByRecursion}
 use Rattle.jscan.specs.Pages.{page_size}
 use Rattle.jsteps.specs.Laws.{OpFits}
@@ -13,9 +13,10 @@ invariant-loop-accepted g l = record {
   block : l.self.block ≡ l.initial.self.block;
   blocks : l.self.blocks ≡ l.initial.self.blocks;
   page : l.self.page ≡ l.initial.self.page;
+  packs : is_some l.self.packing ≡ is_some l.initial.self.packing;
   broken : l.self.broken ≡ l.initial.self.broken;
   forms : List (List ℕ);
-  run : RunBy l.initial.self.held (page_size l.initial.self.page) g.E.Order.order l.initial.self.block l.initial.self.blocks l.initial.self.log.cursor l.initial.self.log.index l.ops l.accepted forms l.self.log.cursor l.self.log.index
+  run : RunBy (is_some l.initial.self.packing) l.initial.self.held (page_size l.initial.self.page) g.E.Order.order l.initial.self.block l.initial.self.blocks l.initial.self.log.cursor l.initial.self.log.index l.ops l.accepted forms l.self.log.cursor l.self.log.index
       (g.S.Sink.taken l.initial.self.log.sink) (g.S.Sink.taken l.self.log.sink) l.places.items;
   held : l.self.held ≡ l.initial.self.held + content_len g.E.Order.order forms;
   none_failed : g.S.Sink.failures l.self.log.sink ≡ g.S.Sink.failures l.initial.self.log.sink;
