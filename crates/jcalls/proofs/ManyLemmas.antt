@@ -1,6 +1,5 @@
 -- Many reads, one after another.
-use Rattle.std.proofs.Common.{◌≡◌, ◌<◌, ◌≤◌, ℕ, ◌+◌, ◌-◌, List, [], ◌∷◌, ◌++◌, length, get_or, take, drop, set, min, refl, sym, ap, ◌∙◌, arith, append_assoc, append-nil, length-append, slice_index_or, slice_set}
-use Rattle.std.specs.List.{flat_map, sum_by}
+use Rattle.std.proofs.Common.{◌≡◌, ◌<◌, ◌≤◌, ℕ, ◌+◌, List, [], ◌∷◌, ◌++◌, length, get_or, take, drop, set, refl, sym, ap, ◌∙◌, arith, append_assoc, length-append, slice_index_or, slice_set}
 use Rattle.std.proofs.lemmas.List.{take_more, drop_more, drop-drop, flat_map_more, set_at, take_at, drop_at, get_or_at, length-take, length-drop}
 use Rattle.std.proofs.lemmas.List.Sums.{sum_by_more, sum_by-cons, sum_by_more_le}
 use Rattle.jmount.specs.Shown.{readable}

@@ -1,5 +1,5 @@
 -- The rows of the nodes of an image, one after another.
-use Rattle.std.proofs.Common.{◌≡◌, ◌<◌, ◌≤◌, ◌+◌, ℕ, List, [], ◌∷◌, length, refl, sym, ap, ◌∙◌, subst, Option, Some, None, slice_set}
+use Rattle.std.proofs.Common.{◌≡◌, ◌<◌, ◌≤◌, ◌+◌, ℕ, List, ◌∷◌, length, sym, ap, subst, Some, None, slice_set}
 use Rattle.std.specs.Prelude.{Contains, filter_map}
 use Rattle.flashbase.proofs.MemberLemmas.{Contains-filter_map, Contains-here, Contains-there}
 use Rattle.jnode.specs.declared.order.Endian.{Endian}
@@ -8,7 +8,6 @@ use Rattle.jscan.specs.Extents.{sighted, sighted_by}
 use Rattle.jscan.specs.Image.{sightings}
 use Rattle.jscan.specs.Scans.{image_extents}
 use Rattle.jscan.specs.declared.extent.Extent.{Extent}
-use Rattle.jscan.specs.declared.extent.ExtentKind.{ExtentKind}
 use Rattle.jscan.specs.declared.extent.ExtentKind.TheVariants.{Tiled}
 use Rattle.jscan.proofs.ImageLemmas.{image_sighted}
 use Rattle.jcalls.specs.NodeRows.{node_row, node_rows}

@@ -1,5 +1,5 @@
 -- Rows, given into memory of the caller.
-use Rattle.std.specs.Prelude.{◌≡◌, ◌≢◌, ◌<◌, ℕ, ◌++◌, List, length, drop, take}
+use Rattle.std.specs.Prelude.{◌≡◌, ◌<◌, ℕ, ◌++◌, List, length, drop, take}
 
 -- as many as there is room for, one after another
 abbrev pub rows_given : {R : Type 0} → List R → List R → List R

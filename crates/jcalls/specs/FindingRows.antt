@@ -1,5 +1,5 @@
 -- The findings of an image, as rows.
-use Rattle.std.specs.Prelude.{◌≡◌, ◌<◌, ℕ, ◌++◌, List, length, drop, take, filter_map, Option, Some, None, option_map}
+use Rattle.std.specs.Prelude.{ℕ, List, filter_map, Option, Some, None, option_map}
 use Rattle.jnode.specs.Reading.{damage_number}
 use Rattle.jnode.specs.declared.node.Seen.{Seen}
 use Rattle.jnode.specs.declared.node.Seen.TheVariants as seen

@@ -20,7 +20,7 @@ loop-extent-preserved-in-Some-found_row g c =
     let all = finding_rows g.E.Order.order c.args.block c.args.image.now in
     let before = subst (λ (ss : List Extent). FilledSoFar all (filter_map found_row ss) c.args.rows.now c.loop-extent.rows c.loop-extent.count) c.in-Some.ensures.steps c.loop-extent.invariant in
     elim c.if-count-rows.branch [
-      then-count-rows w ↦
+      | then-count-rows w ↦
           subst (λ rows. FilledSoFar all (filter_map found_row (image_left c.next.new.self)) c.args.rows.now rows (c.loop-extent.count + 1)) (sym w.rows-is)
           (filling_gives found_row c.in-Some.extent (image_left c.next.new.self) all c.args.rows.now c.loop-extent.rows c.loop-extent.count c.in-Some-found_row.row
           (sym c.in-Some-found_row.ensures) w.if-count-rows.true c.loop-extent.auto.rows before)

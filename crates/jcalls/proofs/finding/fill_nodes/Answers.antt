@@ -18,7 +18,7 @@ pub loop-extent-preserved-in-Some-node_row : goal.loop-extent-preserved-in-Some-
 loop-extent-preserved-in-Some-node_row g c =
     let e = g.E.Order.order in
     elim c.if-count-rows.branch [
-      then-count-rows w ↦
+      | then-count-rows w ↦
           subst (λ rows. NodesSoFar e c.args.block c.args.image.now (image_left c.next.new.self) c.args.rows.now rows (c.loop-extent.count + 1)) (sym w.rows-is)
           (nodes_give e c.args.block c.args.image.now c.in-Some.extent _ (image_left c.next.new.self) c.args.rows.now c.loop-extent.rows c.loop-extent.count c.in-Some-node_row.row
           c.in-Some.ensures.steps (sym c.in-Some-node_row.ensures) w.if-count-rows.true c.loop-extent.auto.rows c.loop-extent.invariant)
