@@ -55,7 +55,7 @@ cd "$folder" || exit 1
 same "what the archive asks for" "$(nm -u "$archive" | awk '$1 == "U" { print $2 }' | sort -u | xargs)" \
     "memcpy memmove memset rattle_alloc rattle_dealloc rattle_realloc"
 same "what it gives" "$(nm "$archive" | awk '$2 == "T" { print $3 }' | grep '^jffs2_' | sort | xargs)" \
-    "$(grep -o 'jffs2_[a-z]*(' "$header/jffs2.h" | tr -d '(' | sort -u | xargs)"
+    "$(grep -o 'jffs2_[a-z_]*(' "$header/jffs2.h" | tr -d '(' | sort -u | xargs)"
 # bytes that can change, from one call to the next: none
 same "what it keeps" "$(size -A "$archive" | awk '$1 ~ /^\.(data|bss|tdata|tbss|init_array)(\.|$)/ && $2 { print $1 }')" ""
 
@@ -129,6 +129,22 @@ if has python3 && has cc; then
         does "Python: $image decompressed" cmp plain.img "$image.plain"
         "$program" compress --block 8192 "$image.plain" small.wanted > /dev/null
         does "Python: $image compressed" cmp small.img small.wanted
+    done
+    # nodes and findings of ten images: whole, decompressed, in big-endian order, cut and damaged
+    cp "$data/lzo.img" lzo.plain
+    cp "$data/lzma_big.img" big.plain
+    for image in $images; do
+        head -c 5001 "$data/$image.img" > "$image.cut.plain"
+    done
+    python3 -c 'import sys; it = bytearray(sys.stdin.buffer.read()); it[::97] = bytes(len(it[::97])); sys.stdout.buffer.write(it)' \
+        < "$data/default.img" > dirty.plain
+    cat "$data/default.img" big.plain > both.plain
+    for image in *.plain; do
+        order=()
+        [[ $(python3 -c 'import jffs2, sys; print(jffs2.info(open(sys.argv[1], "rb").read()).order)' "$image") == big ]] && order=(--endian big)
+        python3 python/tests/rows_as_program.py "$image" 8192 > found
+        "$program" check --scan --block 8192 "${order[@]}" "$image" | grep -v -e '^block ' -e '^total ' -e ' erased ' > wanted
+        does "Python: the nodes and findings of $image" diff found wanted
     done
     does "Python: the header, the exports and the module agree" python3 "$header/tests/agree.py" "$top"
 fi

@@ -15,9 +15,9 @@
  * - It answers JFFS2_OK, or one of the numbers below. At such a number the memory for the answer
  *   is as it was before the call. Then `fault` says where, but for JFFS2_SMALL, at which `needed`
  *   says how much memory the answer takes. Ask with length 0 first, or guess.
- * - jffs2_stat, jffs2_read, jffs2_tree, jffs2_decompress and jffs2_compress take memory from
- *   rattle_alloc, rattle_realloc and rattle_dealloc (jffs2_heap.c, over malloc), and give it back
- *   before they return. The others take none. */
+ * - jffs2_crc, jffs2_info, jffs2_check, jffs2_findings and jffs2_nodes take no memory. The others
+ *   take it from rattle_alloc, rattle_realloc and rattle_dealloc (jffs2_heap.c, over malloc), and
+ *   give it back before they return. */
 #ifndef JFFS2_H
 #define JFFS2_H
 #include <stddef.h>
@@ -52,7 +52,8 @@ typedef struct jffs2_how {
     uint32_t block;   /* the bytes of an erase block: 4096 to 4194304, a multiple of 4 */
     uint32_t big;     /* 0: little-endian order; any other number: big-endian order */
     uint32_t through; /* 0: compressed data are refused; any other number: they are read through.
-                         Only jffs2_stat, jffs2_read and jffs2_tree look at it. */
+                         Only jffs2_stat, jffs2_read, jffs2_read_many and jffs2_tree look
+                         at it. */
 } jffs2_how;
 
 /* Where a fault is: the address of a node, and its type or the number of its compression; 0 where
@@ -95,6 +96,57 @@ typedef struct jffs2_needed {
     uint64_t bytes;
 } jffs2_needed;
 
+/* Bytes of an object that are asked for, and where they are. */
+typedef struct jffs2_request {
+    uint32_t number; /* asked: the object */
+    uint32_t spare;  /* not read, and left as it is */
+    uint64_t offset; /* asked: the first byte */
+    uint64_t length; /* asked: how many bytes at most */
+    uint64_t at;     /* answered: where they begin in `out` */
+    uint64_t got;    /* answered: how many there are */
+} jffs2_request;
+
+/* What was found at an address. */
+typedef struct jffs2_finding_row {
+    uint32_t address;
+    uint32_t length; /* in bytes */
+    uint32_t kind;   /* 1: a damaged node; 2: one of extended attributes; 3: one after which nothing
+                        may be written; 4: words of the other order; 5: other words; 6: a node that
+                        may not be skipped; 7: a sound inode node whose data are compressed */
+    uint32_t detail; /* at 1 the check that failed (1 the node's checksum, 2 the name's, 3 the
+                        data's, 4 a length, 5 a range), at 3 and 6 the type, at 7 the number of the
+                        compression; else 0 */
+} jffs2_finding_row;
+
+/* A node: what it is seen as, and each field that is read of it; 0 where it has none. */
+typedef struct jffs2_node_row {
+    uint32_t address;
+    uint32_t length;     /* with the bytes up to the next word */
+    uint32_t kind;       /* 1: an entry; 2: an inode; 3: a clean marker; 4: padding; 5: obsolete; 6: of
+                            extended attributes; 7: of a type that may be passed over; 8: of one
+                            beside which nothing may be written; 9: of one that may not be skipped;
+                            10: an inode whose data are compressed; 11: damaged */
+    uint32_t detail;     /* at 7 to 9 the type, at 11 the check that failed, as of a finding */
+    uint32_t number;     /* the object */
+    uint32_t version;
+    uint32_t directory;  /* of an entry: the directory, the time, the kind of the object */
+    uint32_t entry_time;
+    uint32_t entry_type;
+    uint32_t mode;       /* of an inode */
+    uint32_t uid;
+    uint32_t gid;
+    uint32_t size;       /* of the whole object */
+    uint32_t atime;
+    uint32_t mtime;
+    uint32_t ctime;
+    uint32_t offset;     /* the range of the object's bytes that it gives, and its length */
+    uint32_t range;
+    uint32_t method;     /* how these are stored: 0 as they are, 1 zeros, else the compression */
+    uint32_t spare;      /* 0 */
+    uint64_t stored;     /* in how many bytes of the node, from address + 68 on; of an entry the bytes
+                            of its name, from address + 40 on */
+} jffs2_node_row;
+
 /* What an image tells of itself. Of a range or a number that is not known all is 0. */
 typedef struct jffs2_info_row {
     uint64_t bytes;
@@ -132,6 +184,17 @@ uint32_t jffs2_info(const uint8_t *image, size_t len, jffs2_info_row *info);
 uint32_t jffs2_check(const uint8_t *image, size_t len, const jffs2_how *how,
                      jffs2_counted *counted, jffs2_fault *fault);
 
+/* The findings of any image, in the order of their addresses: those that jffs2_check counts.
+ * JFFS2_BLOCK_SIZE, JFFS2_TOO_LARGE, JFFS2_SMALL or JFFS2_OK; `needed` counts rows. */
+uint32_t jffs2_findings(const uint8_t *image, size_t len, const jffs2_how *how,
+                        jffs2_finding_row *rows, size_t row_count,
+                        size_t *needed, jffs2_fault *fault);
+
+/* The nodes of any image, in the order of their addresses. As jffs2_findings. */
+uint32_t jffs2_nodes(const uint8_t *image, size_t len, const jffs2_how *how,
+                     jffs2_node_row *rows, size_t row_count,
+                     size_t *needed, jffs2_fault *fault);
+
 /* What a path leads to. Symlinks are not followed. 1 to 7, 10 to 12, 20, 21. */
 uint32_t jffs2_stat(const uint8_t *image, size_t len, const jffs2_how *how,
                     const uint8_t *path, size_t path_len,
@@ -142,6 +205,14 @@ uint32_t jffs2_stat(const uint8_t *image, size_t len, const jffs2_how *how,
 uint32_t jffs2_read(const uint8_t *image, size_t len, const jffs2_how *how,
                     uint32_t number, uint64_t offset,
                     uint8_t *out, size_t out_len, size_t *got, jffs2_fault *fault);
+
+/* The bytes of many objects, by one mount: each request is answered as jffs2_read answers it where
+ * `out` has its `length` bytes, and the bytes stand in `out` one request's behind the other's. An
+ * object that is not there has none, and does not stop the others. 1 to 7, 20, 21; JFFS2_SMALL where
+ * there is no room for all bytes; the requests are then as they were. */
+uint32_t jffs2_read_many(const uint8_t *image, size_t len, const jffs2_how *how,
+                         jffs2_request *requests, size_t request_count,
+                         uint8_t *out, size_t out_len, size_t *needed, jffs2_fault *fault);
 
 /* All names, by the number of their directory and then in byte order; the root (number 1) has none.
  * 1 to 7, 20, 21; JFFS2_SMALL where there is no room for all rows or for all bytes of names. */

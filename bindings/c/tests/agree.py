@@ -15,6 +15,9 @@ STRUCTS = {
     "jffs2_stat_row": ("Stat", "Stat", "_Stat"),
     "jffs2_entry": ("Entry", "Entry", "_Entry"),
     "jffs2_needed": ("Needed", "Needed", "_Needed"),
+    "jffs2_request": ("Request", "Request", "_Request"),
+    "jffs2_finding_row": ("FindingRow", "Finding", "_Finding"),
+    "jffs2_node_row": ("NodeRow", "Node", "_Node"),
     "jffs2_info_row": ("InfoRow", "InfoRow", "_InfoRow"),
 }
 RATTLE = {rattle: header for header, (rattle, _, _) in STRUCTS.items()}
@@ -120,7 +123,7 @@ kinds = {"uint32_t": ctypes.c_uint32, "uint64_t": ctypes.c_uint64}
 def main():
     header = text_of("bindings/c/jffs2.h")
     structs, calls = header_structs(header), header_calls(header)
-    rattle = text_of(*(f"crates/jcalls/src/{it}.rt" for it in ("how", "told", "rows")))
+    rattle = text_of(*(f"crates/jcalls/src/{it}.rt" for it in ("how", "told", "rows", "finding_row", "node_row")))
     rust = text_of("bindings/rust/src/sys.rs", "bindings/rust/src/lib.rs")
     pairs = [("calls of crates/jffs2_c", rattle_calls(text_of("crates/jffs2_c/src/lib.rt")), calls)]
     pairs += [("calls of bindings/rust", rust_calls(rust), calls)]

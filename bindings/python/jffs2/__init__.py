@@ -20,9 +20,10 @@ from __future__ import annotations
 import ctypes
 import os
 import sys
+from collections.abc import Iterable
 from typing import Any, NamedTuple
 
-__all__ = ["Counts", "Entry", "Error", "Image", "Info", "Stat", "crc", "info"]
+__all__ = ["Counts", "Entry", "Error", "Finding", "Image", "Info", "Node", "Stat", "crc", "info"]
 
 #: What the numbers of faults mean.
 NAMES = {
@@ -89,6 +90,70 @@ class Entry(NamedTuple):
     stat: Stat | None
 
 
+class Finding(NamedTuple):
+    """What was found at an address beside the nodes that are read. `kind` is a key of FINDINGS. `detail` is the check
+    that failed of a damaged node (a key of CHECKS), the type of a node, or the number of its compression."""
+
+    address: int
+    length: int
+    kind: int
+    detail: int
+
+
+class Node(NamedTuple):
+    """A node: what it is seen as (`kind`, a key of KINDS), and each field that is read of it; 0 if it has none. `stored`
+    is the number of bytes of its data, from `address` + 68 on, or of an entry's name, from `address` + 40 on."""
+
+    address: int
+    length: int
+    kind: int
+    detail: int
+    number: int
+    version: int
+    directory: int
+    entry_time: int
+    entry_type: int
+    mode: int
+    uid: int
+    gid: int
+    size: int
+    atime: int
+    mtime: int
+    ctime: int
+    offset: int
+    range: int
+    method: int
+    stored: int
+
+
+#: What a finding is, by its `kind`.
+FINDINGS = {
+    1: "damaged",
+    2: "attribute",
+    3: "read-only",
+    4: "other-order",
+    5: "dirt",
+    6: "incompatible",
+    7: "compressed",
+}
+#: What a node is seen as, by its `kind`.
+KINDS = {
+    1: "entry",
+    2: "inode",
+    3: "marker",
+    4: "padding",
+    5: "obsolete",
+    6: "attribute",
+    7: "skippable",
+    8: "read-only",
+    9: "incompatible",
+    10: "compressed",
+    11: "damaged",
+}
+#: The check that fails first of a damaged node.
+CHECKS = {1: "node-crc", 2: "name-crc", 3: "data-crc", 4: "length", 5: "range"}
+
+
 class Info(NamedTuple):
     """What an image of unknown block size and byte order tells of itself. `order` is "little", "big", or None where no
     node is good; `least_block` and `greatest_block` are 0 where no size is known."""
@@ -125,6 +190,12 @@ _Entry = _structure(
     [("directory", _U32), ("is_there", _U32), ("object", _Stat), ("name_at", _U64), ("name_len", _U64)],
 )
 _Needed = _structure("_Needed", [("rows", _U64), ("bytes", _U64)])
+_Request = _structure(
+    "_Request",
+    [("number", _U32), ("spare", _U32)] + [(it, _U64) for it in ("offset", "length", "at", "got")],
+)
+_Finding = _structure("_Finding", [(it, _U32) for it in Finding._fields])
+_Node = _structure("_Node", [(it, _U32) for it in (*Node._fields[:-1], "spare")] + [("stored", _U64)])
 _InfoRow = _structure(
     "_InfoRow",
     [("bytes", _U64)]
@@ -138,8 +209,11 @@ _CALLS = {
     "jffs2_crc": [_AT, _LEN],
     "jffs2_info": [_AT, _LEN, _AT],
     "jffs2_check": [*_IMAGE, _AT, _AT],
+    "jffs2_findings": [*_IMAGE, _AT, _LEN, _AT, _AT],
+    "jffs2_nodes": [*_IMAGE, _AT, _LEN, _AT, _AT],
     "jffs2_stat": [*_IMAGE, _AT, _LEN, _AT, _AT],
     "jffs2_read": [*_IMAGE, _U32, _U64, _AT, _LEN, _AT, _AT],
+    "jffs2_read_many": [*_IMAGE, _AT, _LEN, _AT, _LEN, _AT, _AT],
     "jffs2_tree": [*_IMAGE, _AT, _LEN, _AT, _LEN, _AT, _AT],
     "jffs2_decompress": [*_IMAGE, _AT, _LEN, _AT, _AT],
     "jffs2_compress": [*_IMAGE, _AT, _LEN, _AT, _AT],
@@ -200,8 +274,8 @@ def info(data: Any) -> Info:
 class Image:
     """An image in memory, with what it does not tell of itself: the bytes of an erase block, and its byte order.
 
-    `order` is "little" or "big". With `through`, `stat`, `read_at`, `read` and `tree` read compressed data through;
-    without it they raise Compressed at such data. All methods raise Error."""
+    `order` is "little" or "big". With `through`, `stat`, `read_at`, `read`, `read_many` and `tree` read compressed
+    data through; without it they raise Compressed at such data. All methods raise Error."""
 
     def __init__(self, data: Any, block: int = 65536, order: str = "little", through: bool = False) -> None:
         if order not in ("little", "big"):
@@ -219,6 +293,26 @@ class Image:
         _answer(self._call("jffs2_check", ctypes.byref(row), ctypes.byref(fault)), fault)
         return _tuple(row, Counts)
 
+    def _rows(self, name: str, structure: Any, kind: Any) -> Any:
+        rows, count = (structure * 1)(), 0
+        while True:
+            needed, fault = _LEN(), _Fault()
+            status = self._call(name, rows, count, ctypes.byref(needed), ctypes.byref(fault))
+            if status != _SMALL:
+                break
+            count = needed.value
+            rows = (structure * count)()
+        _answer(status, fault)
+        return [_tuple(row, kind) for row in rows[:count]]
+
+    def findings(self) -> list[Finding]:
+        """Its findings, in the order of their addresses: those that `check` counts. BlockSize, TooLarge."""
+        return self._rows("jffs2_findings", _Finding, Finding)
+
+    def nodes(self) -> list[Node]:
+        """Its nodes, in the order of their addresses, whatever each is seen as. BlockSize, TooLarge."""
+        return self._rows("jffs2_nodes", _Node, Node)
+
     def stat(self, path: str | bytes) -> Stat:
         """What a path leads to. Symlinks are not followed. BadPath, NotFound, NotDirectory, or that the image does not
         mount."""
@@ -232,6 +326,23 @@ class Image:
         out, got, fault = ctypes.create_string_buffer(size or 1), _LEN(), _Fault()
         _answer(self._call("jffs2_read", number, offset, out, size, ctypes.byref(got), ctypes.byref(fault)), fault)
         return out.raw[: got.value]
+
+    def read_many(self, wanted: Iterable[tuple[int, int, int]]) -> list[bytes]:
+        """The bytes of many objects by one mount: of each (number, offset, size) what `read_at` answers, in the order in
+        which they are asked for. An object that is not there has none."""
+        asked = [_Request(number, 0, offset, length) for number, offset, length in wanted]
+        count, size = len(asked), 0
+        requests, out = (_Request * (count or 1))(*asked), ctypes.create_string_buffer(1)
+        while True:
+            needed, fault = _LEN(), _Fault()
+            status = self._call("jffs2_read_many", requests, count, out, size, ctypes.byref(needed), ctypes.byref(fault))
+            if status != _SMALL:
+                break
+            size = needed.value
+            out = ctypes.create_string_buffer(size)
+        _answer(status, fault)
+        text = out.raw
+        return [text[it.at : it.at + it.got] for it in requests[:count]]
 
     def read(self, path: str | bytes) -> bytes:
         """All bytes of what a path leads to: of a regular file, or of a symlink, whose target they are."""

@@ -45,6 +45,31 @@ class Calls(unittest.TestCase):
         self.assertEqual(self.image.read_at(number, 1000, 4), b"")
         self.assertEqual(self.image.read_at(999, 0, 4), b"")
 
+    def test_read_many(self):
+        wanted = [(entry.number, 1, 5000) for entry in self.image.tree()]
+        found = self.image.read_many(wanted)
+        self.assertEqual(found, [self.image.read_at(*it) for it in wanted])
+        self.assertTrue(any(found))
+        number = self.image.stat("/etc/passwd").number
+        few = [(999, 0, 9), (number, 26, 99), (number, 0, 4)]
+        self.assertEqual(self.image.read_many(few), [b"", b"/sh\n", b"root"])
+        self.assertEqual(self.image.read_many([]), [])
+        self.assertEqual(len(self.image.read_many([(number, 0, 2**64 - 1)] * 3)), 3)
+        self.refused("Compressed", jffs2.Image(self.data, 8192).read_many, few)
+
+    def test_rows(self):
+        found = self.image.findings()
+        self.assertEqual(len(found), self.image.check().findings)
+        self.assertEqual({jffs2.FINDINGS[it.kind] for it in found}, {"compressed"})
+        nodes = self.image.nodes()
+        self.assertEqual(len(nodes), jffs2.info(self.data).nodes)
+        names = [self.data[it.address + 40 :][: it.stored] for it in nodes if jffs2.KINDS[it.kind] == "entry"]
+        self.assertEqual(len(names), 13)
+        self.assertIn(b"passwd", names)
+        self.refused("BlockSize", jffs2.Image(self.data, 8193).findings)
+        self.refused("BlockSize", jffs2.Image(self.data, 8193).nodes)
+        self.assertEqual(jffs2.Image(b"").nodes(), [])
+
     def test_tree(self):
         tree = self.image.tree()
         self.assertEqual(len(tree), 13)

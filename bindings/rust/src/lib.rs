@@ -262,6 +262,85 @@ pub fn info(image: &[u8]) -> Result<Info, Error> {
     answer(status, sys::Fault::default(), found)
 }
 
+/// What was found at an address beside the nodes that are read.
+#[repr(C)]
+#[derive(Clone, Copy, Debug, Default, PartialEq, Eq)]
+pub struct Finding {
+    /// Where it begins, in bytes from the start of the image.
+    pub address: u32,
+    /// In bytes.
+    pub length: u32,
+    /// 1 a damaged node, 2 one of extended attributes, 3 one after which nothing may be written, 4
+    /// words of the other byte order, 5 other words, 6 a node that may not be skipped, 7 a sound
+    /// inode node whose data are compressed.
+    pub kind: u32,
+    /// At 1 the check that failed (1 the node's checksum, 2 the name's, 3 the data's, 4 a length, 5
+    /// a range), at 3 and 6 the type, at 7 the number of the compression; else 0.
+    pub detail: u32,
+}
+
+/// A node: what it is seen as, and each field that is read of it; 0 if it has none.
+#[repr(C)]
+#[derive(Clone, Copy, Debug, Default, PartialEq, Eq)]
+pub struct Node {
+    /// Where it begins, in bytes from the start of the image.
+    pub address: u32,
+    /// In bytes, with those up to the next word.
+    pub length: u32,
+    /// 1 an entry, 2 an inode, 3 a clean marker, 4 padding, 5 obsolete, 6 of extended attributes, 7
+    /// of a type that may be passed over, 8 of one beside which nothing may be written, 9 of one
+    /// that may not be skipped, 10 an inode whose data are compressed, 11 damaged.
+    pub kind: u32,
+    /// The type at 7 to 9, the check that failed at 11.
+    pub detail: u32,
+    /// The object.
+    pub number: u32,
+    /// Its version.
+    pub version: u32,
+    /// Of an entry: the directory.
+    pub directory: u32,
+    /// Of an entry: the time, in seconds from 1970.
+    pub entry_time: u32,
+    /// Of an entry: bits 12 to 15 of the object's mode.
+    pub entry_type: u32,
+    /// Of an inode: kind and permissions.
+    pub mode: u32,
+    /// Its owner.
+    pub uid: u32,
+    /// Its group.
+    pub gid: u32,
+    /// The size of the whole object in bytes.
+    pub size: u32,
+    /// When it was read.
+    pub atime: u32,
+    /// When its bytes were changed.
+    pub mtime: u32,
+    /// When it was changed.
+    pub ctime: u32,
+    /// From here on it gives bytes of the object.
+    pub offset: u32,
+    /// It gives so many.
+    pub range: u32,
+    /// How these are stored: 0 as they are, 1 zeros, else the number of the compression.
+    pub method: u32,
+    /// 0.
+    pub spare: u32,
+    /// In how many bytes of the node, from 68 behind its address on. Of an entry: the bytes of the
+    /// name, from 40 on.
+    pub stored: u64,
+}
+
+/// Bytes of an object that are asked for: which object, from where on, and how many at most.
+#[derive(Clone, Copy, Debug, PartialEq, Eq)]
+pub struct Wanted {
+    /// The number of the object.
+    pub number: u32,
+    /// The first byte.
+    pub offset: u64,
+    /// How many bytes at most.
+    pub length: u64,
+}
+
 /// A name of a directory.
 #[derive(Clone, Copy, Debug, PartialEq, Eq)]
 pub struct Entry<'t> {
@@ -317,8 +396,8 @@ impl<'a> Image<'a> {
         Image { bytes, how }
     }
 
-    /// The same, of which `stat`, `read_at`, `read` and `tree` read compressed data through, or
-    /// refuse them, as they do unless they are told otherwise.
+    /// The same, of which `stat`, `read_at`, `read`, `read_many` and `tree` read compressed data
+    /// through, or refuse them, as they do unless they are told otherwise.
     #[must_use]
     pub fn through(mut self, through: bool) -> Self {
         self.how.through = u32::from(through);
@@ -341,6 +420,44 @@ impl<'a> Image<'a> {
             )
         };
         answer(status, fault, counts)
+    }
+
+    /// Its findings, in the order of their addresses: those that `check` counts.
+    ///
+    /// # Errors
+    /// `BlockSize`, `TooLarge`.
+    pub fn findings(&self) -> Result<Vec<Finding>, Error> {
+        self.rows(sys::jffs2_findings)
+    }
+
+    /// Its nodes, in the order of their addresses, whatever each is seen as.
+    ///
+    /// # Errors
+    /// `BlockSize`, `TooLarge`.
+    pub fn nodes(&self) -> Result<Vec<Node>, Error> {
+        self.rows(sys::jffs2_nodes)
+    }
+
+    fn rows<R: Copy + Default>(&self, give: Give<R>) -> Result<Vec<R>, Error> {
+        let mut rows: Vec<R> = Vec::new();
+        loop {
+            let (mut needed, mut fault) = (0, sys::Fault::default());
+            let status = unsafe {
+                give(
+                    self.bytes.as_ptr(),
+                    self.bytes.len(),
+                    &self.how,
+                    rows.as_mut_ptr(),
+                    rows.len(),
+                    &mut needed,
+                    &mut fault,
+                )
+            };
+            if status != SMALL {
+                return answer(status, fault, rows);
+            }
+            rows.resize(needed, R::default());
+        }
     }
 
     /// What a path leads to. Symlinks are not followed.
@@ -384,6 +501,47 @@ impl<'a> Image<'a> {
             )
         };
         answer(status, fault, got)
+    }
+
+    /// The bytes of many objects by one mount, in the order in which they are asked for: of each as
+    /// `read_at` answers it. An object that is not there has none.
+    ///
+    /// # Errors
+    /// That it does not mount.
+    pub fn read_many(&self, wanted: &[Wanted]) -> Result<Vec<Vec<u8>>, Error> {
+        let mut requests: Vec<_> = wanted
+            .iter()
+            .map(|it| sys::Request {
+                number: it.number,
+                offset: it.offset,
+                length: it.length,
+                ..sys::Request::default()
+            })
+            .collect();
+        let mut out = Vec::new();
+        loop {
+            let (mut needed, mut fault) = (0, sys::Fault::default());
+            let status = unsafe {
+                sys::jffs2_read_many(
+                    self.bytes.as_ptr(),
+                    self.bytes.len(),
+                    &self.how,
+                    requests.as_mut_ptr(),
+                    requests.len(),
+                    out.as_mut_ptr(),
+                    out.len(),
+                    &mut needed,
+                    &mut fault,
+                )
+            };
+            if status != SMALL {
+                let bytes_of =
+                    |it: &sys::Request| out[it.at as usize..][..it.got as usize].to_vec();
+                answer(status, fault, ())?;
+                return Ok(requests.iter().map(bytes_of).collect());
+            }
+            out.resize(needed, 0);
+        }
     }
 
     /// All bytes of what a path leads to.
@@ -471,6 +629,16 @@ impl<'a> Image<'a> {
 }
 
 const SMALL: u32 = 9;
+
+type Give<R> = unsafe extern "C" fn(
+    *const u8,
+    usize,
+    *const sys::How,
+    *mut R,
+    usize,
+    *mut usize,
+    *mut sys::Fault,
+) -> u32;
 
 type Make = unsafe extern "C" fn(
     *const u8,

@@ -36,6 +36,17 @@ pub struct Needed {
 
 #[repr(C)]
 #[derive(Clone, Copy, Default)]
+pub struct Request {
+    pub number: u32,
+    pub spare: u32,
+    pub offset: u64,
+    pub length: u64,
+    pub at: u64,
+    pub got: u64,
+}
+
+#[repr(C)]
+#[derive(Clone, Copy, Default)]
 pub struct InfoRow {
     pub bytes: u64,
     pub order: u32,
@@ -65,6 +76,24 @@ extern "C" {
         counted: *mut crate::Counts,
         fault: *mut Fault,
     ) -> u32;
+    pub fn jffs2_findings(
+        image: *const u8,
+        len: usize,
+        how: *const How,
+        rows: *mut crate::Finding,
+        row_count: usize,
+        needed: *mut usize,
+        fault: *mut Fault,
+    ) -> u32;
+    pub fn jffs2_nodes(
+        image: *const u8,
+        len: usize,
+        how: *const How,
+        rows: *mut crate::Node,
+        row_count: usize,
+        needed: *mut usize,
+        fault: *mut Fault,
+    ) -> u32;
     pub fn jffs2_stat(
         image: *const u8,
         len: usize,
@@ -83,6 +112,17 @@ extern "C" {
         out: *mut u8,
         out_len: usize,
         got: *mut usize,
+        fault: *mut Fault,
+    ) -> u32;
+    pub fn jffs2_read_many(
+        image: *const u8,
+        len: usize,
+        how: *const How,
+        requests: *mut Request,
+        request_count: usize,
+        out: *mut u8,
+        out_len: usize,
+        needed: *mut usize,
         fault: *mut Fault,
     ) -> u32;
     pub fn jffs2_tree(

@@ -1,6 +1,6 @@
 //! Each call once, on an image that `mkfs.jffs2` compressed. `JFFS2_TEST_DATA` names the folder of
 //! tests/data of the repository, which is beside this crate unless it is told otherwise.
-use jffs2::{crc, info, Error, Image, Order};
+use jffs2::{crc, info, Error, Image, Order, Wanted};
 
 fn data() -> Vec<u8> {
     let folder = std::env::var("JFFS2_TEST_DATA")
@@ -41,6 +41,57 @@ fn reads() {
     assert_eq!(image.read_at(number, 26, &mut out), Ok(4));
     assert_eq!(&out, b"/sh\n\x07\x07");
     assert_eq!(image.read_at(999, 0, &mut out), Ok(0));
+}
+
+#[test]
+fn reads_many() {
+    let bytes = data();
+    let image = image(&bytes);
+    let of = |number, offset, length| Wanted {
+        number,
+        offset,
+        length,
+    };
+    let tree = image.tree().unwrap();
+    let all: Vec<_> = tree.entries().map(|it| of(it.number, 1, 5000)).collect();
+    let found = image.read_many(&all).unwrap();
+    for (it, bytes) in all.iter().zip(&found) {
+        let mut out = vec![0; it.length as usize];
+        let got = image.read_at(it.number, it.offset, &mut out).unwrap();
+        assert_eq!(bytes, &out[..got]);
+    }
+    assert!(found.iter().any(|bytes| !bytes.is_empty()));
+    let number = image.stat(b"/etc/passwd").unwrap().number;
+    let few = [of(999, 0, 9), of(number, 26, 99), of(number, 0, 4)];
+    let found = image.read_many(&few).unwrap();
+    assert_eq!(found, [b"".to_vec(), b"/sh\n".to_vec(), b"root".to_vec()]);
+    assert_eq!(image.read_many(&[]), Ok(Vec::new()));
+    assert!(image.read_many(&[of(number, 0, u64::MAX); 3]).is_ok());
+    let plain = Image::new(&bytes, 8192, Order::Little);
+    assert!(matches!(
+        plain.read_many(&few),
+        Err(Error::Compressed { .. })
+    ));
+}
+
+#[test]
+fn has_rows() {
+    let bytes = data();
+    let image = image(&bytes);
+    let found = image.findings().unwrap();
+    assert_eq!(found.len() as u64, image.check().unwrap().findings);
+    assert!(found.iter().all(|it| it.kind == 7));
+    let nodes = image.nodes().unwrap();
+    assert_eq!(nodes.len() as u64, info(&bytes).unwrap().nodes);
+    let names = |it: &&jffs2::Node| it.kind == 1;
+    assert_eq!(nodes.iter().filter(names).count(), 13);
+    assert!(nodes.iter().filter(names).any(|it| {
+        let at = it.address as usize + 40;
+        &bytes[at..at + it.stored as usize] == b"passwd"
+    }));
+    let odd = Image::new(&bytes, 8193, Order::Little);
+    assert_eq!(odd.findings(), Err(Error::BlockSize));
+    assert_eq!(odd.nodes(), Err(Error::BlockSize));
 }
 
 #[test]

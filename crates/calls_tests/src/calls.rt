@@ -3,8 +3,9 @@
 
 use crate::checks::{equal, expect};
 use jcalls::{
-    Counted, Entry, Fault, How, InfoRow, Needed, OK, Place, SMALL, Stat, TOO_LARGE, check,
-    compress, crc, decompress, info, read, stat, tree,
+    Counted, Entry, Fault, FindingRow, How, InfoRow, Needed, NodeRow, OK, Place, Request, SMALL,
+    Stat, TOO_LARGE, check, compress, crc, decompress, findings, info, nodes, read, read_many,
+    stat, tree,
 };
 use std::alloc::Global;
 
@@ -220,4 +221,146 @@ fn it_is_converted(rt: HostRuntime) {
     let small = How { block: 4096, ..HOW };
     let status = compress(alloc, image(), small, &mut packed, &mut needed, &mut fault);
     equal(&rt, (status, needed), (23, 208));
+}
+
+fn request(number: u32, offset: u64, length: u64) -> Request {
+    Request {
+        number,
+        spare: 5,
+        offset,
+        length,
+        at: 99,
+        got: 99,
+    }
+}
+
+/// Two parts of the file, between an object that is not there and the root, which has no bytes.
+#[test]
+fn many_are_read(rt: HostRuntime) {
+    let alloc = rt.alloc();
+    let mut requests = [
+        request(2, 3, 100),
+        request(9, 0, 100),
+        request(1, 0, 100),
+        request(2, 0, 4),
+        request(2, 11, 1),
+    ];
+    let mut out = *b"##############";
+    let mut needed = 7;
+    let mut fault = FAULT;
+    let status = read_many(
+        alloc,
+        image(),
+        HOW,
+        &mut requests,
+        &mut out[..11],
+        &mut needed,
+        &mut fault,
+    );
+    equal(&rt, (status, needed), (SMALL, 12));
+    expect(&rt, out == *b"##############");
+    equal(&rt, (requests[0].at, requests[0].got), (99, 99));
+    let status = read_many(
+        alloc,
+        image(),
+        HOW,
+        &mut requests,
+        &mut out,
+        &mut needed,
+        &mut fault,
+    );
+    equal(&rt, (status, needed), (OK, 12));
+    expect(&rt, out == *b"lo flashhell##");
+    equal(&rt, (requests[0].at, requests[0].got), (0, 8));
+    equal(&rt, (requests[1].at, requests[1].got), (8, 0));
+    equal(&rt, (requests[2].at, requests[2].got), (8, 0));
+    equal(&rt, (requests[3].at, requests[3].got), (8, 4));
+    equal(&rt, (requests[4].at, requests[4].got), (12, 0));
+    equal(&rt, (requests[3].number, requests[3].length), (2, 4));
+    equal(&rt, requests[3].spare, 5);
+}
+
+const NO_FINDING: FindingRow = FindingRow {
+    address: 9,
+    length: 9,
+    kind: 9,
+    detail: 9,
+};
+
+/// The image with a byte turned in the data of its second inode node, and a word of dirt behind it.
+#[test]
+fn its_findings_are_given(rt: HostRuntime) {
+    let mut bytes = [0; 200];
+    bytes[..196].copy_from_slice(image());
+    bytes[190] ^= 1;
+    let mut rows = [NO_FINDING; 3];
+    let mut needed = 7;
+    let mut fault = FAULT;
+    let status = findings(&bytes, HOW, &mut rows[..1], &mut needed, &mut fault);
+    equal(&rt, (status, needed), (SMALL, 2));
+    equal(&rt, rows[0].kind, 9);
+    let status = findings(&bytes, HOW, &mut rows, &mut needed, &mut fault);
+    equal(&rt, (status, needed), (OK, 2));
+    equal(&rt, (rows[0].address, rows[0].length), (120, 76));
+    equal(&rt, (rows[0].kind, rows[0].detail), (1, 3));
+    equal(&rt, (rows[1].address, rows[1].length), (196, 4));
+    equal(&rt, (rows[1].kind, rows[1].detail), (5, 0));
+    equal(&rt, rows[2].kind, 9);
+    let odd = How { block: 8193, ..HOW };
+    let status = findings(&bytes, odd, &mut rows, &mut needed, &mut fault);
+    equal(&rt, (status, needed), (1, 2));
+    // in the other order all is of it
+    let big = How { big: 1, ..HOW };
+    let status = findings(image(), big, &mut rows, &mut needed, &mut fault);
+    equal(&rt, status, SMALL);
+}
+
+fn no_node() -> NodeRow {
+    NodeRow {
+        address: 9,
+        length: 9,
+        kind: 9,
+        detail: 9,
+        number: 9,
+        version: 9,
+        directory: 9,
+        entry_time: 9,
+        entry_type: 9,
+        mode: 9,
+        uid: 9,
+        gid: 9,
+        size: 9,
+        atime: 9,
+        mtime: 9,
+        ctime: 9,
+        offset: 9,
+        range: 9,
+        method: 9,
+        spare: 9,
+        stored: 9,
+    }
+}
+
+#[test]
+fn its_nodes_are_given(rt: HostRuntime) {
+    let mut rows = [no_node(); 4];
+    let mut needed = 7;
+    let mut fault = FAULT;
+    let status = nodes(image(), HOW, &mut rows[..2], &mut needed, &mut fault);
+    equal(&rt, (status, needed), (SMALL, 3));
+    equal(&rt, rows[0].kind, 9);
+    let status = nodes(image(), HOW, &mut rows, &mut needed, &mut fault);
+    equal(&rt, (status, needed), (OK, 3));
+    let [entry, first, second, none] = rows;
+    equal(&rt, (entry.address, entry.length), (0, 44));
+    equal(&rt, (entry.kind, entry.number), (1, 2));
+    equal(&rt, (entry.directory, entry.entry_type), (1, 8));
+    equal(&rt, (entry.stored, entry.mode), (1, 0));
+    equal(&rt, (first.address, first.length), (44, 76));
+    equal(&rt, (first.kind, first.version), (2, 1));
+    equal(&rt, (first.mode, first.size), (0o100_644, 5));
+    equal(&rt, (second.address, second.version), (120, 2));
+    equal(&rt, (second.offset, second.range), (5, 6));
+    equal(&rt, (second.method, second.stored), (0, 6));
+    equal(&rt, none.kind, 9);
 }

@@ -58,11 +58,16 @@ few_in e size image (k ∷ ks) words =
     let few = extents_are_few e (k * size) (block_of size image k) (ap (λ n. n % 4) whole ∙ words) in
     omega (arith, length-append (extents_of_block e size image k) (flat_map (extents_of_block e size image) ks), few, whole, few_in e size image ks words)
 
--- a test that passes of some extents is counted no more often than the image may have bytes
-pub all_few : (test : ExtentKind → Bool) (e : Endian) (size : ℕ) (image : List ℕ) → IsScannable size image → count_in test (image_extents e size image) ≤ 272629760
-all_few test e size image scannable =
+-- they are no more than the image may have bytes
+pub extents_few : (e : Endian) (size : ℕ) (image : List ℕ) → IsScannable size image → length (image_extents e size image) ≤ 272629760
+extents_few e size image scannable =
     let n : ℕ = block_count size image in
     let few : length (image_extents e size image) ≤ length (below n) * size = few_in e size image (below n) (readable_words size scannable.0) in
     let small : n * size ≤ 272629760 = starts_small size n image scannable.0 scannable.1 (omega arith) in
     let same : length (below n) * size ≡ n * size = ap (λ m. m * size) (length-below n) in
-    omega (arith, count_by-le-length (λ (s : Extent). test s.kind) (image_extents e size image), few, small, same)
+    omega (arith, few, small, same)
+
+-- a test that passes of some extents is counted no more often
+pub all_few : (test : ExtentKind → Bool) (e : Endian) (size : ℕ) (image : List ℕ) → IsScannable size image → count_in test (image_extents e size image) ≤ 272629760
+all_few test e size image scannable =
+    omega (arith, count_by-le-length (λ (s : Extent). test s.kind) (image_extents e size image), extents_few e size image scannable)

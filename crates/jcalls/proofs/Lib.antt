@@ -1,3 +1,6 @@
 pub mod CountingLemmas
+pub mod FillingLemmas
+pub mod ManyLemmas
+pub mod NodesLemmas
 pub mod ShownLemmas
 pub mod TreeLemmas

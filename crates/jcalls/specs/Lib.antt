@@ -1,8 +1,12 @@
 pub mod Asked
 pub mod Counting
+pub mod Filling
+pub mod FindingRows
 pub mod InfoRows
 pub mod Looking
 pub mod Made
+pub mod Many
+pub mod NodeRows
 pub mod Rows
 pub mod Shown
 pub mod Told

@@ -13,19 +13,27 @@
 #![tactic(auto)]
 
 mod converting;
+mod finding;
+mod finding_row;
 mod giving;
 mod how;
 mod looking;
+mod many;
 mod mounting;
 mod naming;
+mod node_row;
 mod reading;
 mod rows;
 mod told;
 
 pub use crate::converting::{compress, decompress};
+pub use crate::finding::{findings, nodes};
+pub use crate::finding_row::FindingRow;
 pub use crate::how::How;
 pub use crate::looking::{check, crc, info};
+pub use crate::many::read_many;
 pub use crate::naming::tree;
+pub use crate::node_row::NodeRow;
 pub use crate::reading::{Place, read, stat};
 pub use crate::rows::{Counted, Entry, InfoRow, Needed, Request, Stat};
 pub use crate::told::{Fault, OK, SMALL, TOO_LARGE, Told};

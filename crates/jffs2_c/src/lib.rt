@@ -9,13 +9,19 @@ ghost use Rattle.jinfo.specs.Infos.{info_of};
 ghost use Rattle.jmount.specs.Tree.{State};
 ghost use Rattle.jcalls.specs.Asked.{asked_order};
 ghost use Rattle.jcalls.specs.Counting.{CountsAsked, CountRefused};
+ghost use Rattle.jcalls.specs.Filling.{GivesRows, NeedsForRows};
+ghost use Rattle.jcalls.specs.FindingRows.{finding_rows};
 ghost use Rattle.jcalls.specs.InfoRows.{info_row};
 ghost use Rattle.jcalls.specs.Looking.{Stats, StatRefused, ReadsAt, GivesTree, NeedsForTree};
 ghost use Rattle.jcalls.specs.Made.{IsDecompressed, IsCompressed, DecompressRefused, CompressRefused, GivesMade, NeedsForMade};
+ghost use Rattle.jcalls.specs.Many.{GivesMany, NeedsForMany};
+ghost use Rattle.jcalls.specs.NodeRows.{node_rows};
 ghost use Rattle.jcalls.specs.Shown.{Shows, ShowsNone};
 ghost use Rattle.jcalls.specs.Told.{told_by};
 
-use jcalls::{Counted, Entry, Fault, How, InfoRow, Needed, Place, Stat};
+use jcalls::{
+    Counted, Entry, Fault, FindingRow, How, InfoRow, Needed, NodeRow, Place, Request, Stat,
+};
 use std::alloc::Global;
 
 /// The checksum that nodes bear, of bytes. It takes no memory.
@@ -53,6 +59,54 @@ pub extern "C" fn jffs2_check(
     ensures quiet { result ≡ 0 → fault.new ≡ fault.old }
 {
     jcalls::check(image, *how, counted, fault)
+}
+
+/// The findings of an image, as rows. It takes no memory.
+#[unsafe(no_mangle)]
+pub extern "C" fn jffs2_findings(
+    image: &[u8],
+    how: &How,
+    rows: &mut [FindingRow],
+    needed: &mut usize,
+    fault: &mut Fault,
+) -> u32
+    ensures done { result ≡ 0
+        → GivesRows (finding_rows (asked_order how.now) how.now.block image.now)
+        rows.old rows.new needed.new }
+    ensures small { result ≡ 9
+        → NeedsForRows (finding_rows (asked_order how.now) how.now.block image.now)
+        rows.old needed.new }
+    ensures refused { result ≢ 0 → result ≢ 9
+        → CountRefused how.now.block image.now (told_by result fault.new) }
+    ensures kept { result ≢ 0 → rows.new ≡ rows.old }
+    ensures needed_kept { result ≢ 0 → result ≢ 9 → needed.new ≡ needed.old }
+    ensures quiet { (result ≡ 0) ⊎ (result ≡ 9) → fault.new ≡ fault.old }
+{
+    jcalls::findings(image, *how, rows, needed, fault)
+}
+
+/// The nodes of an image, as rows. It takes no memory.
+#[unsafe(no_mangle)]
+pub extern "C" fn jffs2_nodes(
+    image: &[u8],
+    how: &How,
+    rows: &mut [NodeRow],
+    needed: &mut usize,
+    fault: &mut Fault,
+) -> u32
+    ensures done { result ≡ 0
+        → GivesRows (node_rows (asked_order how.now) how.now.block image.now)
+        rows.old rows.new needed.new }
+    ensures small { result ≡ 9
+        → NeedsForRows (node_rows (asked_order how.now) how.now.block image.now)
+        rows.old needed.new }
+    ensures refused { result ≢ 0 → result ≢ 9
+        → CountRefused how.now.block image.now (told_by result fault.new) }
+    ensures kept { result ≢ 0 → rows.new ≡ rows.old }
+    ensures needed_kept { result ≢ 0 → result ≢ 9 → needed.new ≡ needed.old }
+    ensures quiet { (result ≡ 0) ⊎ (result ≡ 9) → fault.new ≡ fault.old }
+{
+    jcalls::nodes(image, *how, rows, needed, fault)
 }
 
 /// What a path leads to.
@@ -102,6 +156,31 @@ pub extern "C" fn jffs2_read(
         got,
         fault,
     )
+}
+
+/// The bytes of many objects, by one mount.
+#[unsafe(no_mangle)]
+pub extern "C" fn jffs2_read_many(
+    alloc: Global,
+    image: &[u8],
+    how: &How,
+    requests: &mut [Request],
+    out: &mut [u8],
+    needed: &mut usize,
+    fault: &mut Fault,
+) -> u32
+    ensures done { result ≡ 0 → (s : State) × Shows how.now image.now s
+        × GivesMany s requests.old requests.new out.old out.new needed.new }
+    ensures small { result ≡ 9 → (s : State) × Shows how.now image.now s
+        × NeedsForMany s requests.old out.old needed.new }
+    ensures refused { result ≢ 0 → result ≢ 9
+        → ShowsNone how.now image.now (told_by result fault.new) }
+    ensures rows_kept { result ≢ 0 → requests.new ≡ requests.old }
+    ensures kept { result ≢ 0 → out.new ≡ out.old }
+    ensures needed_kept { result ≢ 0 → result ≢ 9 → needed.new ≡ needed.old }
+    ensures quiet { (result ≡ 0) ⊎ (result ≡ 9) → fault.new ≡ fault.old }
+{
+    jcalls::read_many(alloc, image, *how, requests, out, needed, fault)
 }
 
 /// All names, as rows and as bytes.
