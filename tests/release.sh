@@ -126,13 +126,23 @@ equal "the licence" "$(tar -xOzf "$tarball" --wildcards '*/LICENCE.txt' | head -
 
 # ---- The program in the empty root
 
-entered=(unshare)
-[[ $(id -u) == 0 ]] || entered=(unshare --map-root-user)
+# ROOT FOLDER PATH WORD..: runs the program PATH of the root in a folder of it. The root has /proc,
+# since a document names /dev/stdin.
+cat > "$folder/enter" << 'END'
+#!/bin/sh
+mount --rbind /proc "$1/proc" || exit
+root=$1 place=$2 path=$3
+shift 3
+exec unshare --root="$root" --wd="$place" "$path" "$@"
+END
+entered=(unshare --mount)
+[[ $(id -u) == 0 ]] || entered+=(--map-root-user)
+entered+=(sh "$folder/enter")
 
 # programs ROOT PATH: a program here that runs that of the root, in the same folder
 programs() {
     # shellcheck disable=SC2016
-    printf '#!/bin/sh\nexec %s --root=%q --wd="$(pwd -P)" %q "$@"\n' "${entered[*]}" "$1" "$2" > "$folder/program"
+    printf '#!/bin/sh\nexec %s %q "$(pwd -P)" %q "$@"\n' "${entered[*]}" "$1" "$2" > "$folder/program"
     chmod +x "$folder/program"
 }
 
@@ -153,7 +163,7 @@ held() {
         -o -type d -printf '%P %m\n' -o -printf '%P %m %s\n' | sort
 }
 
-if ! "${entered[@]}" --root=/ --wd=/ true 2> "$folder/said"; then
+if ! "${entered[@]}" / / "$(command -v true)" 2> "$folder/said"; then
     echo "left out: another root cannot be entered here ($(cat "$folder/said"))"
     finish
     exit
@@ -161,7 +171,9 @@ fi
 if [[ $link == dynamic ]]; then
     ldd "$program" | grep -o '/[^ ]*' | while IFS= read -r file; do install -D "$(realpath "$file")" "$root$file"; done
 fi
-mkdir "$folder/unpacked" "$root/usr"
+mkdir "$folder/unpacked" "$root/dev" "$root/proc" "$root/usr"
+ln -s /proc/self/fd/0 "$root/dev/stdin"
+touch "$root/usr/kept"
 tar -xzf "$tarball" -C "$folder/unpacked" --strip-components=1
 before=$(held)
 does "the tarball is installed" sh "$folder/unpacked/install.sh" "$root/usr/local"
