@@ -6,12 +6,16 @@ of its own clone alone, and proves those that are not there. This copies those o
 and all below them, are the same here. What `rt ci` made there serves too. A library is left that is older than a source there,
 since nothing says what it was made from. A line is printed for each crate that was taken.
 """
+import functools
 import os
 import shutil
 import sys
 
 sys.path.insert(0, os.path.dirname(os.path.realpath(shutil.which("rt") or "rt")))
 import rtlib  # noqa: E402  (the toolchain's own: what a library is made from)
+
+# It sums a library's files again for each way that leads to it; they do not change meanwhile.
+rtlib.Crate.stamp = functools.cache(rtlib.Crate.stamp)
 
 
 def crates_at(top):
