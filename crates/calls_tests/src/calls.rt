@@ -291,7 +291,9 @@ const NO_FINDING: FindingRow = FindingRow {
 #[test]
 fn its_findings_are_given(rt: HostRuntime) {
     let mut bytes = [0; 200];
-    bytes[..196].copy_from_slice(image());
+    for (to, from) in bytes.iter_mut().zip(image()) {
+        *to = *from;
+    }
     bytes[190] ^= 1;
     let mut rows = [NO_FINDING; 3];
     let mut needed = 7;
