@@ -1,7 +1,7 @@
 # Completion of jffs2_image for bash. Source this file, or copy it to
 # ~/.local/share/bash-completion/completions/jffs2_image.
 
-# The options of a command; of the program where there is none.
+# The options of a command, or of the program if there is no command.
 _jffs2_image_options() {
     local plain='--block --endian' write='--blocks --page' place='--pad --atomic' help='-h --help'
     case $1 in

@@ -7,19 +7,19 @@ end
 
 # The commands
 complete -c jffs2_image -n __fish_use_subcommand -f
-complete -c jffs2_image -n __fish_use_subcommand -a check -d 'Report, and whether it mounts'
+complete -c jffs2_image -n __fish_use_subcommand -a check -d 'Report all nodes, and whether it mounts'
 complete -c jffs2_image -n __fish_use_subcommand -a ls -d 'The tree, a line for each object'
 complete -c jffs2_image -n __fish_use_subcommand -a cat -d 'Bytes of a regular file'
-complete -c jffs2_image -n __fish_use_subcommand -a build -d 'Make an image by a listing'
+complete -c jffs2_image -n __fish_use_subcommand -a build -d 'Make an image from a listing'
 complete -c jffs2_image -n __fish_use_subcommand -a append -d 'Extend an image by a listing'
 complete -c jffs2_image -n __fish_use_subcommand -a decompress -d 'Copy with data decompressed'
 complete -c jffs2_image -n __fish_use_subcommand -a compress -d 'Copy with data compressed'
 complete -c jffs2_image -n __fish_use_subcommand -a extract -d 'Tree into a new folder'
 complete -c jffs2_image -n __fish_use_subcommand -a listing -d 'Listing of a folder'
-complete -c jffs2_image -n __fish_use_subcommand -a info -d 'What it shows of order and blocks'
-complete -c jffs2_image -n __fish_use_subcommand -a cuts -d 'Which step stands from which byte on'
-complete -c jffs2_image -n __fish_use_subcommand -a diff -d 'Where the trees of two differ'
-complete -c jffs2_image -n __fish_use_subcommand -a damage -d 'What its damaged nodes hide'
+complete -c jffs2_image -n __fish_use_subcommand -a info -d 'Find byte order and block size'
+complete -c jffs2_image -n __fish_use_subcommand -a cuts -d 'Which steps survive a power cut'
+complete -c jffs2_image -n __fish_use_subcommand -a diff -d 'Differences between two images'
+complete -c jffs2_image -n __fish_use_subcommand -a damage -d 'Files that damaged nodes affect'
 complete -c jffs2_image -n __fish_use_subcommand -a pack -d 'Make an image of a folder'
 complete -c jffs2_image -n __fish_use_subcommand -a help -d 'Help of a command'
 complete -c jffs2_image -n '__jffs2_image_in help' -f \
@@ -42,20 +42,20 @@ complete -c jffs2_image -n '__jffs2_image_in ls cat append extract' -l decompres
 complete -c jffs2_image -n '__jffs2_image_in build append pack' -l weak -d 'Note the weak nodes'
 complete -c jffs2_image -n '__jffs2_image_in build append pack' -l pad -d 'Fill OUT with 0xFF'
 complete -c jffs2_image -n '__jffs2_image_in build append decompress compress pack' -l atomic \
-    -d 'Leave an old OUT unless all goes well'
+    -d 'Replace an old OUT only if all goes well'
 complete -c jffs2_image -n '__jffs2_image_in decompress compress' -l force \
     -d 'Write over an IMAGE that is OUT'
-complete -c jffs2_image -n '__jffs2_image_in extract listing pack' -l quiet -d 'Tell no progress'
+complete -c jffs2_image -n '__jffs2_image_in extract listing pack' -l quiet -d 'Print no progress'
 complete -c jffs2_image -n '__jffs2_image_in listing pack' -l owner -x -d 'Owner and group'
 complete -c jffs2_image -n '__jffs2_image_in listing pack' -l time -x -d 'Time of everything'
 
 # Options of one command
 complete -c jffs2_image -n '__jffs2_image_in check' -l scan -d 'Report alone, no mount'
-complete -c jffs2_image -n '__jffs2_image_in check' -l shape -d 'Whether the tree is one'
-complete -c jffs2_image -n '__jffs2_image_in cuts' -l on -r -d 'Image that is gone on from'
-complete -c jffs2_image -n '__jffs2_image_in extract' -l owners -d 'Owners of the image'
+complete -c jffs2_image -n '__jffs2_image_in check' -l shape -d 'Whether the directories make a tree'
+complete -c jffs2_image -n '__jffs2_image_in cuts' -l on -r -d 'Image to go on from, as append does'
+complete -c jffs2_image -n '__jffs2_image_in extract' -l owners -d 'Set the owners of the image'
 complete -c jffs2_image -n '__jffs2_image_in decompress' -l clashes -x -a higher \
-    -d 'Which of nodes that clash goes out'
+    -d 'If nodes clash, keep one by its address'
 complete -c jffs2_image -n '__jffs2_image_in diff' -l times -d 'Compare times of change too'
 
 # Words: files, and folders for listing

@@ -4,7 +4,8 @@
 In README.md, docs/GUIDE.md, docs/FAQ.md and CONTRIBUTING.md these are the blocks that begin with
 ```sh, each begun at the top of the repository, one page after the other. The section 'Get it' of
 README.md is run first, as the others need the program. A block ```text after one is its output, in
-which a line `...` is any number of lines. Of the manual pages they are the literal blocks of QUICK
+which a line `...` is any number of lines. The lines of its section 'As a library' are those of the
+examples in bindings/, which tests/bindings.sh runs. Of the manual pages they are the literal blocks of QUICK
 START and EXAMPLES and those after a line that begins with 'Example:', in order, each page in a
 folder with a folder `tree`; 'It prints' has the last line. Each block must end with status 0.
 
@@ -30,6 +31,10 @@ PROGRAM = os.path.join(ROOT, "crates", "jffs2_image", "out", "jffs2_image")
 PAGES = ("README.md", "docs/GUIDE.md", "docs/FAQ.md", "CONTRIBUTING.md")
 # the section that a reader of a page needs before all others
 FIRST = "Get it"
+# the example of each language that README.md shows lines of
+EXAMPLES = {"Python": ("python", "examples", "print_file.py"),
+            "Rust": ("rust", "examples", "print_file.rs"),
+            "C": ("c", "examples", "print_file.c")}
 PARTS = ("bench", "completions", "crates", "docs", "tests", "CHANGELOG.md",
          "CONTRIBUTING.md", "HANDLES", "README.md", "RELEASING.md", "ROADMAP.md", "SECURITY.md",
          "crates.txt")
@@ -167,6 +172,19 @@ def text_of(*path):
         return file.read()
 
 
+def library_lines():
+    """Whether the lines of code in README.md, of each language, are those of its example."""
+    section = re.split(r"^## ", text_of("README.md").partition("## As a library")[2], flags=re.M)[0]
+    language = None
+    for line in BLOCK.search(section)[2].splitlines():
+        language = line.split()[0] if line[0] != " " else language
+        code = line.removeprefix(language).strip()
+        is_there = code in text_of("bindings", *EXAMPLES[language])
+        if not is_there:
+            print(f"FAILED: README.md: no line of the example for {language}: {code}")
+        yield is_there
+
+
 def main():
     words = sys.argv[1:]
     mode = words.pop(0) if words[:1] in (["--try"], ["--real"]) else None
@@ -174,7 +192,8 @@ def main():
     if mode != "--real" and not os.access(program, os.X_OK):
         sys.exit(f"{program} is no program")
     os.umask(0o022)
-    passed = failed = 0
+    lines = list(library_lines())
+    passed, failed = lines.count(True), lines.count(False)
     with tempfile.TemporaryDirectory() as folder:
         place = Place(folder, program, mode)
         runs = [(name, place.top, list(blocks_of_page(text_of(name))))

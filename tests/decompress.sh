@@ -132,7 +132,7 @@ for order in little big; do
     want 1 "" $'jffs2_image: I1 NoNodes\njffs2_image: note: the other byte order has 3 nodes, see --endian and info'
     unmade none.img
     run ls --decompress "${small[@]}" --endian $other packed_$order
-    want 0 "$root" "$(noted "[1-9]*")"
+    want 0 "$root" "$(unseen "[1-9]*" 3)"
 done
 : > empty
 for order in little big; do

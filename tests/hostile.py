@@ -542,7 +542,7 @@ def on_any(number, image):
         done = run(["check", "--block", str(size), "any.img"])
         verdict(f"check of image {number} in blocks of {size}", done == Done(status, text(lines), b""), done)
     lines, refused, findings = model.ls(image)
-    note = findings_note(findings)
+    note = notes_on(image, findings)
     done = run(["ls", "any.img"])
     wanted = refusal(refused) if refused else Done(0, text(lines), note)
     verdict(f"ls of image {number}", done == wanted, done)
@@ -571,6 +571,12 @@ def goes_on(number, lines, refused, note):
 
 def findings_note(count):
     return NOTE % (count, b"finding" if count == 1 else b"findings") if count else b""
+
+
+def notes_on(image, count, size=65536, order="<"):
+    """The notes of `ls`, `cat` and `append` on an image with so many findings."""
+    bare = opened.has_no_node(image, size, order)
+    return findings_note(count) + (opened.others_note(image, size, order).encode() if bare else b"")
 
 
 def refusal(why):
@@ -719,7 +725,7 @@ def on_converted(about, image, size, order):
     result, _ = opened.decompress(image, size, sign)
     made_of, why = opened.command(image, size, sign)
     _, found, _, count = model.report(image, size, sign)
-    note = findings_note(count)
+    note = notes_on(image, count, size, sign)
     done, made = tried(["decompress", *words, "any.img", "out.img"])
     if why == "I1 NoNodes":
         wanted = Done(1, b"", f"jffs2_image: {why}\n{opened.others_note(image, size, sign)}".encode())

@@ -74,10 +74,10 @@ run check --scan $'\xff'; want 2 "" "error: the command line is not UTF-8"
 # Help
 for words in --help -h help; do
     run $words; want 0 "$help" ""
-    run $words; want 0 "*-V, --version*jffs2_image.1*" ""
+    run $words; want 0 "*-V, --version*jffs2_image-errors(7)*" ""
 done
 for words in --version -V; do
-    run $words; want 0 "jffs2_image 0.1.0" ""
+    run $words; want 0 $'jffs2_image 0.1.0\nproved by the Rattle kit\'s logic ????????????????; PROVED.txt of a package names the commit' ""
 done
 run check --version block; want 2 "" "error: unexpected argument '--version' found*Usage: *"
 for words in "check --help" "check -h" "help check"; do
@@ -209,10 +209,10 @@ run ls empty; want 0 "$root" ""
 run ls --endian big empty; want 0 "$root" ""
 run ls --block 4096 longer; want 0 "$root" ""
 run ls --block 4096 "$sample"; want 0 "$root" ""
-run ls --block 4096 --endian big "$sample"; want 0 "$root" "$(noted 4)"
+run ls --block 4096 --endian big "$sample"; want 0 "$root" "$(unseen 4 2)"
 run ls file; want 0 "$root"$'\n- 0644 0 0 0 0 2 /a' ""
-run ls --endian big file; want 0 "$root" "$(noted "[1-9]*")"
-run ls --block 8192 --endian big "$tree"; want 0 "$root" "$(noted "[1-9]*")"
+run ls --endian big file; want 0 "$root" "$(unseen "[1-9]*" 2)"
+run ls --block 8192 --endian big "$tree"; want 0 "$root" "$(unseen "[1-9]*" "[1-9]*")"
 printf 'hello flash' > content
 printf '\0\0\0\0\0 flash' > zeros
 run ls sound; want 0 "$root"$'\n- 0644 0 0 11 0 2 /a' ""
@@ -230,7 +230,20 @@ run cat --block 4096 crossing /b; want 1 "" "jffs2_image: P3 Path NotFound"
 run check --scan --block 4096 crossing; want 3 "*findings 2" ""
 run cat block /; want 1 "" "jffs2_image: P4 NotRegular"
 yes 'no JFFS2' | head -c 4096 > other
-run ls other; want 0 "$root" "$(noted 1)"
+run ls other; want 0 "$root" "$(unseen 1)"
+# The path of `/` alone is listed so, and of any other there is a fault without a note; what is blank has none.
+run ls other /; want 0 "$root" "$(unseen 1)"
+run ls other /a; want 1 "" "jffs2_image: P3 Path NotFound"
+run cat other /a; want 1 "" "jffs2_image: P3 Path NotFound"
+run ls --decompress other; want 0 "$root" "$(unseen 1)"
+head -c 4096 /dev/zero | tr '\0' '\377' > blank
+run ls blank; want 0 "$root" ""
+head -c 44 "$sample" | tail -c 16 > torn_entry
+run ls --block 4096 torn_entry; want 0 "$root" "$(unseen "[1-9]*")"
+line="ls of no image, and standard error closed"
+"$program" ls other > out 2>&-; got=$?; : > err; want 0 "$root" ""
+line="ls of no image, and standard error full"
+"$program" ls other > out 2> /dev/full; got=$?; : > err; want 0 "$root" ""
 run ls --block 4096 "$tree"; want 0 "$(sed 's/\\/\\\\/g' "$samples/../stdout")" ""
 run cat --block 4096 "$tree" '/var/log/boot\x20log'; want 0 "*" ""
 line="the 10 bytes of $line"
@@ -783,9 +796,11 @@ want 1 "" "jffs2_image: S2 Full needed 136445952 free 8068 line 2$(fits 32768)";
 truncate -s $((32769 * 4096)) pages
 run build "${small[@]}" --blocks 1 listing built
 want 1 "" "jffs2_image: S2 Full needed 136450116 free 8068 line 2"; same built made_little
+run cuts "${small[@]}" --blocks 1 listing; want 1 "*" "jffs2_image: S2 Full needed 136450116 free 8068 line 2"
 rm pages
 lines listing 'create 0644 /a' 'part /a 0 page' 'part /a 4096 page' 'truncate /a 5'
 run build "${small[@]}" --blocks 1 listing built; want 1 "" "jffs2_image: S2 Full needed 4164 free 3904 line 3$(fits 2)"
+run cuts "${small[@]}" --blocks 1 listing; want 1 "* line 2 step 1 of 1 stands *" "jffs2_image: S2 Full needed 4164 free 3904 line 3$(fits 2)"
 run cat "${small[@]}" built /a; whole page
 line="the bytes before a full flash"
 [[ $(wc -c < built) == 4288 ]]; count $?
@@ -827,9 +842,10 @@ for order in little big; do
     run append "${flash[@]}" --blocks 1 made_$order create_b built; want 1 "" "jffs2_image: S2 Full needed 112 free 0 line 1$(fits 2)"
     same built first_block
     head -c 12 made_$order > marked
-    # Of a beginning of a marker `ls` has a note, and so has `append`.
-    for row in "0" "7 $(noted 1)" "12"; do
-        read -r length note <<< "$row"
+    # Of a beginning of a marker `ls` has notes, and so has `append`.
+    for length in 0 7 12; do
+        note=
+        [[ $length == 7 ]] && note=$(unseen 1)
         head -c "$length" marked > torn
         run append "${flash[@]}" --blocks 1 torn create_a built; want 0 "accepted 1 nodes 2 bytes 124" "$note"; same built made_$order
     done
@@ -855,9 +871,11 @@ done
 
 # What IMAGE has of damage, and what a wrong order or size of blocks makes of it, is noted as `ls` notes it; not at a fault.
 run append --blocks 2 flipped create_b built; want 0 "accepted 1 nodes 2 bytes 124" "$(noted 1)"
-run append --blocks 2 --endian big file create_b built; want 0 "accepted 1 nodes 2 bytes 124" "$(noted "[1-9]*")"
+run append --blocks 2 --endian big file create_b built; want 0 "accepted 1 nodes 2 bytes 124" "$(unseen "[1-9]*" 2)"
 run append "${small[@]}" --blocks 4 "$tree" create_b built; want 0 "accepted 1 nodes 2 bytes 124" ""
-run append "${small[@]}" --blocks 4 --endian big "$tree" create_b built; want 0 "accepted 1 nodes 2 bytes 124" "$(noted "[1-9]*")"
+run append "${small[@]}" --blocks 4 --endian big "$tree" create_b built; want 0 "accepted 1 nodes 2 bytes 124" "$(unseen "[1-9]*" "[1-9]*")"
+run append --weak --blocks 2 --endian big file create_b built; want 0 "accepted 1 nodes 2 bytes 124" "$(unseen "[1-9]*" 2)"
+run append --decompress --blocks 2 other create_b built; want 0 "accepted 1 nodes 2 bytes 124" "$(unseen 1)"
 run append --blocks 1 flipped create_b built; want 1 "" "jffs2_image: S2 Full needed 112 free 0 line 1$(fits 2)"
 run append --blocks 2 flipped create_b none/built; want 1 "" "$(unopened none/built)"
 
@@ -976,7 +994,7 @@ rm built
 mkdir -p files
 printf 'hello flash' > files/start.sh
 run help build
-sed -n '/^A listing of a small tree:/,/^To be written/s/^  //p' out > example
+sed -n '/^A listing of a small tree:/,/^A block must/s/^  //p' out > example
 run build --blocks 1 example built; want 0 "accepted 7 nodes 12 bytes *" ""
 run cat built /home/start; whole content
 sed -n "/^# a user's folder/,/^\.Ed/p" "$formats" | sed '/^\.Ed/d; s/\\e/\\/g' > example
@@ -1100,7 +1118,7 @@ want 0 "total operations 0 steps 0 from 00002000 to 00002000 weak 0" ""
 # what is refused: the lines of the operations before it stand
 lines listing "create 0644 /a" "" "create 0644 /a"
 run cuts --block 8192 --blocks 1 listing; want 1 "$first" "jffs2_image: S1 Refused O5 Exists line 3"
-run cuts --block 8192 --blocks 1 --on weak_image create_b; want 1 "" "jffs2_image: S2 Full needed 112 free 0 line 1"
+run cuts --block 8192 --blocks 1 --on weak_image create_b; want 1 "" "jffs2_image: S2 Full needed 112 free 0 line 1$(fits 2)"
 head -c 8193 /dev/zero | tr '\0' '\377' > long_base
 for row in "$no_block|--blocks 0" "$small_block|--block 4096 --blocks 2" "$large_flash|--block 8192 --blocks 32769" \
     "$large_page|--block 8192 --blocks 1 --page 8192" "$long_image|--block 8192 --blocks 1 --on long_base"; do

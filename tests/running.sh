@@ -101,6 +101,18 @@ noted() {
     echo "jffs2_image: note: $1 $word, see check --scan; a wrong --block or --endian shows as findings too, see info"
 }
 
+# unseen N [OTHERS]: the same where no node is found, and the other byte order has OTHERS nodes, or none
+unseen() {
+    local word=nodes
+    [[ ${2-} == 1 ]] && word=node
+    noted "$1"
+    if [[ ${2-} ]]; then
+        echo "jffs2_image: note: the other byte order has $2 $word, see --endian and info"
+    else
+        echo "jffs2_image: note: no node is found in either byte order, see info"
+    fi
+}
+
 # whole FILE: the bytes of the last run's output
 whole() {
     cmp -s out "$1"

@@ -2,11 +2,13 @@
 """Counts patterns of wording in the documents that make them hard to read, and finds sentences of
 more than 40 words: tests/words.py [--list]
 
-It reads README.md, CONTRIBUTING.md, CHANGELOG.md, the pages of docs/ with the manual pages,
-bench/README.md and tests/README.md. Code, output, names in backquotes and the pages that a script
-generates do not count. For all pages together there may be a tenth of a pattern's count of
-2026-11-28, and no long sentence; two pages have a greatest length. mandoc and groff look at the
-manual pages, if they are there. --list prints each place. The last line is 'N passed, M failed'.
+It reads the pages at the top, those of docs/ with the manual pages, the pages README.md of bench/,
+tests/, tests/peers/ and bindings/, the comments of the C header, the texts of a release that users
+read, and the help of the program. Code, output, names in backquotes and the pages that a script generates do not count. For
+all pages together there may be a tenth of a pattern's count of 2026-11-28, and no long sentence;
+two pages have a greatest length. Each command's section of a manual page has a synopsis, an example
+and the exit status. mandoc and groff look at the manual pages, if they are there. --list prints
+each place. The last line is 'N passed, M failed'.
 """
 import glob
 import os
@@ -33,6 +35,15 @@ PATTERNS = {
 }
 # pages that are to be read at once: how many lines they may have
 LENGTHS = {"README.md": 150, "docs/PROOFS.md": 250}
+# the help of the program, and the words on it in a Debian package
+HELP = "crates/jcommand/src/help.rt"
+CONTROL = "release/debian/control"
+# the page on the calls that a programmer in C reads
+HEADER = "bindings/c/jffs2.h"
+HELP_TEXT = re.compile(r'const \w+: &str = "((?:\\.|[^"\\])*)"', re.S)
+# what each command's section of a manual page has
+PARTS = {"synopsis": r"^\.D1 Nm jffs2_image Cm \w+", "example": r"^Example:$",
+         "exit status": r"^Exit status:$"}
 # one word in prose for a piece of code
 NAME = "NAME"
 # macros of mdoc whose words are names, and those that begin a paragraph
@@ -45,7 +56,9 @@ def documents():
     """The pages that count, from the top of the repository."""
     pages = glob.glob("*.md") + glob.glob("docs/**/*.md", recursive=True)
     pages += glob.glob("docs/**/*.[157]", recursive=True)
-    return sorted(pages) + ["bench/README.md", "tests/README.md"]
+    for folder in ("bench", "tests", "bindings"):
+        pages += glob.glob(f"{folder}/**/README.md", recursive=True)
+    return sorted(pages) + [HEADER, HELP, "release/LICENCE.txt", CONTROL]
 
 
 def markdown_paragraphs(text):
@@ -124,13 +137,45 @@ def manual_paragraphs(text):
         yield number, " ".join(lines)
 
 
+def help_paragraphs(text):
+    """Each paragraph of the help and each row of its tables, with its first line's number. A
+    command line is no prose, quoted words are one name, and a list after a colon is apart, as is
+    one after a semicolon in a row: the help has no bullets."""
+    for found in HELP_TEXT.finditer(text):
+        lines, first = [], text[:found.start(1)].count("\n") + 1
+        for at, line in enumerate((found[1] + "\n\n").split("\n"), first):
+            if lines and re.match(r"$|\\$|  \S", line):
+                words = re.sub(r"(?<!\w)'[^']+'", NAME, " ".join(lines))
+                if not words.startswith("jffs2_image "):
+                    yield from ((number, part) for part in re.split(ends, words))
+                lines = []
+            if not lines:
+                number, ends = at, r"(?<=[:;]) " if line.startswith("  ") else r"(?<=[.:]) "
+            lines += [line.strip()] if line.strip("\\ ") else []
+
+
+def header_paragraphs(text):
+    """Each paragraph of the comments of a C header, and each meaning of a number in a list of
+    these, with its comment's first line's number."""
+    for found in re.finditer(r"/\*(.*?)\*/", text, re.S):
+        words = re.sub(r"(?m)^ +\*? ?", "", found[1])
+        for part in re.split(r"\n\n|\n(?=- )|;\s(?=\d+: )", words):
+            yield text[:found.start()].count("\n") + 1, plain_markdown(" ".join(part.split()))
+
+
 def paragraphs(path):
     """Each paragraph of a page as plain words, with its line."""
     with open(path, encoding="utf-8") as file:
         text = file.read()
+    if path == HELP:
+        return list(help_paragraphs(text))
+    if path == HEADER:
+        return list(header_paragraphs(text))
+    if path == CONTROL:
+        text = re.sub(r"(?s)^.*^Description:|^ \.$", "", text, flags=re.M)
     if GENERATED in text:
         text = text.partition(GENERATED)[0]
-    if path.endswith(".md"):
+    if path.endswith((".md", ".txt")) or path == CONTROL:
         return [(at, plain_markdown(words)) for at, words in markdown_paragraphs(text)]
     return list(manual_paragraphs(text))
 
@@ -170,6 +215,18 @@ def manual_faults():
         yield path, [line for line in lines if line]
 
 
+def section_faults():
+    """The parts that a command's section lacks, for each command that a page has in its synopsis."""
+    for path in sorted(glob.glob("docs/*-*.1")):
+        with open(path, encoding="utf-8") as file:
+            synopsis, *sections = re.split(r"^\.Sh (?=[A-Z])", file.read(), flags=re.M)[2:]
+        for command in re.findall(r"^\.Nm jffs2_image Cm (\w+)", synopsis, re.M):
+            own = [it for it in sections if re.match(rf"{command}\b", it, re.I)]
+            lacks = [part for part, form in PARTS.items()
+                     if not own or not re.search(form, own[0], re.M)]
+            yield path, [f"{path}: {command} has no {part}" for part in lacks]
+
+
 def length_faults():
     """Each page with a greatest length: its name, and a fault if it is longer."""
     for path, most in LENGTHS.items():
@@ -182,7 +239,7 @@ def main():
     os.chdir(ROOT)
     found, words = places()
     passed = failed = 0
-    looked = list(length_faults()) + list(manual_faults())
+    looked = list(length_faults()) + list(section_faults()) + list(manual_faults())
     for _, lines in looked:
         print("".join(f"FAILED: {line}\n" for line in lines), end="")
         passed += not lines

@@ -1,23 +1,23 @@
-/* Images of JFFS2 for C. What is proved of these calls, and what a caller owes them, is said in
- * docs/BINDINGS.md; the short form stands here.
+/* Images of JFFS2 for C. docs/BINDINGS.md says what is proved about these calls; this is the short
+ * form.
  *
- * Every call is one-shot: bytes of the caller in, the answer into memory of the caller. There are
+ * Every call reads bytes of the caller, and writes its answer into memory of the caller. There are
  * no handles and no state: calls may run in any threads at once, on the same image too.
  *
- * The caller owes:
- * - No pointer is NULL, also where the length beside it is 0. Lengths are below 2^63.
+ * The caller's duties:
+ * - No pointer is NULL, also if its length is 0. Lengths are below 2^63.
  * - Memory that a call writes overlaps nothing else that the call is given.
- * - `image` does not change during the call. It is not kept behind it.
+ * - `image` does not change during the call. The call does not keep it.
  * - No call is made from a signal handler.
  *
- * The library owes:
- * - Every call returns, for any bytes and any numbers, and writes only what it says it writes.
+ * The library's promises:
+ * - Every call returns, for any bytes and any numbers, and writes only the memory for its answer.
  * - It answers JFFS2_OK, or one of the numbers below. At such a number the memory for the answer
- *   is as it was before the call. Then `fault` says where, but for JFFS2_SMALL, at which `needed`
- *   says how much memory the answer takes. Ask with length 0 first, or guess.
- * - jffs2_crc, jffs2_info, jffs2_check, jffs2_findings and jffs2_nodes take no memory. The others
- *   take it from rattle_alloc, rattle_realloc and rattle_dealloc (jffs2_heap.c, over malloc), and
- *   give it back before they return. */
+ *   is as it was before the call. Then `fault` has the address. Only at JFFS2_SMALL `needed` says
+ *   instead how much memory the answer takes. Ask with length 0 first, or guess.
+ * - jffs2_crc, jffs2_info, jffs2_check, jffs2_findings and jffs2_nodes allocate nothing. The others
+ *   allocate by rattle_alloc, rattle_realloc and rattle_dealloc (jffs2_heap.c, over malloc), and
+ *   free all of it before they return. */
 #ifndef JFFS2_H
 #define JFFS2_H
 #include <stddef.h>
@@ -34,30 +34,29 @@ enum {
     JFFS2_INCOMPATIBLE = 3,  /* a node that may not be skipped: fault.address; .detail is its type */
     JFFS2_COMPRESSED = 4,    /* compressed data that are not read: .address; .detail is the method */
     JFFS2_CLASH = 5,         /* the node at .address contradicts one before it */
-    JFFS2_ROOT_KIND = 6,     /* the root is no directory */
+    JFFS2_ROOT_KIND = 6,     /* the root is not a directory */
     JFFS2_OUT_OF_MEMORY = 7,
     JFFS2_SMALL = 9,         /* the caller's memory is too small: `needed` says how much it takes */
-    JFFS2_BAD_PATH = 10,     /* the text is no path: it has to begin with a slash */
+    JFFS2_BAD_PATH = 10,     /* the text is not a path: it has to begin with a slash */
     JFFS2_NOT_FOUND = 11,
     JFFS2_NOT_DIRECTORY = 12,
     JFFS2_DATA = 20,         /* data that do not decompress, at .address */
-    JFFS2_TOO_LONG = 21,     /* the node at .address is too long once it is decompressed */
+    JFFS2_TOO_LONG = 21,     /* decompressed, the node at .address is too long */
     JFFS2_READ_ONLY = 22,    /* a node says that the image may not be written */
     JFFS2_GEOMETRY = 23,     /* blocks of this size are not written: they have at least 8192 bytes */
     JFFS2_FULL = 24          /* the greatest flash has no room for the nodes */
 };
 
-/* What an image does not tell of itself, and how its data are read. */
+/* The block size and byte order, which an image does not record, and how its data are read. */
 typedef struct jffs2_how {
     uint32_t block;   /* the bytes of an erase block: 4096 to 4194304, a multiple of 4 */
     uint32_t big;     /* 0: little-endian order; any other number: big-endian order */
-    uint32_t through; /* 0: compressed data are refused; any other number: they are read through.
-                         Only jffs2_stat, jffs2_read, jffs2_read_many and jffs2_tree look
-                         at it. */
+    uint32_t through; /* 0: compressed data are refused; any other number: they are read.
+                         Only jffs2_stat, jffs2_read, jffs2_read_many and jffs2_tree use it. */
 } jffs2_how;
 
-/* Where a fault is: the address of a node, and its type or the number of its compression; 0 where
- * the fault has none. It is written only where a call answers a fault other than JFFS2_SMALL. */
+/* The address of the node that a fault is about, and its type or the number of its compression; 0 if
+ * the fault has none. It is written only if a call answers a fault other than JFFS2_SMALL. */
 typedef struct jffs2_fault {
     uint32_t address;
     uint32_t detail;
@@ -85,9 +84,9 @@ typedef struct jffs2_stat_row {
 /* A name of a directory. */
 typedef struct jffs2_entry {
     uint32_t directory;    /* the number of the directory */
-    uint32_t is_there;     /* 1 where the object is there, else 0, and then it has its number alone */
-    jffs2_stat_row object; /* what the name stands for */
-    uint64_t name_at;      /* where the name begins among the bytes of all names */
+    uint32_t is_there;     /* 1 if the object is there, else 0, and then it has only its number */
+    jffs2_stat_row object; /* the object of the name */
+    uint64_t name_at;      /* the place at which the name begins among the bytes of all names */
     uint64_t name_len;
 } jffs2_entry;
 
@@ -96,17 +95,17 @@ typedef struct jffs2_needed {
     uint64_t bytes;
 } jffs2_needed;
 
-/* Bytes of an object that are asked for, and where they are. */
+/* A request for bytes of an object, and its answer. */
 typedef struct jffs2_request {
     uint32_t number; /* asked: the object */
     uint32_t spare;  /* not read, and left as it is */
     uint64_t offset; /* asked: the first byte */
     uint64_t length; /* asked: how many bytes at most */
-    uint64_t at;     /* answered: where they begin in `out` */
+    uint64_t at;     /* answered: the place at which they begin in `out` */
     uint64_t got;    /* answered: how many there are */
 } jffs2_request;
 
-/* What was found at an address. */
+/* A problem at an address. */
 typedef struct jffs2_finding_row {
     uint32_t address;
     uint32_t length; /* in bytes */
@@ -118,14 +117,14 @@ typedef struct jffs2_finding_row {
                         compression; else 0 */
 } jffs2_finding_row;
 
-/* A node: what it is seen as, and each field that is read of it; 0 where it has none. */
+/* A node: its kind, and each of its fields; 0 if it has no such field. */
 typedef struct jffs2_node_row {
     uint32_t address;
     uint32_t length;     /* with the bytes up to the next word */
     uint32_t kind;       /* 1: an entry; 2: an inode; 3: a clean marker; 4: padding; 5: obsolete; 6: of
-                            extended attributes; 7: of a type that may be passed over; 8: of one
-                            beside which nothing may be written; 9: of one that may not be skipped;
-                            10: an inode whose data are compressed; 11: damaged */
+                            extended attributes; 7: of a type that may be skipped; 8: of a type that
+                            forbids writing; 9: of one that may not be skipped; 10: an inode whose
+                            data are compressed; 11: damaged */
     uint32_t detail;     /* at 7 to 9 the type, at 11 the check that failed, as of a finding */
     uint32_t number;     /* the object */
     uint32_t version;
@@ -143,21 +142,21 @@ typedef struct jffs2_node_row {
     uint32_t range;
     uint32_t method;     /* how these are stored: 0 as they are, 1 zeros, else the compression */
     uint32_t spare;      /* 0 */
-    uint64_t stored;     /* in how many bytes of the node, from address + 68 on; of an entry the bytes
-                            of its name, from address + 40 on */
+    uint64_t stored;     /* the bytes that the data take in the node, from address + 68 on; for an
+                            entry the bytes of its name, from address + 40 on */
 } jffs2_node_row;
 
-/* What an image tells of itself. Of a range or a number that is not known all is 0. */
+/* The parameters that the nodes of an image show. A range or a number that is not known is 0. */
 typedef struct jffs2_info_row {
     uint64_t bytes;
     uint32_t order;          /* 0: no node is good; 1: little-endian; 2: big-endian */
-    uint32_t least_block;    /* from the least to the greatest size that blocks may have */
+    uint32_t least_block;    /* the least and the greatest size that blocks may have */
     uint32_t greatest_block;
     uint32_t highest_inode;
     uint32_t highest_version;
     uint32_t spare;          /* 0 */
     uint64_t markers;
-    uint64_t nodes;          /* in that order, and each is one of the five kinds below */
+    uint64_t nodes;          /* in that order; each is one of the five kinds below */
     uint64_t other_order;    /* good headers in the other order */
     uint64_t entries;
     uint64_t inodes;
@@ -173,10 +172,10 @@ typedef struct jffs2_info_row {
     uint64_t data_other;
 } jffs2_info_row;
 
-/* The checksum of bytes, as nodes bear it: CRC-32 without the two complements. */
+/* The checksum of bytes, as in nodes: CRC-32 without the two complements. */
 uint32_t jffs2_crc(const uint8_t *bytes, size_t len);
 
-/* What an image of unknown block size and byte order tells of itself. JFFS2_TOO_LARGE or JFFS2_OK. */
+/* The parameters of an image of unknown block size and byte order. JFFS2_TOO_LARGE or JFFS2_OK. */
 uint32_t jffs2_info(const uint8_t *image, size_t len, jffs2_info_row *info);
 
 /* Counts blocks, sound entry and inode nodes, and findings (damage, dirt, the other order) of any
@@ -195,37 +194,37 @@ uint32_t jffs2_nodes(const uint8_t *image, size_t len, const jffs2_how *how,
                      jffs2_node_row *rows, size_t row_count,
                      size_t *needed, jffs2_fault *fault);
 
-/* What a path leads to. Symlinks are not followed. 1 to 7, 10 to 12, 20, 21. */
+/* The object that a path leads to. Symlinks are not followed. 1 to 7, 10 to 12, 20, 21. */
 uint32_t jffs2_stat(const uint8_t *image, size_t len, const jffs2_how *how,
                     const uint8_t *path, size_t path_len,
                     jffs2_stat_row *stat, jffs2_fault *fault);
 
 /* The bytes of a regular file or a symlink from an offset on: as many as `out` has room for, and
- * `got` says how many these are; none of what is neither of the two. 1 to 7, 20, 21. */
+ * `got` says how many these are. Any other object has none. 1 to 7, 20, 21. */
 uint32_t jffs2_read(const uint8_t *image, size_t len, const jffs2_how *how,
                     uint32_t number, uint64_t offset,
                     uint8_t *out, size_t out_len, size_t *got, jffs2_fault *fault);
 
-/* The bytes of many objects, by one mount: each request is answered as jffs2_read answers it where
- * `out` has its `length` bytes, and the bytes stand in `out` one request's behind the other's. An
- * object that is not there has none, and does not stop the others. 1 to 7, 20, 21; JFFS2_SMALL where
- * there is no room for all bytes; the requests are then as they were. */
+/* The bytes of many objects, by one mount. Each request has the answer of jffs2_read with an `out` of
+ * `length` bytes. In `out` the bytes of all requests follow one another. An object that is not there
+ * has none, and the others are read all the same. 1 to 7, 20, 21; JFFS2_SMALL if there is no room for
+ * all bytes; the requests are then as they were. */
 uint32_t jffs2_read_many(const uint8_t *image, size_t len, const jffs2_how *how,
                          jffs2_request *requests, size_t request_count,
                          uint8_t *out, size_t out_len, size_t *needed, jffs2_fault *fault);
 
 /* All names, by the number of their directory and then in byte order; the root (number 1) has none.
- * 1 to 7, 20, 21; JFFS2_SMALL where there is no room for all rows or for all bytes of names. */
+ * 1 to 7, 20, 21; JFFS2_SMALL if there is no room for all rows or for all bytes of names. */
 uint32_t jffs2_tree(const uint8_t *image, size_t len, const jffs2_how *how,
                     jffs2_entry *rows, size_t row_count, uint8_t *names, size_t names_len,
                     jffs2_needed *needed, jffs2_fault *fault);
 
-/* The image of the same nodes whose data are not compressed. 1 to 4, 7, 20 to 24; JFFS2_SMALL. */
+/* The image of the same nodes with data not compressed. 1 to 4, 7, 20 to 24; JFFS2_SMALL. */
 uint32_t jffs2_decompress(const uint8_t *image, size_t len, const jffs2_how *how,
                           uint8_t *out, size_t out_len, size_t *needed, jffs2_fault *fault);
 
-/* An image of the same nodes whose files are compressed by ZLIB where that makes them shorter. 1 to
- * 4, 7, 21 to 24; 4 where a node is compressed already; JFFS2_SMALL. */
+/* An image of the same nodes, with data of files compressed by ZLIB if that makes a node shorter. 1
+ * to 4, 7, 21 to 24; 4 if a node is compressed already; JFFS2_SMALL. */
 uint32_t jffs2_compress(const uint8_t *image, size_t len, const jffs2_how *how,
                         uint8_t *out, size_t out_len, size_t *needed, jffs2_fault *fault);
 

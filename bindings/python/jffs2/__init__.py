@@ -1,8 +1,8 @@
 """Images of JFFS2, the Journalling Flash File System 2: their files, their damage, and the same nodes decompressed or
 compressed.
 
-The work is done by the shared library libjffs2.so, which is proved; what is proved of each call, and what is only
-trusted, is said in docs/BINDINGS.md of the repository. This module needs no other package.
+The shared library libjffs2.so, which is proved, does the work. docs/BINDINGS.md of the repository says what is proved
+and what is only trusted. This module needs no other package.
 
     import jffs2
     with open("dump.img", "rb") as file:
@@ -11,8 +11,8 @@ trusted, is said in docs/BINDINGS.md of the repository. This module needs no oth
         print(entry.directory, entry.name)
     text = image.read("/etc/passwd")
 
-Any bytes-like object can be an image, a memory map too, and it is not copied where it can be lent. It must not change
-while a call runs. Calls may run in any threads at once; none holds the interpreter's lock.
+Any bytes-like object can be an image, a memory map too; it is copied only if it cannot be passed as it is. It must not
+change while a call runs. Calls may run in any threads at once; none holds the interpreter's lock.
 """
 
 from __future__ import annotations
@@ -25,7 +25,7 @@ from typing import Any, NamedTuple
 
 __all__ = ["Counts", "Entry", "Error", "Finding", "Image", "Info", "Node", "Stat", "crc", "info"]
 
-#: What the numbers of faults mean.
+#: The numbers of errors and their names.
 NAMES = {
     1: "BlockSize",
     2: "TooLarge",
@@ -82,7 +82,7 @@ class Stat(NamedTuple):
 
 
 class Entry(NamedTuple):
-    """A name of a directory, and the object that it stands for; none where that is missing."""
+    """A name of a directory, and its object, or None if that is missing."""
 
     directory: int
     name: bytes
@@ -91,8 +91,8 @@ class Entry(NamedTuple):
 
 
 class Finding(NamedTuple):
-    """What was found at an address beside the nodes that are read. `kind` is a key of FINDINGS. `detail` is the check
-    that failed of a damaged node (a key of CHECKS), the type of a node, or the number of its compression."""
+    """A problem at an address. `kind` is a key of FINDINGS. `detail` is the check that a damaged node failed (a key of
+    CHECKS), the type of a node, or the number of its compression."""
 
     address: int
     length: int
@@ -101,8 +101,8 @@ class Finding(NamedTuple):
 
 
 class Node(NamedTuple):
-    """A node: what it is seen as (`kind`, a key of KINDS), and each field that is read of it; 0 if it has none. `stored`
-    is the number of bytes of its data, from `address` + 68 on, or of an entry's name, from `address` + 40 on."""
+    """A node: its `kind` (a key of KINDS), and each of its fields; 0 if it has no such field. `stored` is the number of
+    bytes of its data, from `address` + 68 on, or of an entry's name, from `address` + 40 on."""
 
     address: int
     length: int
@@ -126,7 +126,7 @@ class Node(NamedTuple):
     stored: int
 
 
-#: What a finding is, by its `kind`.
+#: The kinds of problems, by `kind`.
 FINDINGS = {
     1: "damaged",
     2: "attribute",
@@ -155,8 +155,8 @@ CHECKS = {1: "node-crc", 2: "name-crc", 3: "data-crc", 4: "length", 5: "range"}
 
 
 class Info(NamedTuple):
-    """What an image of unknown block size and byte order tells of itself. `order` is "little", "big", or None where no
-    node is good; `least_block` and `greatest_block` are 0 where no size is known."""
+    """The parameters of an image of unknown block size and byte order. `order` is "little", "big", or None if no node
+    is good; `least_block` and `greatest_block` are 0 if no size is known."""
 
     bytes: int
     order: str | None
@@ -221,7 +221,7 @@ _CALLS = {
 
 
 def _load() -> Any:
-    """The shared library: the one that JFFS2_LIB names, the one beside this module, or the system's."""
+    """The shared library: the one that JFFS2_LIB names, the one in this module's folder, or the system's."""
     beside = os.path.join(os.path.dirname(os.path.abspath(__file__)), "libjffs2.so")
     library = ctypes.CDLL(os.environ.get("JFFS2_LIB") or (beside if os.path.exists(beside) else "libjffs2.so"))
     for name, arguments in _CALLS.items():
@@ -256,13 +256,13 @@ def _answer(status: int, fault: Any = None) -> None:
 
 
 def crc(data: Any) -> int:
-    """The checksum of bytes as nodes bear it: CRC-32 without the two complements."""
+    """The checksum of bytes, as in nodes: CRC-32 without the two complements."""
     at, length, _kept = _lent(data)
     return int(_library.jffs2_crc(at, length))
 
 
 def info(data: Any) -> Info:
-    """What an image of unknown block size and byte order tells of itself. Raises Error: TooLarge."""
+    """The parameters of an image of unknown block size and byte order. Raises Error: TooLarge."""
     at, length, _kept = _lent(data)
     row = _InfoRow()
     _answer(_library.jffs2_info(at, length, ctypes.byref(row)))
@@ -272,10 +272,10 @@ def info(data: Any) -> Info:
 
 
 class Image:
-    """An image in memory, with what it does not tell of itself: the bytes of an erase block, and its byte order.
+    """An image in memory, with the size of its erase blocks and its byte order, which it does not record.
 
     `order` is "little" or "big". With `through`, `stat`, `read_at`, `read`, `read_many` and `tree` read compressed
-    data through; without it they raise Compressed at such data. All methods raise Error."""
+    data; without it they raise Compressed if there are any. All methods raise Error."""
 
     def __init__(self, data: Any, block: int = 65536, order: str = "little", through: bool = False) -> None:
         if order not in ("little", "big"):
@@ -310,26 +310,26 @@ class Image:
         return self._rows("jffs2_findings", _Finding, Finding)
 
     def nodes(self) -> list[Node]:
-        """Its nodes, in the order of their addresses, whatever each is seen as. BlockSize, TooLarge."""
+        """Its nodes of all kinds, in the order of their addresses. BlockSize, TooLarge."""
         return self._rows("jffs2_nodes", _Node, Node)
 
     def stat(self, path: str | bytes) -> Stat:
-        """What a path leads to. Symlinks are not followed. BadPath, NotFound, NotDirectory, or that the image does not
-        mount."""
+        """The object that a path leads to. Symlinks are not followed. BadPath, NotFound, NotDirectory, or an error
+        because the image does not mount."""
         text, row, fault = os.fsencode(path), _Stat(), _Fault()
         at, length, _kept = _lent(text)
         _answer(self._call("jffs2_stat", at, length, ctypes.byref(row), ctypes.byref(fault)), fault)
         return _tuple(row, Stat)
 
     def read_at(self, number: int, offset: int, size: int) -> bytes:
-        """The bytes of a regular file or a symlink from an offset on, at most `size`; none of what is neither."""
+        """The bytes of a regular file or a symlink from an offset on, at most `size`. Other objects have none."""
         out, got, fault = ctypes.create_string_buffer(size or 1), _LEN(), _Fault()
         _answer(self._call("jffs2_read", number, offset, out, size, ctypes.byref(got), ctypes.byref(fault)), fault)
         return out.raw[: got.value]
 
     def read_many(self, wanted: Iterable[tuple[int, int, int]]) -> list[bytes]:
-        """The bytes of many objects by one mount: of each (number, offset, size) what `read_at` answers, in the order in
-        which they are asked for. An object that is not there has none."""
+        """The bytes of many objects by one mount: for each (number, offset, size) the answer of `read_at`, in the same
+        order. An object that is not there has none."""
         asked = [_Request(number, 0, offset, length) for number, offset, length in wanted]
         count, size = len(asked), 0
         requests, out = (_Request * (count or 1))(*asked), ctypes.create_string_buffer(1)
@@ -345,7 +345,7 @@ class Image:
         return [text[it.at : it.at + it.got] for it in requests[:count]]
 
     def read(self, path: str | bytes) -> bytes:
-        """All bytes of what a path leads to: of a regular file, or of a symlink, whose target they are."""
+        """All bytes of the regular file that a path leads to, or the target of the symlink."""
         found = self.stat(path)
         return self.read_at(found.number, 0, found.size)
 
@@ -384,11 +384,11 @@ class Image:
         return out.raw[: needed.value]
 
     def decompress(self) -> bytes:
-        """The image of the same nodes, whose data are not compressed."""
+        """The image of the same nodes with data not compressed."""
         return self._made("jffs2_decompress")
 
     def compress(self) -> bytes:
-        """An image of the same nodes, whose files are compressed by ZLIB where that makes them shorter."""
+        """An image of the same nodes, with data of files compressed by ZLIB if that makes a node shorter."""
         return self._made("jffs2_compress")
 
 

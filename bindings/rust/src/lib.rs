@@ -1,10 +1,10 @@
 //! Images of JFFS2, the Journalling Flash File System 2: their files, their damage, and the same
 //! nodes decompressed or compressed.
 //!
-//! The work is done by `libjffs2_c.a`, which is proved; what is proved of each call, and what is
-//! only trusted, is said in `docs/BINDINGS.md` of the repository. What the library asks of a caller
-//! follows from Rust's types, so no call here is `unsafe`. The crate has no dependencies, and calls
-//! may run in any threads at once.
+//! `libjffs2_c.a`, which is proved, does the work. `docs/BINDINGS.md` of the repository says what
+//! is proved and what is only trusted. The duties of the library's caller follow from Rust's types,
+//! so no call here is `unsafe`. The crate has no dependencies, and calls may run in any threads at
+//! once.
 //!
 //! ```no_run
 //! let bytes = std::fs::read("dump.img")?;
@@ -40,42 +40,42 @@ pub enum Error {
     TooLarge,
     /// The node at this address may not be skipped, and its type is not known.
     Incompatible {
-        /// Where the node is.
+        /// The address of the node.
         address: u32,
         /// Its type.
         nodetype: u32,
     },
-    /// The data of the node at this address are compressed, by a method that is not read, or where
-    /// they are not read through.
+    /// The data of the node at this address are compressed by a method that is not read, or
+    /// `through` is not set.
     Compressed {
-        /// Where the node is.
+        /// The address of the node.
         address: u32,
         /// The number of the method.
         method: u32,
     },
     /// The node at this address contradicts one at a lower address.
     Clash {
-        /// Where the node is.
+        /// The address of the node.
         address: u32,
     },
-    /// The root is no directory.
+    /// The root is not a directory.
     RootKind,
     /// There is no memory.
     OutOfMemory,
-    /// The text is no path: it has to begin with a slash.
+    /// The text is not a path: it has to begin with a slash.
     BadPath,
     /// The path names nothing.
     NotFound,
-    /// What stands before a name of the path is no directory.
+    /// The path goes on after something that is not a directory.
     NotDirectory,
     /// The data of the node at this address do not decompress.
     Data {
-        /// Where the node is.
+        /// The address of the node.
         address: u32,
     },
-    /// The node at this address is too long once it is decompressed.
+    /// Decompressed, the node at this address is too long.
     TooLong {
-        /// Where the node is.
+        /// The address of the node.
         address: u32,
     },
     /// A node says that the image may not be written.
@@ -158,7 +158,7 @@ fn answer<T>(status: u32, fault: sys::Fault, found: T) -> Result<T, Error> {
     }
 }
 
-/// The checksum of bytes as nodes bear it: CRC-32 without the two complements.
+/// The checksum of bytes, as in nodes: CRC-32 without the two complements.
 pub fn crc(bytes: &[u8]) -> u32 {
     unsafe { sys::jffs2_crc(bytes.as_ptr(), bytes.len()) }
 }
@@ -167,7 +167,7 @@ pub fn crc(bytes: &[u8]) -> u32 {
 #[repr(C)]
 #[derive(Clone, Copy, Debug, Default, PartialEq, Eq)]
 pub struct Counts {
-    /// Erase blocks, the last one also where it is not whole.
+    /// Erase blocks, the last one also if it is not complete.
     pub blocks: u64,
     /// Sound entry nodes: names.
     pub entries: u64,
@@ -210,20 +210,20 @@ impl Stat {
         self.mode & 0o170000 == 0o100000
     }
 
-    /// Whether it is a symlink. What it points to are its bytes.
+    /// Whether it is a symlink. Its bytes are its target.
     pub fn is_symlink(&self) -> bool {
         self.mode & 0o170000 == 0o120000
     }
 }
 
-/// What an image of unknown block size and byte order tells of itself.
+/// The parameters of an image of unknown block size and byte order.
 #[derive(Clone, Copy, Debug, PartialEq, Eq)]
 pub struct Info {
     /// Its length in bytes.
     pub bytes: u64,
-    /// Its byte order; none where no node is good.
+    /// Its byte order; none if no node is good.
     pub order: Option<Order>,
-    /// From the least to the greatest size that its blocks may have, where that is known.
+    /// The least and the greatest size that its blocks may have, if that is known.
     pub blocks: Option<(u32, u32)>,
     /// Its nodes in that order.
     pub nodes: u64,
@@ -238,7 +238,7 @@ pub struct Info {
     pub data: [u64; 7],
 }
 
-/// What an image of unknown block size and byte order tells of itself.
+/// The parameters of an image of unknown block size and byte order.
 ///
 /// # Errors
 /// `TooLarge`.
@@ -262,7 +262,7 @@ pub fn info(image: &[u8]) -> Result<Info, Error> {
     answer(status, sys::Fault::default(), found)
 }
 
-/// What was found at an address beside the nodes that are read.
+/// A problem at an address.
 #[repr(C)]
 #[derive(Clone, Copy, Debug, Default, PartialEq, Eq)]
 pub struct Finding {
@@ -279,7 +279,7 @@ pub struct Finding {
     pub detail: u32,
 }
 
-/// A node: what it is seen as, and each field that is read of it; 0 if it has none.
+/// A node: its kind, and each of its fields; 0 if it has no such field.
 #[repr(C)]
 #[derive(Clone, Copy, Debug, Default, PartialEq, Eq)]
 pub struct Node {
@@ -288,7 +288,7 @@ pub struct Node {
     /// In bytes, with those up to the next word.
     pub length: u32,
     /// 1 an entry, 2 an inode, 3 a clean marker, 4 padding, 5 obsolete, 6 of extended attributes, 7
-    /// of a type that may be passed over, 8 of one beside which nothing may be written, 9 of one
+    /// of a type that may be skipped, 8 of a type that forbids writing, 9 of one
     /// that may not be skipped, 10 an inode whose data are compressed, 11 damaged.
     pub kind: u32,
     /// The type at 7 to 9, the check that failed at 11.
@@ -317,20 +317,20 @@ pub struct Node {
     pub mtime: u32,
     /// When it was changed.
     pub ctime: u32,
-    /// From here on it gives bytes of the object.
+    /// The offset in the object from which on it gives bytes.
     pub offset: u32,
-    /// It gives so many.
+    /// The number of these bytes.
     pub range: u32,
     /// How these are stored: 0 as they are, 1 zeros, else the number of the compression.
     pub method: u32,
     /// 0.
     pub spare: u32,
-    /// In how many bytes of the node, from 68 behind its address on. Of an entry: the bytes of the
-    /// name, from 40 on.
+    /// The bytes that the data take in the node, from 68 behind its address on. Of an entry: the
+    /// bytes of the name, from 40 on.
     pub stored: u64,
 }
 
-/// Bytes of an object that are asked for: which object, from where on, and how many at most.
+/// A request for bytes of an object: its number, the first byte, and how many at most.
 #[derive(Clone, Copy, Debug, PartialEq, Eq)]
 pub struct Wanted {
     /// The number of the object.
@@ -348,7 +348,7 @@ pub struct Entry<'t> {
     pub directory: u32,
     /// The name: any bytes but `/` and 0.
     pub name: &'t [u8],
-    /// The number of the object that it stands for.
+    /// The number of its object.
     pub number: u32,
     /// That object, if it is there.
     pub object: Option<Stat>,
@@ -378,7 +378,8 @@ impl Tree {
     }
 }
 
-/// An image in memory, with what it does not tell of itself. It borrows the bytes.
+/// An image in memory, with its block size and byte order, which it does not record. It borrows the
+/// bytes.
 #[derive(Clone, Copy)]
 pub struct Image<'a> {
     bytes: &'a [u8],
@@ -386,7 +387,7 @@ pub struct Image<'a> {
 }
 
 impl<'a> Image<'a> {
-    /// An image of erase blocks of `block` bytes, in a byte order. Nothing is read of it yet.
+    /// An image with erase blocks of `block` bytes, in a byte order. This call reads nothing of it.
     pub fn new(bytes: &'a [u8], block: u32, order: Order) -> Self {
         let how = sys::How {
             block,
@@ -396,8 +397,8 @@ impl<'a> Image<'a> {
         Image { bytes, how }
     }
 
-    /// The same, of which `stat`, `read_at`, `read`, `read_many` and `tree` read compressed data
-    /// through, or refuse them, as they do unless they are told otherwise.
+    /// The same, and whether `stat`, `read_at`, `read`, `read_many` and `tree` read compressed data
+    /// (`true`) or refuse them (`false`, the default).
     #[must_use]
     pub fn through(mut self, through: bool) -> Self {
         self.how.through = u32::from(through);
@@ -544,7 +545,7 @@ impl<'a> Image<'a> {
         }
     }
 
-    /// All bytes of what a path leads to.
+    /// All bytes of the object that a path leads to.
     ///
     /// # Errors
     /// As `stat`.
@@ -556,8 +557,8 @@ impl<'a> Image<'a> {
         Ok(out)
     }
 
-    /// All names, with the objects that they stand for. It asks twice: how much there is, and then
-    /// for it.
+    /// All names, with their objects. It calls the library twice: for the sizes, and then for the
+    /// names.
     ///
     /// # Errors
     /// That it does not mount.
@@ -587,7 +588,7 @@ impl<'a> Image<'a> {
         }
     }
 
-    /// The image of the same nodes, whose data are not compressed.
+    /// The image of the same nodes with data not compressed.
     ///
     /// # Errors
     /// `BlockSize` to `Compressed`, `OutOfMemory`, `Data` to `Full`.
@@ -595,7 +596,7 @@ impl<'a> Image<'a> {
         self.made(sys::jffs2_decompress)
     }
 
-    /// An image of the same nodes, whose files are compressed by ZLIB where that makes them
+    /// An image of the same nodes, with data of files compressed by ZLIB if that makes a node
     /// shorter.
     ///
     /// # Errors

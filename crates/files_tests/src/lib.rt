@@ -6,6 +6,8 @@ mod checks;
 #[cfg(test)]
 mod clash;
 #[cfg(test)]
+mod compact;
+#[cfg(test)]
 mod frag;
 #[cfg(test)]
 mod mount;

@@ -8,7 +8,10 @@ use crate::help;
 use clap::{Arg, ArgAction, Command};
 use std::alloc::{AllocError, Global};
 
-const VERSION: &str = "0.1.0";
+/// The version, and the logic of the kit that proves it, which the gate compares with its kit. The
+/// commit can't stand in its own sources: a package has it in PROVED.txt.
+const VERSION: &str = "0.1.0
+proved by the Rattle kit's logic dac8208d650f15bf; PROVED.txt of a package names the commit";
 
 /// What making a command comes to.
 type Made<'a> = Result<Command<'a>, AllocError>;

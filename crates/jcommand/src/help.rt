@@ -1,5 +1,5 @@
-//! The texts of the help: what the program, its subcommands and their words are for, and what
-//! is at the end of each. Each line of the help is at most 80 columns wide.
+//! The texts of the help: a line for the program, each subcommand and each of their words, and
+//! the end of each page. A line of the help is at most 80 columns wide.
 
 pub(crate) const PROGRAM: &str = "\
 Reads, checks, builds and extends flash images of JFFS2, a file system that is
@@ -11,7 +11,7 @@ pub(crate) const LIST: &str = "Print a line for each object of the tree";
 
 pub(crate) const CAT: &str = "Write the content of a regular file to standard output";
 
-pub(crate) const BUILD: &str = "Make an image by a listing of operations";
+pub(crate) const BUILD: &str = "Make an image from a listing of operations";
 
 pub(crate) const APPEND: &str = "Copy an image, and extend the copy by a listing of operations";
 
@@ -25,11 +25,11 @@ pub(crate) const LISTING_OF: &str = "Print the listing that builds a folder of t
 
 pub(crate) const INFO: &str = "Print what an image shows of its byte order, blocks and nodes";
 
-pub(crate) const CUTS: &str = "Print from which byte on each step of a listing survives a stop";
+pub(crate) const CUTS: &str = "Print from which offset each step survives a power cut";
 
-pub(crate) const ON: &str = "Image that is gone on from, as by append";
+pub(crate) const ON: &str = "Image to go on from, as append does";
 
-pub(crate) const DIFF: &str = "Print where the trees of two images differ";
+pub(crate) const DIFF: &str = "Print the differences between the trees of two images";
 
 pub(crate) const DAMAGE: &str = "Print what the damaged nodes of an image cost";
 
@@ -37,15 +37,15 @@ pub(crate) const PACK: &str = "Make an image of a folder of this host";
 
 pub(crate) const PAD: &str = "Fill OUT with 0xFF to the end of the flash";
 
-pub(crate) const ATOMIC: &str = "Leave an old OUT as it was unless all goes well";
+pub(crate) const ATOMIC: &str = "Replace an old OUT only if all goes well";
 
-pub(crate) const FORCE: &str = "Write over an IMAGE that is OUT, whatever is found in it";
+pub(crate) const FORCE: &str = "Write over an IMAGE that is OUT, even if it has findings";
 
 pub(crate) const BLOCK: &str = "Erase block: 4096 to 4194304 bytes";
 
 pub(crate) const ENDIAN: &str = "Byte order: little or big";
 
-pub(crate) const BLOCKS: &str = "Blocks of the flash, of 268435456 bytes at most";
+pub(crate) const BLOCKS: &str = "Blocks of the flash, 268435456 bytes at most";
 
 pub(crate) const PAGE: &str = "Page size: 4096, 8192 or 16384 bytes";
 
@@ -63,42 +63,42 @@ pub(crate) const SECOND: &str = "File with the bytes of the second image";
 
 pub(crate) const TIMES: &str = "Compare times of change too, and print them";
 
-pub(crate) const CLASHES: &str = "Of nodes that clash keep one, by its address: higher";
+pub(crate) const CLASHES: &str = "If nodes clash, keep one by its address: higher";
 
 pub(crate) const DECOMPRESSED: &str = "Take the image as decompress would write it";
 
 pub(crate) const PATH: &str = "Path from the root, as /a/b; \\x and two hex digits are one byte";
 
-pub(crate) const PART: &str = "Path from the root, as for cat: this object and what lies below it";
+pub(crate) const PART: &str = "Path from the root, as for cat: that object and all below it";
 
-pub(crate) const LISTING: &str = "File with the operations, a line each";
+pub(crate) const LISTING: &str = "File with the operations, one per line";
 
-pub(crate) const FOLDER: &str = "Folder that is read";
+pub(crate) const FOLDER: &str = "Folder to read";
 
-pub(crate) const NEW_FOLDER: &str = "Folder that is made, which must not be there yet";
+pub(crate) const NEW_FOLDER: &str = "Folder to make, which must not exist yet";
 
-pub(crate) const OWNERS: &str = "Give what is made the owners that it has in the image";
+pub(crate) const OWNERS: &str = "Set the owners recorded in the image";
 
 pub(crate) const OWNER: &str = "Owner and group of everything";
 
 pub(crate) const TIME: &str = "Time of everything, in seconds since 1970";
 
-pub(crate) const QUIET: &str = "Tell no progress";
+pub(crate) const QUIET: &str = "Print no progress";
 
-pub(crate) const OUT: &str = "File that is made, or written over, with the bytes of the flash";
+pub(crate) const OUT: &str = "File to make or to write over, with the bytes of the flash";
 
 /// What is at the end of the program's help.
 pub(crate) const EPILOGUE: &str = "\
-Each command but listing and info takes --block, the size of an erase block,
-which is a multiple of 4, and --endian, the byte order. build, append and cuts
+--block (the size of an erase block, a multiple of 4) and --endian (the byte
+order) apply to every command except listing and info. build, append and cuts
 need --blocks too, the number of blocks; pack takes it. 'jffs2_image help build'
-tells what a listing is, 'jffs2_image help check' what check prints, and so for
-the others.
+says what a listing is, 'jffs2_image help check' what check prints, and the same
+for the other commands.
 
-The data of an image that Linux or mkfs.jffs2 wrote are often compressed. ls,
-cat, append and extract take them with --decompress, and decompress makes an
-image without them. What build writes is not compressed: compress makes an image
-of it that is shorter.
+In an image that Linux or mkfs.jffs2 wrote, data are often compressed. ls, cat,
+append and extract read them with --decompress, and decompress makes an image
+without them. build writes no compressed data: compress makes a shorter image of
+its output.
 
 Examples:
   jffs2_image info flash.img
@@ -120,34 +120,35 @@ Exit status:
   0  done, and nothing was found
   1  a fault, which standard error names
   2  the command line is wrong
-  3  check found something, diff a difference, damage a loss, info no node,
-     cuts or --weak a weak node, or extract, listing, pack or decompress
-     --clashes left something out; or an image with findings was extracted,
-     decompressed, compressed, compared or asked for damage
+  3  check found a problem, diff a difference, damage a loss, info no node, or
+     cuts or --weak a weak node;
+     extract, listing, pack or decompress --clashes left something out;
+     extract, decompress, compress, diff or damage read an image with findings
 
-A fault is one line, as 'jffs2_image: M6 RootKind'. Its letter says what gave
-up: C the report, L reading a file, M the mount, Z compressed data, S the
-session that writes, P the program. P2 is a wrong line of a listing.
-The manual page jffs2_image.1 tells what each fault may mean and what to do.
+A fault is one line, as 'jffs2_image: M6 RootKind'. Its letter names the part
+that stopped: C the report, L reading a file, M the mount, Z compressed data, I
+the image as a whole, S the session that writes, P the program. P2 is a wrong
+line of a listing. The manual page jffs2_image-errors(7) has the causes of each
+fault and the remedies.
 
-The image does not tell its block size or byte order; info prints what its
-nodes show of them. With a wrong --block, a wrong --endian or a damaged image,
-ls and cat may show less than the flash holds, or zeros, and append and
-decompress go on from that. A note on standard error then counts what
-check --scan finds.";
+An image records neither its block size nor its byte order; info deduces both
+from its nodes. With a wrong --block, a wrong --endian or a damaged image, ls
+and cat may show less than the flash holds, or zeros, and append and decompress
+go on from that. A note on standard error then counts the findings, which check
+--scan prints.";
 
 pub(crate) const CHECK_EPILOGUE: &str = "\
-For each block it prints 'block' and its number, and then a line for each node
-and for each longest run of erased flash or dirt, with its address, kind and
-number of bytes. The last line has the totals. Findings are damaged, compressed,
-attribute, read-only and incompatible nodes, and runs of dirt or of words in the
-other byte order.
+For each block it prints 'block' and its number. Then comes a line for each node
+and for each run of erased flash, of dirt or of words in the other byte order,
+with its address, kind and number of bytes. The last line has the totals.
+Findings are damaged, compressed, attribute, read-only and incompatible nodes,
+and runs of dirt or of words in the other byte order.
 
 Then comes the verdict, unless --scan is given: 'mount ok', 'mount ok
-read-only', or 'mount refused' and why. After an ok, 'dangling' tells of a name
-without an object. Last comes, with --shape and after an ok, 'shape ok', or
-'shape broken' where a directory other than the root has two names or a
-directory lies below itself.
+read-only', or 'mount refused' and why. After an ok, a line 'dangling' names
+each name without an object. With --shape and after an ok, the last line is
+'shape ok', or 'shape broken' if a directory other than the root has two names
+or if a directory lies below itself.
 
 Examples:
   jffs2_image check flash.img
@@ -161,8 +162,8 @@ Exit status:
      broken shape";
 
 pub(crate) const LIST_EPILOGUE: &str = "\
-The root is the first line. A directory stands before what lies in it, and names
-are in byte order. A line is
+The root is the first line. A directory comes before its entries, and names are
+in byte order. A line is
 
   KIND MODE UID GID SIZE MTIME INO PATH
 
@@ -172,14 +173,14 @@ are in byte order. A line is
   SIZE   bytes
   MTIME  seconds since 1970
   INO    inode number
-  PATH   from the root; a byte of a name that is no visible ASCII character, and
-         backslash and slash, are \\x and two hexadecimal digits
+  PATH   from the root; \\x and two hexadecimal digits are a byte of a name that
+         is not a visible ASCII character, or is a backslash or a slash
 
-' -> TARGET' follows the path of a symlink, escaped likewise, or ' -> (long)'
-where the target has more than 4095 bytes. ' (again)' follows a directory that
-was met before.
+' -> TARGET' follows the path of a symlink, escaped in the same way, or
+' -> (long)' if the target has more than 4095 bytes. ' (again)' follows a
+directory that is already in the list.
 
-With PATH only the object there and what lies below it are listed.
+With PATH, only the object there and all below it are listed.
 
 Examples:
   jffs2_image ls --endian big flash.img
@@ -203,11 +204,11 @@ Exit status:
   2  the command line is wrong";
 
 pub(crate) const BUILD_EPILOGUE: &str = "\
-A listing has an operation a line. Its words are apart by one space; empty lines
-and those that begin with # are skipped.
+A listing has one operation per line; words are separated by single spaces.
+Empty lines and lines that begin with # are skipped.
 
-  time T                 time of what follows, in seconds since 1970; 0 at first
-  owner UID GID          owner of what is made from here on; 0 0 at first
+  time T                 time of the lines below, in seconds since 1970; first 0
+  owner UID GID          owner of all that the lines below make; first 0 0
   mkdir MODE PATH        makes a directory
   create MODE PATH       makes an empty regular file
   file MODE PATH FILE    makes a file with the bytes of FILE of this host
@@ -217,11 +218,11 @@ and those that begin with # are skipped.
   socket MODE PATH       makes a socket
   symlink PATH TARGET    makes a symlink
   write PATH OFFSET HEX  writes bytes into a file
-  part PATH OFFSET FILE  writes the bytes of FILE, a file of this host, likewise
+  part PATH OFFSET FILE  writes the bytes of FILE, a file of this host
   truncate PATH SIZE     cuts a file, or lets it grow by zeros
   link OLD NEW           gives a file the further name NEW
-  rename OLD NEW         moves OLD to NEW, which must not be there yet
-  replace OLD NEW        moves OLD to NEW, in place of the file that is there
+  rename OLD NEW         moves OLD to NEW, which must not exist yet
+  replace OLD NEW        moves OLD to NEW, and replaces a file that is there
   remove PATH            removes a name; a directory must be empty
   attr MODE UID GID ATIME MTIME PATH
                          sets permissions, owner and times of PATH, or of /
@@ -229,6 +230,7 @@ and those that begin with # are skipped.
 Numbers are decimal, MODE is octal, HEX is pairs of hexadecimal digits, or - for
 no bytes. In a path or a target, \\x and two hexadecimal digits are one byte: a
 space is \\x20.
+
 A listing of a small tree:
 
   time 1000000000
@@ -241,24 +243,24 @@ A listing of a small tree:
   create 0755 /home/start
   part /home/start 0 files/start.sh
 
-To be written, blocks have 8192 bytes at least, and 80 more than --page, the
-largest piece of a file in one node. For Linux it is the page size of the
-device's memory at most, which 'getconf PAGESIZE' tells there. OUT ends with the
-last node: the rest of the flash is erased, 0xFF. Where all was accepted,
-'accepted A nodes N bytes B' is printed: A operations, the N nodes that they
-took, and their B bytes of the flash.
+A block must have at least 8192 bytes, and 80 more than --page. --page is the
+largest piece of a file in one node: for Linux at most the page size of the
+device's memory, which 'getconf PAGESIZE' prints there. OUT ends with the last
+node: the rest of the flash is erased, 0xFF. If all was accepted, the line
+'accepted A nodes N bytes B' is printed: A operations, their N nodes, and B
+bytes of the flash.
 
 The listing and each FILE are read before OUT is made. The first operation that
 is refused, or for which there is no room, is the last: the fault has the number
 of its line, and OUT holds what was accepted before it.
 
-With --weak a note on each weak node, as 'weak A at J', goes to standard error
-when all is written: a stop after the first J bytes of the node at A may show a
+With --weak, after all is written, standard error has a note for each weak node,
+as 'weak A at J': a stop after the first J bytes of the node at A may show a
 node that nobody wrote.
 
-With --pad 0xFF is put behind the last node, up to the end of the flash. With
---atomic a new file beside OUT is written, which takes its place when all has
-gone well: after a fault OUT is as it was.
+With --pad, 0xFF follows the last node, up to the end of the flash. With
+--atomic a new file in the same folder is written, which takes the name of OUT
+when all has gone well: after a fault OUT is as it was.
 
 Examples:
   jffs2_image build --block 131072 --blocks 64 tree.txt flash.img
@@ -272,18 +274,20 @@ Exit status:
 
 pub(crate) const APPEND_EPILOGUE: &str = "\
 OUT begins with the bytes of IMAGE. Writing goes on at the first block from
-which on all blocks are blank, that is erased or with a clean marker alone. What
-is free in the blocks before it is not used. 'jffs2_image help build' tells what
-a listing is, what is printed, and what OUT holds after a fault.
+which on all blocks are blank: erased, or with only a clean marker or the
+beginning of one. Free bytes in the blocks before it are not used. 'jffs2_image
+help build' says what a listing is, what is printed, and what OUT holds after a
+fault.
 
-A wrong --block or --endian, or damage, hides a part of IMAGE, and then less of
-it counts for what is written. A note on standard error tells of it, as for ls.
+With a wrong --block or --endian, or with damage, a part of IMAGE is not seen,
+and the new nodes may not fit it. A note on standard error reports it, as for
+ls.
 
-IMAGE and OUT can be one file, since IMAGE is held in memory before OUT is made.
-But if the power, the host or the disk fails while OUT is written, the old bytes
-are gone. With --atomic they are kept until all is written, in a file beside it
-that then takes the name of OUT. --pad puts 0xFF behind the last node, up to the
-end of the flash.
+IMAGE and OUT may be the same file, since IMAGE is held in memory before OUT is
+made. But if the power, the host or the disk fails while OUT is written, the old
+bytes are gone. With --atomic they are kept until all is written, in a new file
+in the same folder, which then takes the name of OUT. With --pad, 0xFF follows
+the last node, up to the end of the flash.
 
 Examples:
   jffs2_image append --blocks 64 flash.img more.txt new.img
@@ -297,31 +301,31 @@ Exit status:
 
 pub(crate) const DECOMPRESS_EPILOGUE: &str = "\
 OUT has the nodes of IMAGE in the order of their addresses, from the first block
-on. Where data are compressed, by RTIME, ZLIB, LZO or LZMA, they stand there as
-they were before. So the other commands can take what mkfs.jffs2 makes by
-default and what Linux writes. What makes no part of the file system is left
+on. Data that are compressed by RTIME, ZLIB, LZO or LZMA are written as they
+were before. So the other commands can read the images that mkfs.jffs2 makes by
+default and that Linux writes. All that is not a part of the file system is left
 out: markers, padding, obsolete and damaged nodes, extended attributes and dirt.
 A note on standard error counts damage and dirt in IMAGE, as for ls.
 
 'decompressed C nodes N bytes B' is printed: C nodes of IMAGE are compressed,
-and OUT has N nodes and B bytes. All else is judged before OUT is made. M4
-Compressed: the method is none of the four. Z1 Data: the data are not what
-their method makes. Z2 TooLong: decompressed, a node does not fit into a block.
+and OUT has N nodes and B bytes. The whole image is judged before OUT is made.
+M4 Compressed: the method is none of the four. Z1 Data: the data do not match
+their method. Z2 TooLong: decompressed, a node does not fit into a block.
 
-Garbage collection of Linux writes some nodes anew under their old version, with
-other contents. Such nodes clash, and no other command takes an image with them
-(M5 Clash). With --clashes higher a node that one of a higher address clashes
-with is left out of OUT, since Linux goes by that one. Each is told on standard
-error: 'left out A: clashes with B', where A and B are addresses in IMAGE, and B
-is the highest that clashes. Then the exit status is 3.
+Garbage collection of Linux writes some nodes again under their old version,
+with other contents. Such nodes clash, and commands that mount the image refuse
+them (M5 Clash). With --clashes higher, a node is left out if it clashes with
+one of a higher address, since Linux takes that one. Each is reported on
+standard error: 'left out A: clashes with B', with the addresses A and B in
+IMAGE, B the highest that clashes. Then the exit status is 3.
 
-IMAGE and OUT can be one file, since IMAGE is held in memory before OUT is made;
-one with findings is written over with --force alone (I2 Findings). If the
-power, the host or the disk fails while OUT is written, the old bytes are gone.
-With --atomic they are kept until all is written.
+IMAGE and OUT may be the same file, since IMAGE is held in memory before OUT is
+made. An IMAGE with findings is written over only with --force (I2 Findings). If
+the power, the host or the disk fails while OUT is written, the old bytes are
+gone. With --atomic they are kept until all is written.
 
-To look only, give ls, cat or extract --decompress: they do what they do of OUT,
-which is held in memory.
+Only to look, give ls, cat or extract the option --decompress: they do what they
+do for OUT, which is held in memory.
 
 Examples:
   jffs2_image decompress --block 131072 dump.img flash.img
@@ -337,22 +341,22 @@ Exit status:
 
 pub(crate) const COMPRESS_EPILOGUE: &str = "\
 OUT has the nodes of IMAGE in the order of their addresses, from the first block
-on. The data of regular files are compressed there, by ZLIB, where the node then
-is shorter; all else stands as it does in IMAGE, since Linux reads symlinks and
-devices as they stand. decompress gives the nodes of IMAGE back. What makes no
-part of the file system is left out: markers, padding, obsolete and damaged
+on. The data of regular files are compressed there, by ZLIB, if the node becomes
+shorter. Everything else stays as it is in IMAGE, since Linux reads symlinks and
+devices uncompressed. decompress gives the nodes of IMAGE back. All that is not
+a part of the file system is left out: markers, padding, obsolete and damaged
 nodes, extended attributes and dirt. A note on standard error counts damage and
 dirt in IMAGE, as for ls.
 
 'compressed C nodes N bytes B' is printed: OUT has N nodes and B bytes, and C of
-the nodes are compressed. All else is judged before OUT is made. M4 Compressed:
-a node of IMAGE is compressed already; give the image to decompress first. Z2
-TooLong: a node does not fit into a block after a marker.
+the nodes are compressed. The whole image is judged before OUT is made. M4
+Compressed: a node of IMAGE is compressed already; give the image to decompress
+first. Z2 TooLong: a node does not fit into a block after a marker.
 
-IMAGE and OUT can be one file, since IMAGE is held in memory before OUT is made;
-one with findings is written over with --force alone (I2 Findings). If the
-power, the host or the disk fails while OUT is written, the old bytes are gone.
-With --atomic they are kept until all is written.
+IMAGE and OUT may be the same file, since IMAGE is held in memory before OUT is
+made. An IMAGE with findings is written over only with --force (I2 Findings). If
+the power, the host or the disk fails while OUT is written, the old bytes are
+gone. With --atomic they are kept until all is written.
 
 Examples:
   jffs2_image compress flash.img small.img
@@ -366,20 +370,21 @@ Exit status:
 
 pub(crate) const EXTRACT_EPILOGUE: &str = "\
 DIR is made, and in it each directory, regular file and symlink of the image,
-with its permissions and times; --owners gives owners too, for which this host
-asks a privilege. A further name of a file becomes a hard link. Symlinks are
-made and never followed.
+with its permissions and times; only a symlink gets the present time. A further
+name of a file becomes a hard link. Symlinks are made and never followed. With
+--owners everything gets its owner too, which mostly only root may set; without
+it everything is yours, and set-user-ID and set-group-ID bits are dropped.
 
-With PATH only the object there and what lies below it are made: a directory at
-its place, below the directories that lead to it, and any other object in DIR
+With PATH, only the object there and all below it are made: a directory at its
+place, below the directories that lead to it, and any other object in DIR
 itself, by its last name.
 
-Whatever the image says, nothing is made outside DIR: each thing is made anew,
-below directories that were made before it. What this host can't hold is left
-out, each with a line 'left out PATH: REASON' on standard error: devices, FIFOs
-and sockets, names that are no text, that are . or .. or have a slash or a zero
-byte, directories that were met before, and what the host refuses. The rest goes
-on.
+For any image, nothing is made outside of DIR: each thing is new, in directories
+that were made before it. Things that this host cannot hold are left out, each
+with a line 'left out PATH: REASON' on standard error: devices, FIFOs and
+sockets, names that are not text, that are . or .. or have a slash or a zero
+byte, names whose inode is missing, directories that another path reached
+before, and all that the host refuses. The rest goes on.
 
 Examples:
   jffs2_image extract --block 131072 flash.img tree
@@ -393,19 +398,22 @@ Exit status:
 
 pub(crate) const LISTING_EPILOGUE: &str = "\
 The listing goes to standard output. 'jffs2_image build' reads it, and
-'jffs2_image help build' tells what it means. Names are in byte order, so one
-folder has one listing, which can be edited and kept. The content of a file is
-not in it: a line 'file' names the file, from the working directory where DIR is
-no path from /.
+'jffs2_image help build' explains its lines. Names are in byte order, so one
+folder has one listing, which can be edited and kept. A listing has no bytes of
+files: a 'file' line names the file, relative to the working directory unless
+DIR begins with /.
 
 Hard links become lines 'link', and devices, FIFOs and sockets lines 'device',
-'fifo' and 'socket'.
-Symlinks are never followed. --owner and --time take the place of those of the
-folder: with them the listing is the same whoever makes it and whenever. What a
-listing can't say is left out, each with a line 'left out PATH: REASON' on
-standard error: names above 254 bytes or that are no text, files above 268435456
-bytes, owners above 65535, times that 32 bits do not hold and devices above 4095
-and 1048575. The rest goes on.
+'fifo' and 'socket'. Symlinks are never followed. --owner and --time replace
+those of the folder: with them the listing is the same for everybody at any
+time.
+
+All that a listing cannot hold is left out, each with a line 'left out PATH:
+REASON' on standard error, and the rest goes on. These are names above 254 bytes
+or that are not text, files above 268435456 bytes or that you may not read, and
+owners above 65535. They are also times before 1970 or after 2106, devices with
+a major number above 4095 or a minor one above 1048575, targets of symlinks that
+are empty or above 4095 bytes, and the file that standard output is.
 
 Examples:
   jffs2_image listing tree > tree.txt
@@ -419,27 +427,27 @@ Exit status:
   3  something was left out";
 
 pub(crate) const INFO_EPILOGUE: &str = "\
-It takes neither --block nor --endian: nodes are sought in both byte orders, as
-if the file were one block, and the order with more of them is the image's. It
-prints, also where the numbers are 0,
+It takes neither --block nor --endian. It looks for nodes in both byte orders,
+as if the file were one block, and takes the order with more nodes. It prints,
+even if the numbers are 0,
 
   bytes N
-  order little nodes N other N     or big; 'order none' where no node is found
+  order little nodes N other N     or big; 'order none' if no node is found
   block from MIN to MAX markers N  or 'block unknown'
   nodes entries N inodes N obsolete N damaged N other N
   data none N zero N rtime N zlib N lzo N lzma N other N
   highest inode N version N
 
 The second line counts the nodes in the image's order, and in the other one.
-MIN and MAX are the least and the greatest size of blocks, a multiple of 4 from
-4096 to 4194304, that nothing rules out: an address of a clean marker that is no
-multiple of it, a longer node, or, of a power of two, a node that passes the end
-of a block. They are unknown where no marker stands past address 0, or no size
-is left. 'data' counts sound inode nodes by how their data are stored; rtime,
-zlib, lzo and lzma want --decompress.
+MIN and MAX are the least and the greatest possible size of blocks, a multiple
+of 4 from 4096 to 4194304. Three things rule a size out: a clean marker at an
+address that is not a multiple of it, a longer node, and, if it is a power of
+two, a node across the end of a block. The sizes are unknown if no marker comes
+after address 0, or if no size is left. 'data' counts sound inode nodes by how
+their data are stored; rtime, zlib, lzo and lzma need --decompress.
 
-A note on standard error tells where the file begins as gzip, xz, UBI, squashfs,
-TRX or uImage do: then an image may be in it, or it is none.
+If the file begins as gzip, xz, UBI, squashfs, TRX or uImage do, a note on
+standard error says so: an image may be inside of it.
 
 Example:
   jffs2_image info dump.img
@@ -451,26 +459,27 @@ Exit status:
   3  no node was found";
 
 pub(crate) const CUTS_EPILOGUE: &str = "\
-It plans what build would write of LISTING, or append with --on, and writes
-nothing. Each operation is written as a few nodes, a step of the file system
-each. In the order of their addresses, a line a node, it prints
+It plans the nodes that build would write for LISTING, or append with --on, and
+writes nothing. Each operation is written as a few nodes, and each node is one
+step of the file system. It prints a line for each node, in the order of their
+addresses:
 
   A N line L step S of T stands from B
 
   A  address of the node, and N its number of bytes
-  L  line of the listing, of whose T steps this is the step S
-  B  the node is whole exactly where the bytes below address B were written
+  L  line of the listing, which has T steps; this is step S of them
+  B  the node is whole exactly if all bytes below address B were written
 
-Where power fails, what is left mounts as the file system after exactly the
-steps whose B is at most the address of the stop, unless a node is weak. Below
-the line of a weak node stands 'weak A at J': a stop after its first J bytes
-leaves a node that passes every check and that nobody wrote. Last comes
+After a power cut, the image mounts as the file system after exactly the steps
+whose B is at most the address of the stop, unless a node is weak. A line 'weak
+A at J' follows the line of a weak node: a stop after its first J bytes leaves a
+node that passes every check and that nobody wrote. The last line is
 
   total operations O steps N from R to E weak W
 
-R is where writing begins, E where it ends, W the number of weak nodes. The
-first operation that is refused is the last: the fault has the number of its
-line, and the lines of the operations before it stand.
+Writing begins at R and ends at E, and W nodes are weak. The first operation
+that is refused is the last: the fault has the number of its line, and the lines
+of the operations before it are printed.
 
 Example:
   jffs2_image cuts --blocks 64 --on flash.img more.txt
@@ -483,8 +492,8 @@ Exit status:
 
 pub(crate) const DIFF_EPILOGUE: &str = "\
 Both images are mounted with the same --block and --endian. It prints a line for
-each path at which their trees differ; a directory stands before what lies in
-it, and names are in byte order:
+each path at which their trees differ; a directory comes before its entries, and
+names are in byte order:
 
   - LINE            only A has the path
   + LINE            only B has it
@@ -492,9 +501,9 @@ it, and names are in byte order:
                     target differ, or with --times the time of change
   * PATH at OFFSET  only the bytes differ, from this offset on
 
-LINE is that of ls without the inode number, and without the time of change
-unless --times is given: 'jffs2_image help ls' tells what it is. A directory
-that was met before is not entered again.
+LINE is a line of ls without the inode number, and without the time of change
+unless --times is given; see 'jffs2_image help ls'. A directory that was met
+before is not entered again.
 
 Example:
   jffs2_image diff --block 131072 old.img new.img
@@ -507,28 +516,30 @@ Exit status:
 
 pub(crate) const DAMAGE_EPILOGUE: &str = "\
 The image is mounted, without its damaged nodes. It prints a line for each of
-them, in order of address A (8 hexadecimal digits), by its fields where their
-checksum is right:
+them, in order of address A (8 hexadecimal digits). If the checksum of its
+fields is right, the line has them:
 
   A data-crc ino I version V bytes O to E hides PATH
+  A data-crc ino I version V bytes O to E and N more paths
   A data-crc ino I version V bytes O to E hides nothing
   A data-crc ino I version V bytes O to E has no path
   A name-crc pino P version V ino I lost in PATH
   A WORD unknown
 
-The first stands once for each path of inode I. 'hides nothing' says that the
-object is the same whatever the node said: other nodes of V or a higher version
-have its attributes, and all bytes from O to E that it has. Of a damaged name
-PATH is the path of its directory, and 'in PATH' is left out where it has none.
-WORD is node-crc, length or range. Then comes a line for each name that has no
-object, with its directory's inode number where no path leads to it:
+The first comes once for each path of inode I, for sixteen at most; the second
+counts the others. 'hides nothing' means that the object does not depend on this
+node: other nodes of version V or higher have its attributes, its size and each
+byte from O to E below that size. For a damaged name, PATH is the path of its
+directory, and 'in PATH' is left out if there is none. WORD is node-crc, length
+or range. Then comes a line for each name without an object, with the inode
+number of its directory if no path leads there:
 
   missing PATH ino I
   missing pino P name NAME ino I
 
-and last 'total damaged N paths N missing N', the numbers of damaged nodes, of
-lines that hide a path, and of missing objects. A damaged header makes no node:
-'check --scan' tells it as dirt.
+The last line is 'total damaged N paths N missing N': the numbers of damaged
+nodes, of all paths that they hide, and of missing objects. Bytes with a damaged
+header are not a node: 'check --scan' reports them as dirt.
 
 Example:
   jffs2_image damage --block 131072 flash.img
@@ -540,21 +551,21 @@ Exit status:
   3  damage was printed, or IMAGE has findings";
 
 pub(crate) const PACK_EPILOGUE: &str = "\
-It writes what build makes of the listing of DIR, byte for byte, and writes no
-listing: 'jffs2_image help listing' tells what of DIR an image can hold, and
-'jffs2_image help build' what is written and what is printed. What is left out
-is told on standard error, each with a line 'left out PATH: REASON', and the
-rest goes on. --owner and --time take the place of those of the folder: with
-them the image is the same whoever makes it and whenever.
+It makes the image that build makes of the listing of DIR, byte for byte, and
+writes no listing. 'jffs2_image help listing' says which parts of DIR an image
+can hold, and 'jffs2_image help build' explains the options and the output.
+Things that are left out are reported on standard error, each with a line 'left
+out PATH: REASON', and the rest goes on. --owner and --time replace those of the
+folder: with them the image is the same for everybody at any time.
 
-OUT ends with the last node. Without --blocks the flash has as many blocks as it
-may have. --pad puts 0xFF behind the last node, up to the end of the flash, or
-without --blocks to the end of the last block that has a byte. With --atomic a
-new file beside OUT is written, which takes its place when all has gone well:
+OUT ends with the last node. Without --blocks the flash is as large as possible.
+With --pad, 0xFF follows the last node, up to the end of the flash, or without
+--blocks to the end of the last block that is used. With --atomic a new file in
+the same folder is written, which takes the name of OUT when all has gone well:
 after a fault OUT is as it was.
 
-A fault at a line, as P2 or S1, has its number in the listing that listing
-prints of DIR.
+Line numbers in faults, as P2 or S1, refer to the output of 'jffs2_image listing
+DIR'.
 
 Examples:
   jffs2_image pack tree flash.img

@@ -1,7 +1,12 @@
+pub mod CoverLemmas
+pub mod ImageLemmas
+pub mod KeptLemmas
 pub mod NameLemmas
 pub mod ObjectLemmas
 pub mod PartLemmas
 pub mod PathLemmas
+pub mod RankLemmas
 pub mod ReachingLemmas
 pub mod StillLemmas
+pub mod TakenLemmas
 pub mod TopLemmas

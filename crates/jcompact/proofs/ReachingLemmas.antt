@@ -354,3 +354,30 @@ all_met s unmet all i there = (
   λ h way. true≢false (sym h ∙ stays_met s unmet all way.0 (Ok 1) i (λ n e. ap (contains nat_cmp unmet) (sym (ap number_or e)) ∙ all.0.root) way.1),
   λ no. by_test (contains nat_cmp unmet i) (λ t. t) (λ f. absurd (no (all.0.met i there f))),
 )
+
+-- what names lead to is there
+to_there : (s : State) (o : Option ℕ) (i : ℕ) → step_to s o ≡ Ok i → is_there s i ≡ true
+to_there s None i e = absurd (false≢true (ap is_number e))
+to_there s (Some k) i e = by (is_there s k) refl e
+  where
+    by : (b : Bool) → is_there s k ≡ b → cond b (Ok k) (Err fault.NotFound) ≡ Ok i → is_there s i ≡ true
+    by true there is = ap (is_there s) (sym (ap number_or is)) ∙ there
+    by false there is = absurd (false≢true (ap is_number is))
+
+walk_there : (s : State) (names : List (List ℕ)) (r : Result ℕ FindFault) (i : ℕ) → ((h : ℕ) → r ≡ Ok h → is_there s h ≡ true) → walk s names r ≡ Ok i → is_there s i ≡ true
+walk_there s [] r i there e = there i e
+walk_there s (name ∷ names) (Err f) i there e = absurd (false≢true (ap is_number e))
+walk_there s (name ∷ names) (Ok here) i there e =
+    walk_there s names (step s here name) i
+    (λ h q. by (is_directory s here) h q)
+    e
+  where
+    by : (b : Bool) (h : ℕ) → cond b (step_to s (named s here name)) (Err fault.NotDirectory) ≡ Ok h → is_there s h ≡ true
+    by true h q = to_there s (named s here name) h q
+    by false h q = absurd (false≢true (ap is_number q))
+
+pub led_there : (s : State) (i : ℕ) → is_there s 1 ≡ true → NamesLeadTo s i → is_there s i ≡ true
+led_there s i root way = walk_there s way.0 (Ok 1) i (λ h q. ap (is_there s) (sym (ap number_or q)) ∙ root) way.1
+
+pub met_leads : (s : State) (unmet : BTreeSet ℕ) → IsMetUpTo s [] unmet → (i : ℕ) → is_there s i ≡ true → contains nat_cmp unmet i ≡ false → NamesLeadTo s i
+met_leads s unmet all i there gone = all.0.met i there gone

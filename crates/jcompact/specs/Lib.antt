@@ -2,3 +2,4 @@ pub mod Examples
 pub mod Laws
 pub mod Matters
 pub mod Reaching
+pub mod Taking

@@ -97,6 +97,7 @@ matters ns reached (addr, Inode node) = reached node.ino
 
 -- rule: The file system that nodes make: Which nodes matter to it.
 --   definitions: jcompact.Matters.AreWhatMatters, jcompact.Matters.matters
+--   code: jcompact::keeping::kept, jcompact::image::kept_in
 --   laws: jcompact::laws::objects_are_kept, jcompact::laws::paths_are_kept,
 --   jcompact::laws::nothing_is_left_over, jcompact::laws::all_still_matter,
 --   jcompact::examples::names_kept, jcompact::examples::bytes_kept

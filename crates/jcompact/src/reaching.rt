@@ -12,7 +12,7 @@ use std::alloc::{AllocError, Global};
 use std::collections::BTreeSet;
 
 /// Whether this number is that of a directory.
-fn is_directory(mounted: &Mounted<'_>, ino: u32) -> bool
+pub(crate) fn is_directory(mounted: &Mounted<'_>, ino: u32) -> bool
     ensures { result ≡ tree.is_directory mounted.now.state ino }
 {
     match mounted.object(ino) {
@@ -76,8 +76,10 @@ fn take_reached(
 /// # Errors
 /// Out of memory.
 pub fn unreached(alloc: Global, mounted: &Mounted<'_>) -> Result<BTreeSet<u32>, AllocError>
-    ensures { IfOk result (λ unreached. (i : ℕ) → tree.is_there mounted.now.state i ≡ true
+    ensures unreached { IfOk result (λ unreached. (i : ℕ) → tree.is_there mounted.now.state i ≡ true
         → Decides (contains nat_cmp unreached i) (NamesLeadTo mounted.now.state i → ⊥)) }
+    ensures reached { IfOk result (λ unreached. (i : ℕ) → tree.is_there mounted.now.state i ≡ true
+        → contains nat_cmp unreached i ≡ false → NamesLeadTo mounted.now.state i) }
 {
     let mut unmet = numbers_of(alloc, mounted)?;
     unmet.remove(&ROOT);

@@ -18,11 +18,12 @@ use Rattle.jlog.specs.Places.{end_of_all, is_writable_flash}
 use Rattle.jlog.specs.Running.{written}
 use Rattle.jlog.specs.Session.{IsFresh}
 use Rattle.jlog.specs.declared.fault.SessionFault.{SessionFault}
+use Rattle.jlog.specs.declared.fault.SessionFault.TheVariants as session
 use Rattle.jlog.specs.declared.start.Flash.{Flash}
 use Rattle.jlog.proofs.CodeLemmas.{flash_limits}
 use Rattle.jcuts.specs.Lines.{step_nodes, text_of_node, text_of_nodes, weak_count, end_text}
-use Rattle.jcuts.specs.Planning.{CanPlan}
-use Rattle.jcuts.specs.Cuts.{Point, Asked, base_point, IsPlannedAt, IsCounted, told_of_op, TellsOp, AdvancesTo, first_standings, first_nodes, first_text, last_text, AreAllTold, TellsOps, PutsCuts}
+use Rattle.jcuts.specs.Planning.{CanPlan, IfFull}
+use Rattle.jcuts.specs.Cuts.{Point, Asked, base_point, IsPlannedAt, IsCounted, told_of_op, TellsLeast, TellsOp, AdvancesTo, first_standings, first_nodes, first_text, last_text, AreAllTold, TellsOps, PutsCuts}
 use Rattle.jcuts.specs.declared.cuts.Counts.{Counts}
 use Rattle.jcuts.specs.declared.cuts.CutsFault.{CutsFault}
 use Rattle.jcuts.specs.declared.cuts.CutsFault.TheVariants as told
@@ -166,8 +167,8 @@ pub told_stop : (e : Endian) (flash : Flash) (asked : Asked) (from : Point) (n :
     → Told e flash asked from n at (record { old = a; new = b; before = f; now = g }) counts
     → TellsOp e flash (record { telling = asked.telling; op = o; line = line }) at to (record { old = b; new = c; before = g; now = h }) (Err fault)
     → TellsOps e flash asked from to (record { old = a; new = c; before = f; now = h }) (Err fault)
-told_stop e flash asked from n d o at to line a b c f g h counts (told.Session fault None) below same_long o_is line_is first did = absurd did
-told_stop e flash asked from n d o at to line a b c f g h counts (told.Session fault (Some l)) below same_long o_is line_is first did =
+told_stop e flash asked from n d o at to line a b c f g h counts (told.Session fault None blocks) below same_long o_is line_is first did = absurd did
+told_stop e flash asked from n d o at to line a b c f g h counts (told.Session fault (Some l) blocks) below same_long o_is line_is first did =
     let within : n < length asked.lines = omega (arith, same_long, below) in (
       n,
       record {
@@ -180,6 +181,7 @@ told_stop e flash asked from n d o at to line a b c f g h counts (told.Session f
       },
       subst (λ (t : Option (List ℕ)). Appends a t (first_text e flash asked from n)) (sym did.2) first.put,
       did.3 ∙ first.failed,
+      did.4,
     )
 told_stop e flash asked from n d o at to line a b c f g h counts told.Output below same_long o_is line_is first did =
     let nodes : List Standing = did.0 in
@@ -201,12 +203,26 @@ all_told e flash asked from n at sink counts all first = record {
   failed = first.failed;
 }
 
+-- the blocks that it needs, told of a log that stayed where it was
+pub least_at : {X : Type 0} (e : Endian) (flash' flash : Flash) (address' address : ℕ) (x' x : Indexed) (o : Op) (f : SessionFault) (blocks : Result (Option ℕ) X) → flash' ≡ flash
+    → IfFull f ((address' ≡ address) × (x' ≡ x)) → TellsLeast e flash' (point_by address' x') o f blocks → TellsLeast e flash (point_by address x) o f blocks
+least_at {X = X} e flash' flash address' address x' x o (session.Full wanted left) blocks flash_is stays least =
+    subst (λ (z : Flash). TellsLeast {X = X} e z (point_by address x) o (session.Full wanted left) blocks) flash_is
+    (subst (λ (y : Indexed). TellsLeast {X = X} e flash' (point_by address y) o (session.Full wanted left) blocks) stays.1
+    (subst (λ (a : ℕ). TellsLeast {X = X} e flash' (point_by a x') o (session.Full wanted left) blocks) stays.0 least))
+least_at e flash' flash address' address x' x o (session.Refused g) blocks flash_is stays least = least
+least_at e flash' flash address' address x' x o session.ReadOnly blocks flash_is stays least = least
+least_at e flash' flash address' address x' x o session.Sink blocks flash_is stays least = least
+least_at e flash' flash address' address x' x o session.OutOfMemory blocks flash_is stays least = least
+least_at e flash' flash address' address x' x o session.Broken blocks flash_is stays least = least
+least_at e flash' flash address' address x' x o session.Geometry blocks flash_is stays least = least
+
 -- ---- all of them
 
 pub cuts_stop : (e : Endian) (flash : Flash) (base : List ℕ) (asked : Asked) (to : Point) (sink : SinkChange) (fault : CutsFault)
     → TellsOps e flash asked (base_point e flash base) to sink (Err fault) → PutsCuts e flash base asked sink (Err fault)
-cuts_stop e flash base asked to sink (told.Session fault None) did = absurd did
-cuts_stop e flash base asked to sink (told.Session fault (Some l)) did = did
+cuts_stop e flash base asked to sink (told.Session fault None blocks) did = absurd did
+cuts_stop e flash base asked to sink (told.Session fault (Some l) blocks) did = did
 cuts_stop e flash base asked to sink told.Output did = inl did
 
 -- the last text by the numbers that are known

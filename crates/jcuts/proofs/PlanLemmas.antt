@@ -29,7 +29,7 @@ use Rattle.jlog.proofs.PlaceLemmas.{place_is_least}
 use Rattle.jlog.proofs.RunLemmas.{can_plan, going_on}
 use Rattle.jlog.proofs.RunningLemmas.{can_room}
 use Rattle.jcuts.specs.Standing.{standings, standing_in, IsNodeIn}
-use Rattle.jcuts.specs.Planning.{CanPlan, IsPlannedOp, without_sink}
+use Rattle.jcuts.specs.Planning.{CanPlan, IfFull, IsPlannedOp, without_sink}
 use Rattle.jcuts.specs.declared.standing.Standing.{Standing}
 use Rattle.jcuts.proofs.HeldLemmas.{EndsBelow, nodes_are_in, standings_are_in}
 use Rattle.jcuts.proofs.JoinLemmas.{standings_long}
@@ -130,6 +130,17 @@ declined_op T page e size blocks from x o was end y is old new failures now befo
 declined_op T page e size blocks from x o was end y is old new failures now before after fault.Broken whole did = absurd (both_ways was whole did.0)
 declined_op T page e size blocks from x o was end y is old new failures now before after fault.ReadOnly whole did = absurd did
 declined_op T page e size blocks from x o was end y is old new failures now before after fault.Geometry whole did = absurd did
+
+-- Where room was wanting, the log is as it was.
+pub stays_op : (T : Type 0) (page : ℕ) (e : Endian) (size blocks from : ℕ) (x : Indexed) (o : Op) (was : Bool) (end : ℕ) (y : Indexed) (is : Bool) (old new : Option (List ℕ)) (failures now : ℕ) (before after : List Place) (f : SessionFault)
+    → AppliesBy {T = T} page e size blocks from x o was end y is old new failures now before after (Err f) → IfFull (without_sink f) ((end ≡ from) × (y ≡ x))
+stays_op T page e size blocks from x o was end y is old new failures now before after (fault.Full w l) did = (did.2.cursor, did.2.index)
+stays_op T page e size blocks from x o was end y is old new failures now before after (fault.Refused g) did = tt
+stays_op T page e size blocks from x o was end y is old new failures now before after fault.Sink did = tt
+stays_op T page e size blocks from x o was end y is old new failures now before after fault.OutOfMemory did = tt
+stays_op T page e size blocks from x o was end y is old new failures now before after fault.Broken did = tt
+stays_op T page e size blocks from x o was end y is old new failures now before after fault.ReadOnly did = tt
+stays_op T page e size blocks from x o was end y is old new failures now before after fault.Geometry did = tt
 
 -- ---- the same at equal values
 

@@ -1,5 +1,5 @@
 -- What is told of operations that follow one another.
-use Rattle.std.specs.Prelude.{◌≡◌, ◌⊎◌, ℕ, ◌≤◌, IsTrue, IsFalse, List, [], ◌++◌, length, take, slice_get, Option, Some, None, Result, Ok, Err}
+use Rattle.std.specs.Prelude.{◌≡◌, ◌⊎◌, ℕ, ◌≤◌, IsTrue, IsFalse, List, [], ◌++◌, length, take, slice_get, Option, Some, None, Result, Ok, Err, ⊤}
 use Rattle.std.specs.Io.KnownBytes.{Appends}
 use Rattle.byteorder.specs.declared.ByteOrder.{Ghosts as OfByteOrder}
 use Rattle.flashbase.specs.Device.{PutsPart, next_count}
@@ -9,11 +9,11 @@ use Rattle.jnode.specs.declared.order.Endian.{Endian}
 use Rattle.jnode.specs.declared.order.Order.{Ghosts as OfOrder}
 use Rattle.jsteps.specs.Nodes.{Indexed, advanced_all}
 use Rattle.jscan.specs.Pages.{page_size}
-use Rattle.jsteps.specs.Refusals.{plans_of, steps_of_first}
+use Rattle.jsteps.specs.Refusals.{planned_by, plans_of, steps_of_first}
 use Rattle.jsteps.specs.declared.op.Op.{Op}
 use Rattle.jsteps.specs.declared.step.Step.{Step}
 use Rattle.jlog.specs.Headline.{index_of_image, resume_address}
-use Rattle.jlog.specs.Places.{end_of_all, fit}
+use Rattle.jlog.specs.Places.{end_of_all, fit, least_blocks}
 use Rattle.jlog.specs.Running.{written}
 use Rattle.jlog.specs.Session.{Declines}
 use Rattle.jlog.specs.View.{block_size_of, blocks_of, page_of, cursor_of, index_of_log, is_broken, sink_of, written_flash}
@@ -91,6 +91,21 @@ IsDeclined e flash from o fault =
     Declines (page_size flash.page) e flash.geometry.block flash.blocks
     from.address from.index o fault
 
+-- Where room was wanting for it: the least number of blocks that hold it, and so all before it,
+-- where the greatest flash does, unless memory ran out for that. Nothing at another fault.
+abbrev pub TellsLeast : {X : Type 0} → Endian → Flash → Point → Op → SessionFault
+    → Result (Option ℕ) X → Type 0
+TellsLeast e flash at o (session.Full wanted left) (Ok blocks) = (steps : List Step)
+    × (planned_by (page_size flash.page) at.index o ≡ Ok steps)
+    × (blocks ≡ least_blocks flash.geometry.block at.address (written e at.index steps))
+TellsLeast e flash at o (session.Full wanted left) (Err _) = ⊤
+TellsLeast e flash at o (session.Refused f) blocks = blocks ≡ Ok None
+TellsLeast e flash at o session.ReadOnly blocks = blocks ≡ Ok None
+TellsLeast e flash at o session.Sink blocks = blocks ≡ Ok None
+TellsLeast e flash at o session.OutOfMemory blocks = blocks ≡ Ok None
+TellsLeast e flash at o session.Broken blocks = blocks ≡ Ok None
+TellsLeast e flash at o session.Geometry blocks = blocks ≡ Ok None
+
 -- so many nodes, and so many of them are weak
 pub record IsCounted (list : List Standing) (counts : Counts) : Type 0 where
   pub nodes : counts.nodes ≡ length list
@@ -101,17 +116,17 @@ abbrev pub told_of_op : Telling → ℕ → List Standing → List ℕ
 told_of_op telling line nodes = text_of_nodes telling (step_nodes line (length nodes) 1 nodes)
 
 -- It is accepted, its nodes are told, and writing goes on after them; it is declined, and nothing
--- is told; or the sink failed, and a beginning of it went out.
+-- is told but how many blocks it needs; or the sink failed, and a beginning of it went out.
 abbrev pub TellsOp : Endian → Flash → AskedOne → Point → Point → SinkChange
     → Result Counts CutsFault → Type 0
 TellsOp e flash asked from to sink (Ok counts) =
     (nodes : List Standing) × IsPlannedAt e flash from asked.op to nodes × IsCounted nodes counts
     × Appends sink.old sink.new (told_of_op asked.telling asked.line nodes)
     × (sink.now ≡ sink.before)
-TellsOp e flash asked from to sink (Err (told.Session fault None)) = ⊥
-TellsOp e flash asked from to sink (Err (told.Session fault (Some n))) =
+TellsOp e flash asked from to sink (Err (told.Session fault None blocks)) = ⊥
+TellsOp e flash asked from to sink (Err (told.Session fault (Some n) blocks)) =
     (n ≡ asked.line) × IsDeclined e flash from asked.op fault × (sink.new ≡ sink.old)
-    × (sink.now ≡ sink.before)
+    × (sink.now ≡ sink.before) × TellsLeast e flash from asked.op fault blocks
 TellsOp e flash asked from to sink (Err told.Output) =
     (nodes : List Standing) × IsPlannedAt e flash from asked.op to nodes
     × PutsPart sink.old sink.new (told_of_op asked.telling asked.line nodes)
@@ -177,11 +192,14 @@ pub record AreAllTold (e : Endian) (flash : Flash) (asked : Asked) (from to : Po
   pub put : Appends sink.old sink.new (first_text e flash asked from (length asked.ops))
   pub failed : sink.now ≡ sink.before
 
--- One is declined, and those before it are told.
-abbrev pub TellsUpTo : Endian → Flash → Asked → Point → SinkChange → SessionFault → ℕ → Type 0
-TellsUpTo e flash asked from sink fault line =
-    (n : ℕ) × DeclinesNext e flash asked from n line fault
+-- One is declined, and those before it are told; with the number of its line, and how many blocks
+-- it needs where room was wanting.
+abbrev pub TellsUpTo : {X : Type 0} → Endian → Flash → Asked → Point → SinkChange → SessionFault
+    → (ℕ × Result (Option ℕ) X) → Type 0
+TellsUpTo e flash asked from sink fault at =
+    (n : ℕ) × (next : DeclinesNext e flash asked from n at.0 fault)
     × Appends sink.old sink.new (first_text e flash asked from n) × (sink.now ≡ sink.before)
+    × TellsLeast e flash next.at next.next fault at.1
 
 -- The sink failed at one that is accepted: a beginning of what is told of the nodes up to its own
 -- went out.
@@ -195,9 +213,9 @@ TellsPart e flash asked from sink =
 abbrev pub TellsOps : Endian → Flash → Asked → Point → Point → SinkChange
     → Result Counts CutsFault → Type 0
 TellsOps e flash asked from to sink (Ok counts) = AreAllTold e flash asked from to sink counts
-TellsOps e flash asked from to sink (Err (told.Session fault None)) = ⊥
-TellsOps e flash asked from to sink (Err (told.Session fault (Some line))) =
-    TellsUpTo e flash asked from sink fault line
+TellsOps e flash asked from to sink (Err (told.Session fault None blocks)) = ⊥
+TellsOps e flash asked from to sink (Err (told.Session fault (Some line) blocks)) =
+    TellsUpTo e flash asked from sink fault (line, blocks)
 TellsOps e flash asked from to sink (Err told.Output) = TellsPart e flash asked from sink
 
 -- All are accepted, they are told in order, and then the last line; so many of their nodes are
@@ -230,10 +248,11 @@ TellsAllButEnd e flash asked from sink =
 abbrev pub PutsCuts : Endian → Flash → List ℕ → Asked → SinkChange → Result ℕ CutsFault → Type 0
 PutsCuts e flash base asked sink (Ok weak) =
     AreCutsTold e flash asked (base_point e flash base) sink weak
-PutsCuts e flash base asked sink (Err (told.Session fault None)) =
+PutsCuts e flash base asked sink (Err (told.Session fault None blocks)) =
     (fault ≡ session.OutOfMemory) × (sink.new ≡ sink.old) × (sink.now ≡ sink.before)
-PutsCuts e flash base asked sink (Err (told.Session fault (Some line))) =
-    TellsUpTo e flash asked (base_point e flash base) sink fault line
+    × (blocks ≡ Ok None)
+PutsCuts e flash base asked sink (Err (told.Session fault (Some line) blocks)) =
+    TellsUpTo e flash asked (base_point e flash base) sink fault (line, blocks)
 PutsCuts e flash base asked sink (Err told.Output) =
     TellsPart e flash asked (base_point e flash base) sink
     ⊎ TellsAllButEnd e flash asked (base_point e flash base) sink

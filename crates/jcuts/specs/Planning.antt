@@ -1,5 +1,5 @@
 -- What planning one operation promises.
-use Rattle.std.specs.Prelude.{◌≡◌, ℕ, ◌+◌, ◌≤◌, IsTrue, List, length}
+use Rattle.std.specs.Prelude.{◌≡◌, ℕ, ◌+◌, ◌≤◌, IsTrue, List, length, ⊤}
 use Rattle.jsteps.specs.Nodes.{Indexed, advanced_all}
 use Rattle.jsteps.specs.declared.op.Op.{Op}
 use Rattle.jsteps.specs.declared.step.Step.{Step}
@@ -28,7 +28,22 @@ pub record CanPlan (page size blocks from : ℕ) (x : Indexed) : Type 0 where
   pub holds : page + 80 ≤ size
   pub going : IsGoing size blocks from x
 
+-- this holds of a log that lacked room
+abbrev pub IfFull : SessionFault → Type 0 → Type 0
+IfFull (fault.Full wanted left) says = says
+IfFull (fault.Refused f) says = ⊤
+IfFull fault.ReadOnly says = ⊤
+IfFull fault.Sink says = ⊤
+IfFull fault.OutOfMemory says = ⊤
+IfFull fault.Broken says = ⊤
+IfFull fault.Geometry says = ⊤
+
 -- A fault of a log whose sink keeps what it takes: where that fails, memory is wanting.
 abbrev pub without_sink : SessionFault → SessionFault
 without_sink fault.Sink = fault.OutOfMemory
-without_sink f = f
+without_sink (fault.Full wanted left) = fault.Full wanted left
+without_sink (fault.Refused f) = fault.Refused f
+without_sink fault.ReadOnly = fault.ReadOnly
+without_sink fault.OutOfMemory = fault.OutOfMemory
+without_sink fault.Broken = fault.Broken
+without_sink fault.Geometry = fault.Geometry

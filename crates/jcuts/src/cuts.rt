@@ -3,7 +3,7 @@
 ghost use Rattle.std.specs.Prelude.{◌≡◌, IfOk, OnOk, length};
 ghost use Rattle.jlog.specs.View.{mount_of, flash_of_start};
 ghost use Rattle.jcuts.specs.Lines.{weak_count};
-ghost use Rattle.jcuts.specs.Cuts.{base_point, flash_of, point_of, IsReady, TellsOp, TellsOps, PutsCuts};
+ghost use Rattle.jcuts.specs.Cuts.{base_point, flash_of, point_of, IsReady, TellsLeast, TellsOp, TellsOps, PutsCuts};
 ghost use Rattle.flashbase.specs.Sinks.{change_of};
 
 use crate::held::Held;
@@ -26,10 +26,13 @@ pub(crate) struct Counts {
 /// Why not all is told.
 #[derive(Clone, Copy, Debug, PartialEq, Eq)]
 pub enum CutsFault {
-    /// The fault of a session: before any operation, or at the one whose line has this number.
+    /// The fault of a session: before any operation, or at the one whose line has this number. At
+    /// `Full`, the least number of blocks that hold this one and those before it, and nothing where
+    /// the greatest flash does not; nothing at another fault.
     Session {
         fault: SessionFault,
         line: Option<usize>,
+        blocks: Result<Option<u32>, AllocError>,
     },
     /// The sink failed.
     Output,
@@ -63,6 +66,24 @@ fn plan_from<'a, E: Order>(
     }
 }
 
+/// The least number of blocks that hold an operation for which a log lacked room, if any do.
+fn least_for<E: Order>(
+    alloc: Global,
+    plan: &Plan<'_, E>,
+    op: &Op<'_>,
+    fault: SessionFault,
+) -> Result<Option<u32>, AllocError>
+    ensures { TellsLeast E.order (flash_of plan.now) (point_of plan.now) op.now fault result }
+{
+    match fault {
+        SessionFault::Full { .. } => match plan.blocks_for(alloc, op) {
+            Ok(blocks) => Ok(blocks),
+            Err(_) => Err(AllocError),
+        },
+        _ => Ok(None),
+    }
+}
+
 /// Plans one operation, and tells its nodes.
 #[tactic(none)]
 fn tell_op<E: Order, T: Sink>(
@@ -86,6 +107,7 @@ fn tell_op<E: Order, T: Sink>(
             return Err(CutsFault::Session {
                 fault,
                 line: Some(line),
+                blocks: least_for(alloc, plan, op, fault),
             });
         }
     };
@@ -136,7 +158,8 @@ fn tell_ops<E: Order, T: Sink>(
 ///
 /// # Errors
 /// `Session` without a line: out of memory, and nothing is told; with one as a session answers that
-/// operation, and those before it are told. `Output`: the sink failed, and took a beginning.
+/// operation, with the least number of blocks where it is `Full`, and those before it are told.
+/// `Output`: the sink failed, and took a beginning.
 #[tactic(none)]
 pub fn put_cuts<E: Order, T: Sink>(
     alloc: Global,
@@ -155,7 +178,11 @@ pub fn put_cuts<E: Order, T: Sink>(
         Ok(plan) => plan,
         Err(_) => {
             let fault = SessionFault::OutOfMemory;
-            return Err(CutsFault::Session { fault, line: None });
+            return Err(CutsFault::Session {
+                fault,
+                line: None,
+                blocks: Ok(None),
+            });
         }
     };
     let from = plan.cursor();

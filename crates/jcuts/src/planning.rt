@@ -4,7 +4,7 @@ ghost use Rattle.std.specs.Prelude.{◌≡◌, IsFalse, OnOk, IfOk, IfErr, []};
 ghost use Rattle.jscan.specs.Pages.{page_size};
 ghost use Rattle.jlog.specs.Session.{Declines};
 ghost use Rattle.jlog.specs.View.{base_of, block_size_of, blocks_of, page_of, flash_of_log, cursor_of, index_of_log, is_broken, sink_of};
-ghost use Rattle.jcuts.specs.Planning.{CanPlan, IsPlannedOp, without_sink};
+ghost use Rattle.jcuts.specs.Planning.{CanPlan, IfFull, IsPlannedOp, without_sink};
 
 use crate::held::Held;
 use crate::standing::{Standing, standings_in};
@@ -30,7 +30,8 @@ fn without_sink(fault: SessionFault) -> SessionFault
 /// order.
 ///
 /// # Errors
-/// `Refused`, `Full` and `OutOfMemory` as a session answers them. The log is not used again.
+/// `Refused`, `Full` and `OutOfMemory` as a session answers them. After `Full` the log is as it was;
+/// after another fault it is not used again.
 pub(crate) fn plan_op<E: Order>(
     alloc: Global,
     plan: &mut Plan<'_, E>,
@@ -51,6 +52,8 @@ pub(crate) fn plan_op<E: Order>(
     ensures can { OnOk result (CanPlan (page_size (page_of plan.new)) (block_size_of plan.new)
         (blocks_of plan.new) (cursor_of plan.new) (index_of_log plan.new)) }
     ensures none { OnOk result ((sink_of plan.new).bytes.items ≡ []) }
+    ensures stays { IfErr result (λ fault. IfFull fault ((cursor_of plan.new ≡ cursor_of plan.old)
+        × (index_of_log plan.new ≡ index_of_log plan.old))) }
     ensures declined { IfErr result (λ fault. Declines (page_size (page_of plan.old)) E.order
         (block_size_of plan.old) (blocks_of plan.old)
         (cursor_of plan.old) (index_of_log plan.old) op.now fault) }

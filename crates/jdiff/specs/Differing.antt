@@ -5,7 +5,7 @@ use Rattle.std.specs.List.{flat_map}
 use Rattle.flashbase.specs.Device.{PutsPart, next_count}
 use Rattle.jmount.specs.Tree.{State}
 use Rattle.jreport.specs.declared.faults.ProgramFault.{ProgramFault}
-use Rattle.jreport.specs.declared.faults.ProgramFault.TheVariants.{Output, OutOfMemory}
+use Rattle.jreport.specs.declared.faults.ProgramFault.TheVariants as program
 use Rattle.jdiff.specs.Entries.{Entry, AreEntries}
 use Rattle.jdiff.specs.Pairing.{Place, ArePaired, lines_on}
 
@@ -33,8 +33,21 @@ PutsDifferences times s t old new before now (Ok count) =
     (lines : List (List ℕ)) × AreDifferences times s t lines
     × (count ≡ min (length lines) (2 ^ 64 - 1))
     × Appends old new (flat_map (λ line. line) lines) × (now ≡ before)
-PutsDifferences times s t old new before now (Err Output) =
+PutsDifferences times s t old new before now (Err program.Output) =
     PutsPartOfDifferences times s t old new × (now ≡ next_count before)
-PutsDifferences times s t old new before now (Err OutOfMemory) =
+PutsDifferences times s t old new before now (Err program.OutOfMemory) =
     PutsPartOfDifferences times s t old new × (now ≡ before)
-PutsDifferences times s t old new before now (Err _) = ⊥
+PutsDifferences times s t old new before now (Err (program.Load fault)) = ⊥
+PutsDifferences times s t old new before now (Err (program.Scan fault)) = ⊥
+PutsDifferences times s t old new before now (Err (program.Mount fault)) = ⊥
+PutsDifferences times s t old new before now (Err (program.Clash addr other)) = ⊥
+PutsDifferences times s t old new before now (Err (program.File file)) = ⊥
+PutsDifferences times s t old new before now (Err (program.NotRead file)) = ⊥
+PutsDifferences times s t old new before now (Err (program.Listing bad)) = ⊥
+PutsDifferences times s t old new before now (Err (program.Session fault line cause)) = ⊥
+PutsDifferences times s t old new before now (Err (program.Path fault)) = ⊥
+PutsDifferences times s t old new before now (Err program.NotRegular) = ⊥
+PutsDifferences times s t old new before now (Err (program.NoSpace name)) = ⊥
+PutsDifferences times s t old new before now (Err (program.Data addr)) = ⊥
+PutsDifferences times s t old new before now (Err (program.TooLong addr)) = ⊥
+PutsDifferences times s t old new before now (Err (program.Image fault)) = ⊥

@@ -11,7 +11,7 @@ use Rattle.jreport.specs.TreeText.{Met, met_after, is_entered}
 use Rattle.jreport.specs.Remembering.{Becomes, remembered}
 use Rattle.jreport.specs.declared.met.MetDirectories.{MetDirectories}
 use Rattle.jreport.specs.declared.faults.ProgramFault.{ProgramFault}
-use Rattle.jreport.specs.declared.faults.ProgramFault.TheVariants.{Output, OutOfMemory}
+use Rattle.jreport.specs.declared.faults.ProgramFault.TheVariants as program
 use Rattle.std.specs.List.{flat_map}
 use Rattle.jdiff.specs.Entries.{Entry, listed_entry}
 use Rattle.jdiff.specs.Changes.{changes}
@@ -125,12 +125,25 @@ PutsSpot times s t met after spot sink (Ok v) =
     × Becomes met.right after.right (met_by t (remembered met.right) spot.2)
     × Appends sink.old sink.new (spot_text times s t met.left met.right spot)
     × (sink.now ≡ sink.before)
-PutsSpot times s t met after spot sink (Err Output) =
+PutsSpot times s t met after spot sink (Err program.Output) =
     PutsPart sink.old sink.new (spot_text times s t met.left met.right spot)
     × (sink.now ≡ next_count sink.before)
-PutsSpot times s t met after spot sink (Err OutOfMemory) =
+PutsSpot times s t met after spot sink (Err program.OutOfMemory) =
     Appends sink.old sink.new [] × (sink.now ≡ sink.before)
-PutsSpot times s t met after spot sink (Err _) = ⊥
+PutsSpot times s t met after spot sink (Err (program.Load fault)) = ⊥
+PutsSpot times s t met after spot sink (Err (program.Scan fault)) = ⊥
+PutsSpot times s t met after spot sink (Err (program.Mount fault)) = ⊥
+PutsSpot times s t met after spot sink (Err (program.Clash addr other)) = ⊥
+PutsSpot times s t met after spot sink (Err (program.File file)) = ⊥
+PutsSpot times s t met after spot sink (Err (program.NotRead file)) = ⊥
+PutsSpot times s t met after spot sink (Err (program.Listing bad)) = ⊥
+PutsSpot times s t met after spot sink (Err (program.Session fault line cause)) = ⊥
+PutsSpot times s t met after spot sink (Err (program.Path fault)) = ⊥
+PutsSpot times s t met after spot sink (Err program.NotRegular) = ⊥
+PutsSpot times s t met after spot sink (Err (program.NoSpace name)) = ⊥
+PutsSpot times s t met after spot sink (Err (program.Data addr)) = ⊥
+PutsSpot times s t met after spot sink (Err (program.TooLong addr)) = ⊥
+PutsSpot times s t met after spot sink (Err (program.Image fault)) = ⊥
 
 -- ---- what is still to compare at a point of the walk
 
@@ -207,8 +220,21 @@ PutsPairStep times s t w w_after sink (Ok (Some n)) =
     × (sink.now ≡ sink.before)
 PutsPairStep times s t w w_after sink (Ok None) =
     (spots_left w ≡ []) × Appends sink.old sink.new [] × (sink.now ≡ sink.before)
-PutsPairStep times s t w w_after sink (Err Output) =
+PutsPairStep times s t w w_after sink (Err program.Output) =
     PutsPartOfLeft times s t w sink.old sink.new × (sink.now ≡ next_count sink.before)
-PutsPairStep times s t w w_after sink (Err OutOfMemory) =
+PutsPairStep times s t w w_after sink (Err program.OutOfMemory) =
     PutsPartOfLeft times s t w sink.old sink.new × (sink.now ≡ sink.before)
-PutsPairStep times s t w w_after sink (Err _) = ⊥
+PutsPairStep times s t w w_after sink (Err (program.Load fault)) = ⊥
+PutsPairStep times s t w w_after sink (Err (program.Scan fault)) = ⊥
+PutsPairStep times s t w w_after sink (Err (program.Mount fault)) = ⊥
+PutsPairStep times s t w w_after sink (Err (program.Clash addr other)) = ⊥
+PutsPairStep times s t w w_after sink (Err (program.File file)) = ⊥
+PutsPairStep times s t w w_after sink (Err (program.NotRead file)) = ⊥
+PutsPairStep times s t w w_after sink (Err (program.Listing bad)) = ⊥
+PutsPairStep times s t w w_after sink (Err (program.Session fault line cause)) = ⊥
+PutsPairStep times s t w w_after sink (Err (program.Path fault)) = ⊥
+PutsPairStep times s t w w_after sink (Err program.NotRegular) = ⊥
+PutsPairStep times s t w w_after sink (Err (program.NoSpace name)) = ⊥
+PutsPairStep times s t w w_after sink (Err (program.Data addr)) = ⊥
+PutsPairStep times s t w w_after sink (Err (program.TooLong addr)) = ⊥
+PutsPairStep times s t w w_after sink (Err (program.Image fault)) = ⊥

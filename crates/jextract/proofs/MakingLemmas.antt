@@ -17,7 +17,7 @@ use Rattle.jmount.specs.Shown.{readable, shown}
 use Rattle.jmount.specs.declared.object.Object.{Object}
 use Rattle.jmount.specs.declared.object.Kind.{Kind}
 use Rattle.jmount.specs.declared.object.Kind.TheVariants as k
-use Rattle.jextract.specs.Folders.{Failures, FolderChange, refused_once, Made, Deed, Link, Symlink, ReportsMore, Counts}
+use Rattle.jextract.specs.Folders.{AddsOne, Failures, FolderChange, refused_once, Made, Deed, Link, Symlink, ReportsMore, Counts}
 use Rattle.jextract.specs.Making.{Does, DoesSome, Follows, HasBegun, IsPathOf, FirstsAfter, NotesFirst, Works, fault_of, firsts_of}
 use Rattle.jextract.specs.Outcomes.{Plan, Do, LeaveOut, Task, Make, path_of_task, Outcome, FirstPaths, FollowsPlan, firsts_if, firsts_with, made_at, is_refusal, is_directory_kind, is_target, loses_bits, lost_at, lost_made, plan_again, plan_anew, plan_at, plan_made, plan_of, plan_symlink, attributes_of}
 use Rattle.jextract.specs.Paths.{greatest_path, host_path, relative_path, text_if}
@@ -28,6 +28,12 @@ use Rattle.jextract.specs.declared.making.MakeFault.{MakeFault}
 use Rattle.jextract.specs.declared.making.MakeFault.TheVariants as make
 use Rattle.jextract.specs.declared.reason.Reason.{Reason}
 use Rattle.jextract.specs.declared.reason.Reason.TheVariants as reason
+
+-- at a fault nothing is done
+pub adds_none : (S : Type 0) (old new : Option (List Made)) (made : Made) (e : FolderFault) → AddsOne {T = S} old new made (Err e) → ReportsMore old new []
+adds_none S old new made Refused adds = adds
+adds_none S old new made NoSpace adds = adds
+adds_none S old new made OutOfMemory adds = adds
 
 -- the deeds of a plan were not all done
 pub does_fail : (S : Type 0) {T : Type 0} (change : FolderChange) (path : List ℕ) (plan : Plan) (deeds : List Deed) (e : FolderFault) (r : Result T MakeFault)
@@ -42,9 +48,9 @@ does_fail S {T} change path plan deeds OutOfMemory (Err f) is does err =
 
 -- the one deed of a plan was not done
 pub one_fails : (S : Type 0) {T : Type 0} (change : FolderChange) (path : List ℕ) (plan : Plan) (deed : Deed) (e : FolderFault) (r : Result T MakeFault)
-    → plan ≡ Do (deed ∷ []) → ReportsMore change.old change.new [] → Counts {T = S} change.before change.now (Err e) → IsErrAnd r (λ x. x ≡ fault_of e) → Follows change path plan r
+    → plan ≡ Do (deed ∷ []) → AddsOne {T = S} change.old change.new (record { path = path; deed = deed }) (Err e) → Counts {T = S} change.before change.now (Err e) → IsErrAnd r (λ x. x ≡ fault_of e) → Follows change path plan r
 one_fails S change path plan deed e r is adds counts err =
-    does_fail S change path plan (deed ∷ []) e r is ((0, omega arith, adds), counts) err
+    does_fail S change path plan (deed ∷ []) e r is ((0, omega arith, adds_none S change.old change.new (record { path = path; deed = deed }) e adds), counts) err
 
 -- ---- targets
 
@@ -246,7 +252,17 @@ link_keeps_firsts firsts path text first i at there =
 pub firsts_kept : {T : Type 0} (s : State) (firsts : FirstPaths) (path : List (List ℕ)) (text first : List ℕ) (i : ℕ) (r : Result T MakeFault) → host_path path ≡ Ok text → firsts i ≡ Some first
     → FirstsAfter s firsts firsts path i r
 firsts_kept s firsts path text first i (Ok x) at there = inl (link_keeps_firsts firsts path text first i at there)
-firsts_kept s firsts path text first i (Err e) at there = refl
+firsts_kept s firsts path text first i (Err (make.LeftOut why)) at there = refl
+firsts_kept s firsts path text first i (Err make.NoSpace) at there = refl
+firsts_kept s firsts path text first i (Err make.OutOfMemory) at there = refl
+
+-- a task that was not done has no first path
+pub firsts_fail : {T : Type 0} (s : State) (firsts firsts_then : FirstPaths) (path : List (List ℕ)) (i : ℕ) (r : Result T MakeFault) (P : MakeFault → Type 0) → IsErrAnd r P → firsts_then ≡ firsts
+    → FirstsAfter s firsts firsts_then path i r
+firsts_fail s firsts firsts_then path i (Ok x) P err same = absurd err
+firsts_fail s firsts firsts_then path i (Err (make.LeftOut why)) P err same = same
+firsts_fail s firsts firsts_then path i (Err make.NoSpace) P err same = same
+firsts_fail s firsts firsts_then path i (Err make.OutOfMemory) P err same = same
 
 pub first_noted : {T : Type 0} (s : State) (old new : FirstPaths) (path : List (List ℕ)) (text : List ℕ) (i : ℕ) (x : T) → host_path path ≡ Ok text
     → NotesFirst {T = Unit {0}} {E = MakeFault} s old new text i (Ok (tt {0})) → FirstsAfter {T = T} s old new path i (Ok x)

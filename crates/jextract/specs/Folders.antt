@@ -71,7 +71,9 @@ counted_if (Some fault) n = counted_fault fault n
 abbrev pub AddsOne : {T : Type 0} → Option (List Made) → Option (List Made) → Made
     → Result T FolderFault → Type 0
 AddsOne old new made (Ok _) = ReportsMore old new (made ∷ [])
-AddsOne old new made (Err _) = ReportsMore old new []
+AddsOne old new made (Err Refused) = ReportsMore old new []
+AddsOne old new made (Err NoSpace) = ReportsMore old new []
+AddsOne old new made (Err OutOfMemory) = ReportsMore old new []
 
 -- a file has no places yet, where the folder says what was made in it
 abbrev pub IsEmptyIn : Option (List Made) → Option Cells → Type 0

@@ -103,4 +103,6 @@ abbrev pub FirstsAfter : {T : Type 0} → State → FirstPaths → FirstPaths �
     → Result T MakeFault → Type 0
 FirstsAfter s old new path i (Ok _) =
     (new ≡ firsts_if old path i None) ⊎ ((new ≡ old) × HasOneName s i)
-FirstsAfter s old new path i (Err _) = new ≡ old
+FirstsAfter s old new path i (Err (LeftOut why)) = new ≡ old
+FirstsAfter s old new path i (Err NoSpace) = new ≡ old
+FirstsAfter s old new path i (Err OutOfMemory) = new ≡ old

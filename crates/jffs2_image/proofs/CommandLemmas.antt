@@ -3,7 +3,11 @@ use Rattle.std.proofs.Common.{ℕ, Bool, true, false, Result, Ok, Err, inl, inr}
 use Rattle.jnode.specs.declared.order.Endian.{Endian}
 use Rattle.jcommand.specs.Parsed.{Parsed, ScanParsed, CheckParsed, ListParsed, CatParsed, BuildParsed, AppendParsed, DecompressParsed}
 use Rattle.jreport.specs.declared.faults.ProgramFault.{ProgramFault}
-use Rattle.jffs2_image.specs.Host.{BlamesFor, MakesFile}
+use Rattle.jcommand.specs.declared.command_line.RequestFault.{RequestFault}
+use Rattle.jcommand.specs.declared.command_line.RequestFault.TheVariants as refused
+use Rattle.jffs2_image.specs.declared.program.Success.{Success}
+use Rattle.jffs2_image.specs.declared.program.Stop.{Stop}
+use Rattle.jffs2_image.specs.Host.{BlamesCommand, BlamesFor, MakesFile}
 use Rattle.jffs2_image.specs.Runs.{answer_finished}
 use Rattle.jffs2_image.specs.Writes.{FileReads, FileWrites}
 use Rattle.jffs2_image.proofs.DecompressingLemmas.{decompress_any, reads_any, refused_any, refused_none}
@@ -47,3 +51,10 @@ for_finished e (AppendParsed options blocks page decompress image listing output
     absurd (refused_none ℕ decompress e options.geometry.block (reading.told image) _ n w)
 for_finished e (DecompressParsed options force image output) u reading writing (Ok n) false w = w.2
 for_finished e parsed u reading writing (Err f) all w = w
+
+-- words that make no request touch nothing
+pub blames_none : (fault : RequestFault) (unread untouched : Type 0) (reading : FileReads) (writing : FileWrites) (answer : Result Success Stop) → unread → untouched
+    → BlamesCommand (Err fault) unread untouched reading writing answer
+blames_none (refused.Help text) unread untouched reading writing answer a b = (a, b)
+blames_none (refused.Usage text) unread untouched reading writing answer a b = (a, b)
+blames_none refused.OutOfMemory unread untouched reading writing answer a b = (a, b)

@@ -56,45 +56,39 @@ load_reason fault reason last g is same = subst (HasReason last) (sym is) (by fa
 
 -- a file of a name
 pub told_unread : (name : List ℕ) (told : Option (List ℕ)) (fault : FileFault) (f : ProgramFault) → IsToldOf name fault f → (fault ≡ file.TooLarge → IsTooLong told) → IsUnreadFile name told f
-told_unread name told (file.NotOpened reason) (program.File x) is long = is.0
-told_unread name told (file.NotRead reason) (program.NotRead x) is long = is.0
-told_unread name told file.TooLarge (program.Load load.TooLarge) is long = long refl
-told_unread name told file.OutOfMemory (program.Load load.OutOfMemory) is long = tt
-told_unread name told fault f is long = absurd is
+told_unread name told (file.NotOpened reason) f is long = subst (IsUnreadFile name told) (sym is.1) is.2
+told_unread name told (file.NotRead reason) f is long = subst (IsUnreadFile name told) (sym is.1) is.2
+told_unread name told file.TooLarge f is long = subst (IsUnreadFile name told) (sym is) (long refl)
+told_unread name told file.OutOfMemory f is long = subst (IsUnreadFile name told) (sym is) tt
 
 pub told_not_read : (name : List ℕ) (reason : Reason) (f : ProgramFault) → IsToldOf name (file.NotRead reason) f → IsNotRead name f
-told_not_read name reason (program.NotRead x) is = is.0
-told_not_read name reason f is = absurd is
+told_not_read name reason f is = subst (IsNotRead name) (sym is.1) is.2
 
 -- a file that a line names
 pub told_of_part : (told : List ℕ → Option (List ℕ)) (lines : List Line) (name kept : List ℕ) (fault : FileFault) (f : ProgramFault)
     → IsToldOf kept fault f → (TellsName fault → kept ≡ name) → (fault ≡ file.TooLarge → IsTooLong (told name)) → IsNamedByLine lines name → IsPartUnread told lines f
-told_of_part told lines name kept (file.NotOpened reason) (program.File x) is same long named = subst (IsNamedByLine lines) (sym (is.0 ∙ same tt)) named
-told_of_part told lines name kept (file.NotRead reason) (program.NotRead x) is same long named = subst (IsNamedByLine lines) (sym (is.0 ∙ same tt)) named
-told_of_part told lines name kept file.TooLarge (program.Load load.TooLarge) is same long named = (name, named, long refl)
-told_of_part told lines name kept file.OutOfMemory (program.Load load.OutOfMemory) is same long named = tt
-told_of_part told lines name kept fault f is same long named = absurd is
+told_of_part told lines name kept (file.NotOpened reason) f is same long named = subst (IsPartUnread told lines) (sym is.1) (subst (IsNamedByLine lines) (sym (is.2 ∙ same tt)) named)
+told_of_part told lines name kept (file.NotRead reason) f is same long named = subst (IsPartUnread told lines) (sym is.1) (subst (IsNamedByLine lines) (sym (is.2 ∙ same tt)) named)
+told_of_part told lines name kept file.TooLarge f is same long named = subst (IsPartUnread told lines) (sym is) (name, named, long refl)
+told_of_part told lines name kept file.OutOfMemory f is same long named = subst (IsPartUnread told lines) (sym is) tt
 
 -- the reason that is told
 pub told_reason : (name : List ℕ) (reason : Reason) (fault : FileFault) (f : ProgramFault) → IsToldOf name fault f → HasReason reason fault → TellsReason reason f
-told_reason name reason (file.NotOpened r) (program.File x) is has = tt
-told_reason name reason (file.NotRead r) (program.NotRead x) is has = is.1 ∙ has
-told_reason name reason file.TooLarge (program.Load load.TooLarge) is has = tt
-told_reason name reason file.OutOfMemory (program.Load load.OutOfMemory) is has = tt
-told_reason name reason fault f is has = absurd is
+told_reason name reason (file.NotOpened r) f is has = subst (TellsReason reason) (sym is.1) tt
+told_reason name reason (file.NotRead r) f is has = subst (TellsReason reason) (sym is.1) (is.3 ∙ has)
+told_reason name reason file.TooLarge f is has = subst (TellsReason reason) (sym is) tt
+told_reason name reason file.OutOfMemory f is has = subst (TellsReason reason) (sym is) tt
 
 -- who is to blame
 pub told_counts : (T : Type 0) (name : List ℕ) (before now : ℕ) (fault : FileFault) (f : ProgramFault) → IsToldOf name fault f → CountsFile {T = T} before now (Err fault) → IsReadFault before now f
-told_counts T name before now (file.NotOpened r) (program.File x) is counts = counts
-told_counts T name before now (file.NotRead r) (program.NotRead x) is counts = counts
-told_counts T name before now file.TooLarge (program.Load load.TooLarge) is counts = tt
-told_counts T name before now file.OutOfMemory (program.Load load.OutOfMemory) is counts = tt
-told_counts T name before now fault f is counts = absurd is
+told_counts T name before now (file.NotOpened r) f is counts = subst (IsReadFault before now) (sym is.1) counts
+told_counts T name before now (file.NotRead r) f is counts = subst (IsReadFault before now) (sym is.1) counts
+told_counts T name before now file.TooLarge f is counts = subst (IsReadFault before now) (sym is) tt
+told_counts T name before now file.OutOfMemory f is counts = subst (IsReadFault before now) (sym is) tt
 
 pub told_reads : (T U : Type 0) (name : List ℕ) (told : Option (List ℕ)) (before now : ℕ) (fault : FileFault) (f : ProgramFault)
     → IsToldOf name fault f → CountsFile {T = T} before now (Err fault) → (fault ≡ file.TooLarge → IsTooLong told) → ReadsFile {T = U} told before now (Err f)
-told_reads T U name told before now (file.NotOpened r) (program.File x) is counts long = counts
-told_reads T U name told before now (file.NotRead r) (program.NotRead x) is counts long = counts
-told_reads T U name told before now file.TooLarge (program.Load load.TooLarge) is counts long = (long refl, counts)
-told_reads T U name told before now file.OutOfMemory (program.Load load.OutOfMemory) is counts long = counts
-told_reads T U name told before now fault f is counts long = absurd is
+told_reads T U name told before now (file.NotOpened r) f is counts long = subst (λ (x : ProgramFault). ReadsFile {T = U} told before now (Err x)) (sym is.1) counts
+told_reads T U name told before now (file.NotRead r) f is counts long = subst (λ (x : ProgramFault). ReadsFile {T = U} told before now (Err x)) (sym is.1) counts
+told_reads T U name told before now file.TooLarge f is counts long = subst (λ (x : ProgramFault). ReadsFile {T = U} told before now (Err x)) (sym is) (long refl, counts)
+told_reads T U name told before now file.OutOfMemory f is counts long = subst (λ (x : ProgramFault). ReadsFile {T = U} told before now (Err x)) (sym is) counts

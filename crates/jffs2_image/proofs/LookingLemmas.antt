@@ -121,9 +121,9 @@ scan_meets told held e options name rest sink answer result gives named sized pu
 -- its file is not opened
 pub scan_unopened : (told : List ℕ → Option (List ℕ)) (held : Held) (e : Endian) (options : Options) (name : List ℕ) (old : Option (List ℕ)) (n : ℕ) (reason : Reason) (f : ProgramFault)
     → IsToldOf name (file.NotOpened reason) f → Meets told held e (ScanParsed options name) (sink_change old old n n) (Err f)
-scan_unopened told held e options name old n reason (program.File x) is =
-    record { block_size = λ wrong. cc; told_of = λ wrong. inr is.0; put = inr (program.File x, refl, is.0, refl, refl) }
-scan_unopened told held e options name old n reason f is = absurd is
+scan_unopened told held e options name old n reason f is =
+    subst (λ (x : ProgramFault). Meets told held e (ScanParsed options name) (sink_change old old n n) (Err x)) (sym is.1)
+    (record { block_size = λ wrong. cc; told_of = λ wrong. inr is.2; put = inr (program.File is.0, refl, is.2, refl, refl) })
 
 -- `check`
 judged : (e : Endian) (size : ℕ) (shape : Bool) (image : List ℕ) (sink : SinkChange) (answer : Result Bool ProgramFault)
@@ -147,9 +147,9 @@ check_put told held e options shape name image sink answer loaded sized puts = r
 -- its file is not opened
 pub check_unopened : (told : List ℕ → Option (List ℕ)) (held : Held) (e : Endian) (options : Options) (shape : Bool) (name : List ℕ) (old : Option (List ℕ)) (n : ℕ) (reason : Reason) (f : ProgramFault)
     → IsToldOf name (file.NotOpened reason) f → Meets told held e (CheckParsed options shape name) (sink_change old old n n) (Err f)
-check_unopened told held e options shape name old n reason (program.File x) is =
-    record { block_size = λ wrong. cc; told_of = λ wrong. inr is.0; put = inr (program.File x, refl, is.0, refl, refl) }
-check_unopened told held e options shape name old n reason f is = absurd is
+check_unopened told held e options shape name old n reason f is =
+    subst (λ (x : ProgramFault). Meets told held e (CheckParsed options shape name) (sink_change old old n n) (Err x)) (sym is.1)
+    (record { block_size = λ wrong. cc; told_of = λ wrong. inr is.2; put = inr (program.File is.0, refl, is.2, refl, refl) })
 
 -- the size of a block is none
 pub check_unsized : (told : List ℕ → Option (List ℕ)) (held : Held) (e : Endian) (options : Options) (shape : Bool) (name : List ℕ) (old : Option (List ℕ)) (n : ℕ)

@@ -77,6 +77,7 @@ run_holds asked folder told held before lines accepted places known_folder optio
         have = have;
         mounts = tree.1;
         holds = tree.2;
+        numbered = tree.3;
       },
     )
 

@@ -68,6 +68,11 @@ pub taken_base : (d : Bool) (e : Endian) (size : ℕ) (image present : List ℕ)
 taken_base false e size image present subject is same = same ∙ is.0
 taken_base true e size image present subject is same = subst (λ (bytes : List ℕ). Converts e size image (Ok bytes)) (sym same) is.0
 
+-- what holds of any answer
+pub ok_any : {X Y : Type 0} (A : Type 0) (r : Result X Y) → A → OnOk r A
+ok_any A (Ok x) is = is
+ok_any A (Err y) is = tt
+
 -- an answer with another number of findings has the same fault
 pub ok_noting : (X : Type 0) (noted : Option ℕ) (done : Result ℕ ProgramFault) → OnOk done X → OnOk (answer_noting noted done) X
 ok_noting X None done is = is

@@ -1,6 +1,7 @@
 -- The notes on weak nodes.
 use Rattle.std.proofs.Common.{◌≡◌, ℕ, zero, suc, ◌≤◌, Bool, List, [], ◌∷◌, ◌++◌, length, map, take, refl, sym, ap, subst, ◌∙◌, arith, append_assoc, Option, Some, None, Result, Ok, Err}
 use Rattle.std.specs.Prelude.{IsTrue, OnOk, flat_map, slice_get}
+use Rattle.std.specs.declared.alloc.AllocError.{AllocError}
 use Rattle.std.proofs.Math.Path.{fun_ext}
 use Rattle.std.proofs.lemmas.Bool.{and_parts, false≢true}
 use Rattle.std.proofs.lemmas.List.{append-nil}
@@ -168,10 +169,10 @@ not_declined e flash m asked n line f taken declines = by f
     by session.Geometry is = absurd is
 
 -- Where an image is gone on from and all operations on it are accepted, only memory is wanting.
-pub only_memory : (e : Endian) (flash : Flash) (m : Mount) (asked : Asked) (sink : SinkChange) (f : SessionFault) (line : Option ℕ) → AreAllTaken e flash m asked.ops
-    → PutsCuts e flash m.image asked sink (Err (told.Session f line)) → f ≡ session.OutOfMemory
-only_memory e flash m asked sink f (Some line) taken puts = not_declined e flash m asked puts.0 line f taken puts.1 puts.1.declines
-only_memory e flash m asked sink f None taken puts = puts.0
+pub only_memory : (e : Endian) (flash : Flash) (m : Mount) (asked : Asked) (sink : SinkChange) (f : SessionFault) (line : Option ℕ) (blocks : Result (Option ℕ) AllocError)
+    → AreAllTaken e flash m asked.ops → PutsCuts e flash m.image asked sink (Err (told.Session f line blocks)) → f ≡ session.OutOfMemory
+only_memory e flash m asked sink f (Some line) blocks taken puts = not_declined e flash m asked puts.0 line f taken puts.1 puts.1.declines
+only_memory e flash m asked sink f None blocks taken puts = puts.0
 
 -- ---- all operations that were run
 

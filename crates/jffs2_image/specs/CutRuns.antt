@@ -31,7 +31,7 @@ use Rattle.jcommand.specs.declared.outcome.Outcome.{Outcome}
 use Rattle.jcommand.specs.declared.outcome.Outcome.TheVariants as outcome
 use Rattle.jffs2_image.specs.Host.{AreAllRead, AreLoaded, HaveBytes}
 use Rattle.jffs2_image.specs.Runs.{GoesOut, Says}
-use Rattle.jffs2_image.specs.Writes.{IsNamedByLine, IsPartUnread, IsUnreadFile, FileReads, flash_plan}
+use Rattle.jffs2_image.specs.Writes.{IsNamedByLine, IsPartUnread, IsUnreadFile, FileReads, flash_plan, known_blocks}
 
 -- ---- the lines of a listing
 
@@ -40,22 +40,24 @@ abbrev pub asked_of : Endian → (List ℕ → List ℕ) → List Line → Asked
 asked_of e files lines =
     record { telling = Nodes; ops = ops_in e files lines; lines = map (λ line. line.number) lines }
 
--- why operations on an image are not told: the first limit that the flash does not keep
-abbrev pub cause_of_cuts : Flash → List ℕ → SessionFault → Cause
-cause_of_cuts flash image fault =
-    cause_of (flash_plan flash.page flash.geometry.block flash.blocks image) fault reason.Other None
+-- why operations on an image are not told: the first limit that the flash does not keep; or, of one
+-- that lacks room, how many blocks it needs, where that is known
+abbrev pub cause_of_cuts : Flash → List ℕ → SessionFault → Option ℕ → Cause
+cause_of_cuts flash image fault blocks =
+    cause_of (flash_plan flash.page flash.geometry.block flash.blocks image) fault reason.Other
+    blocks
 
 -- the program's answer where this is told of an image
 abbrev pub answer_of_cuts : Flash → List ℕ → Result ℕ CutsFault → Result ℕ ProgramFault
 answer_of_cuts flash image (Ok weak) = Ok weak
-answer_of_cuts flash image (Err (cuts.Session fault line)) =
-    Err (program.Session fault line (cause_of_cuts flash image fault))
+answer_of_cuts flash image (Err (cuts.Session fault line blocks)) =
+    Err (program.Session fault line (cause_of_cuts flash image fault (known_blocks blocks)))
 answer_of_cuts flash image (Err cuts.Output) = Err program.Output
 
 -- Writing does not go on in a mounted image: this is the fault.
 abbrev pub IsNotStarted : Endian → Flash → Mount → ProgramFault → Type 0
 IsNotStarted e flash m told = (fault : SessionFault) × (resumes e flash m ≡ Err fault)
-    × (told ≡ program.Session fault None (cause_of_cuts flash m.image fault))
+    × (told ≡ program.Session fault None (cause_of_cuts flash m.image fault None))
 
 -- Operations on a mounted image: writing does not go on there, and nothing is told; or it does, and
 -- they are told, with this answer.
@@ -92,7 +94,15 @@ IsLinesFault told e size base text (program.Mount fault) =
 IsLinesFault told e size base text (program.Clash addr other) =
     AreAllRead told text × IsRefusalTold e size base (program.Clash addr other)
 IsLinesFault told e size base text program.OutOfMemory = Unit {0}
-IsLinesFault told e size base text _ = ⊥
+IsLinesFault told e size base text (program.Scan fault) = ⊥
+IsLinesFault told e size base text (program.Session fault line cause) = ⊥
+IsLinesFault told e size base text (program.Path fault) = ⊥
+IsLinesFault told e size base text program.NotRegular = ⊥
+IsLinesFault told e size base text program.Output = ⊥
+IsLinesFault told e size base text (program.NoSpace name) = ⊥
+IsLinesFault told e size base text (program.Data addr) = ⊥
+IsLinesFault told e size base text (program.TooLong addr) = ⊥
+IsLinesFault told e size base text (program.Image fault) = ⊥
 
 -- the one or the other
 abbrev pub TellsText : (List ℕ → Option (List ℕ)) → Endian → Flash → List ℕ → List ℕ → SinkChange
@@ -135,11 +145,23 @@ TellsFiles told e flash on listing sink answer =
 -- Files are only read. One that can't be opened, or fails while it is read, counts once; at what
 -- comes after all reading none has.
 abbrev pub BlamesReading : ℕ → ℕ → Result ℕ ProgramFault → Type 0
-BlamesReading before now (Err (program.File name)) = now ≡ next_count before
-BlamesReading before now (Err (program.NotRead name)) = now ≡ next_count before
+BlamesReading before now (Ok weak) = now ≡ before
 BlamesReading before now (Err (program.Load fault)) = Unit {0}
+BlamesReading before now (Err (program.Scan fault)) = now ≡ before
+BlamesReading before now (Err (program.Mount fault)) = now ≡ before
+BlamesReading before now (Err (program.Clash addr other)) = now ≡ before
+BlamesReading before now (Err (program.File file)) = now ≡ next_count before
+BlamesReading before now (Err (program.NotRead file)) = now ≡ next_count before
+BlamesReading before now (Err (program.Listing bad)) = now ≡ before
+BlamesReading before now (Err (program.Session fault line cause)) = now ≡ before
+BlamesReading before now (Err (program.Path fault)) = now ≡ before
+BlamesReading before now (Err program.NotRegular) = now ≡ before
+BlamesReading before now (Err program.Output) = now ≡ before
 BlamesReading before now (Err program.OutOfMemory) = Unit {0}
-BlamesReading before now _ = now ≡ before
+BlamesReading before now (Err (program.NoSpace name)) = now ≡ before
+BlamesReading before now (Err (program.Data addr)) = now ≡ before
+BlamesReading before now (Err (program.TooLong addr)) = now ≡ before
+BlamesReading before now (Err (program.Image fault)) = now ≡ before
 
 -- ---- a run
 

@@ -113,7 +113,12 @@ line_of_counts c = decompressed_line c.changed c.nodes c.bytes
 -- none
 abbrev pub IsSinkCause : SessionFault → Cause → Type 0
 IsSinkCause session.Sink cause = (reason : Reason) × (cause ≡ causes.Host reason)
-IsSinkCause _ cause = cause ≡ causes.Unknown
+IsSinkCause (session.Refused refused) cause = cause ≡ causes.Unknown
+IsSinkCause (session.Full wanted left) cause = cause ≡ causes.Unknown
+IsSinkCause session.ReadOnly cause = cause ≡ causes.Unknown
+IsSinkCause session.OutOfMemory cause = cause ≡ causes.Unknown
+IsSinkCause session.Broken cause = cause ≡ causes.Unknown
+IsSinkCause session.Geometry cause = cause ≡ causes.Unknown
 
 -- Where what is made of an image can't be written, or not to its end.
 abbrev pub IsNotWritten : Held → List ℕ → List ℕ → ProgramFault → Type 0
@@ -122,7 +127,20 @@ IsNotWritten held output made (program.File file) =
 IsNotWritten held output made (program.Session fault None cause) =
     IsFaultOfMaking fault × HoldsMadeInPart held made × IsSinkCause fault cause
 IsNotWritten held output made program.OutOfMemory = HoldsNothing held
-IsNotWritten held output made _ = ⊥
+IsNotWritten held output made (program.Session fault (Some number) cause) = ⊥
+IsNotWritten held output made (program.Load fault) = ⊥
+IsNotWritten held output made (program.Scan fault) = ⊥
+IsNotWritten held output made (program.Mount fault) = ⊥
+IsNotWritten held output made (program.Clash addr other) = ⊥
+IsNotWritten held output made (program.NotRead file) = ⊥
+IsNotWritten held output made (program.Listing bad) = ⊥
+IsNotWritten held output made (program.Path fault) = ⊥
+IsNotWritten held output made program.NotRegular = ⊥
+IsNotWritten held output made program.Output = ⊥
+IsNotWritten held output made (program.NoSpace name) = ⊥
+IsNotWritten held output made (program.Data addr) = ⊥
+IsNotWritten held output made (program.TooLong addr) = ⊥
+IsNotWritten held output made (program.Image fault) = ⊥
 
 -- rule: Building and extending: `decompress` as a command.
 --   definitions: jffs2_image.Decompressing.DecompressesFile, jffs2_image.Host.BlamesDecompress

@@ -1,5 +1,6 @@
 -- What the commands do that work with a folder of the host.
 use Rattle.std.specs.Prelude.{◌≡◌, ◌≢◌, ◌⊎◌, ℕ, Bool, true, false, List, [], ◌∷◌, All, map, Option, Some, None, option_map, Result, Ok, Err}
+use denote.Ref.{Bor}
 use Rattle.std.specs.Io.KnownBytes.{Appends}
 use Rattle.flashbase.specs.Device.{PutsPart, next_count}
 use Rattle.flashbase.specs.Sinks.{SinkChange}
@@ -37,6 +38,7 @@ use Rattle.jreport.specs.Paths.{IsWordFault, path_of}
 use Rattle.jreport.specs.Refusal.{IsRefusalTold}
 use Rattle.jreport.specs.declared.faults.ProgramFault.{ProgramFault}
 use Rattle.jreport.specs.declared.faults.ProgramFault.TheVariants as program
+use Rattle.jreport.specs.declared.reason.Unopened.{Unopened}
 use Rattle.jffs2_image.specs.Decompressing.{IsNotConverted}
 use Rattle.jffs2_image.specs.Host.{AreOf, IsReadFault}
 use Rattle.jffs2_image.specs.Judging.{OfNodes}
@@ -47,11 +49,12 @@ use Rattle.jffs2_image.specs.declared.folders.Extracted.{Extracted}
 
 -- what an extraction says by its fault, where the folder has this name
 abbrev pub IsExtractFault : List ℕ → ExtractFault → ProgramFault → Type 0
-IsExtractFault name extract.Folder (program.File file) = file.name.now ≡ name
-IsExtractFault name extract.Notes program.Output = Unit {0}
-IsExtractFault name extract.NoSpace (program.NoSpace file) = file.now ≡ name
-IsExtractFault name extract.OutOfMemory program.OutOfMemory = Unit {0}
-IsExtractFault name _ _ = ⊥
+IsExtractFault name extract.Folder fault =
+    (file : Unopened) × (fault ≡ program.File file) × (file.name.now ≡ name)
+IsExtractFault name extract.Notes fault = fault ≡ program.Output
+IsExtractFault name extract.NoSpace fault =
+    (file : Bor (List ℕ)) × (fault ≡ program.NoSpace file) × (file.now ≡ name)
+IsExtractFault name extract.OutOfMemory fault = fault ≡ program.OutOfMemory
 
 -- what is asked of an extraction: an image with blocks of this size in this byte order, with its
 -- owners or without, into the folder of this name, all of its tree or the part at a path
@@ -96,7 +99,22 @@ ExtractsTree s x f result = Extracts s x.owners
 -- the path that is asked for names nothing
 abbrev pub HasNoPart : State → Option (List ℕ) → ProgramFault → Type 0
 HasNoPart s (Some path) (program.Path fault) = find s path ≡ Err fault
-HasNoPart s _ _ = ⊥
+HasNoPart s (Some path) (program.Load fault) = ⊥
+HasNoPart s (Some path) (program.Scan fault) = ⊥
+HasNoPart s (Some path) (program.Mount fault) = ⊥
+HasNoPart s (Some path) (program.Clash addr other) = ⊥
+HasNoPart s (Some path) (program.File file) = ⊥
+HasNoPart s (Some path) (program.NotRead file) = ⊥
+HasNoPart s (Some path) (program.Listing bad) = ⊥
+HasNoPart s (Some path) (program.Session fault line cause) = ⊥
+HasNoPart s (Some path) program.NotRegular = ⊥
+HasNoPart s (Some path) program.Output = ⊥
+HasNoPart s (Some path) program.OutOfMemory = ⊥
+HasNoPart s (Some path) (program.NoSpace name) = ⊥
+HasNoPart s (Some path) (program.Data addr) = ⊥
+HasNoPart s (Some path) (program.TooLong addr) = ⊥
+HasNoPart s (Some path) (program.Image fault) = ⊥
+HasNoPart s None fault = ⊥
 
 -- The tree of a file system is extracted, or the part of it that is asked for; or there is no such
 -- part, and nothing is done.
@@ -217,10 +235,10 @@ extracting_of e asked path = record {
 
 -- what a reading says by its fault, where the folder has this name
 abbrev pub IsReadingFault : List ℕ → ReadFault → ProgramFault → Type 0
-IsReadingFault name (read.Folder reason) (program.File file) = file.name.now ≡ name
-IsReadingFault name read.Notes program.Output = Unit {0}
-IsReadingFault name read.OutOfMemory program.OutOfMemory = Unit {0}
-IsReadingFault name _ _ = ⊥
+IsReadingFault name (read.Folder reason) fault =
+    (file : Unopened) × (fault ≡ program.File file) × (file.name.now ≡ name)
+IsReadingFault name read.Notes fault = fault ≡ program.Output
+IsReadingFault name read.OutOfMemory fault = fault ≡ program.OutOfMemory
 
 -- the owner and the time that a command line gives, as a reading takes them
 abbrev pub owner_given : command.Owner → Owner

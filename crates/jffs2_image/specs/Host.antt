@@ -19,9 +19,11 @@ use Rattle.jbuild.specs.declared.host_files.HostFiles.{HostFiles}
 use Rattle.jcommand.specs.Parsed.{Parsed, ScanParsed, CheckParsed, ListParsed, CatParsed, BuildParsed, AppendParsed, DecompressParsed, options_of, view}
 use Rattle.jcommand.specs.declared.parsed.Request.{Request}
 use Rattle.jcommand.specs.declared.command_line.RequestFault.{RequestFault}
+use Rattle.jcommand.specs.declared.command_line.RequestFault.TheVariants as refused
 use Rattle.jreport.specs.declared.faults.ProgramFault.{ProgramFault}
 use Rattle.jreport.specs.declared.faults.ProgramFault.TheVariants as program
 use Rattle.jreport.specs.declared.reason.Reason.{Reason}
+use Rattle.jreport.specs.declared.reason.Unopened.{Unopened}
 use Rattle.jffs2_image.specs.Decompressing.{IsNotConverted}
 use Rattle.jffs2_image.specs.Writes.{FileReads, FileWrites, Held, ImageForm, HoldsFront, HoldsNothing, HoldsPart, IsNamedByLine, IsPartUnread, IsRunCause, IsRunOn, IsTooLong, form_flash, line_on}
 use Rattle.jffs2_image.specs.declared.loading.FileFault.{FileFault}
@@ -42,29 +44,47 @@ file_fault load.OutOfMemory reason = file.OutOfMemory
 
 -- what the program tells of a file of this name that was not read whole
 abbrev pub IsToldOf : List ℕ → FileFault → ProgramFault → Type 0
-IsToldOf name (file.NotOpened reason) (program.File told) =
-    (told.name.now ≡ name) × (told.reason ≡ reason)
-IsToldOf name (file.NotRead reason) (program.NotRead told) =
-    (told.name.now ≡ name) × (told.reason ≡ reason)
-IsToldOf name file.TooLarge (program.Load load.TooLarge) = Unit {0}
-IsToldOf name file.OutOfMemory (program.Load load.OutOfMemory) = Unit {0}
-IsToldOf name _ _ = ⊥
+IsToldOf name (file.NotOpened reason) fault =
+    (told : Unopened) × (fault ≡ program.File told) × (told.name.now ≡ name)
+    × (told.reason ≡ reason)
+IsToldOf name (file.NotRead reason) fault =
+    (told : Unopened) × (fault ≡ program.NotRead told) × (told.name.now ≡ name)
+    × (told.reason ≡ reason)
+IsToldOf name file.TooLarge fault = fault ≡ program.Load load.TooLarge
+IsToldOf name file.OutOfMemory fault = fault ≡ program.Load load.OutOfMemory
 
 -- the file's name is told with the fault
 abbrev pub TellsName : FileFault → Type 0
 TellsName (file.NotOpened reason) = Unit {0}
 TellsName (file.NotRead reason) = Unit {0}
-TellsName _ = ⊥
+TellsName file.TooLarge = ⊥
+TellsName file.OutOfMemory = ⊥
 
 -- a file that failed while it was read did so for this reason
 abbrev pub HasReason : Reason → FileFault → Type 0
 HasReason reason (file.NotRead told) = told ≡ reason
-HasReason reason _ = Unit {0}
+HasReason reason (file.NotOpened why) = Unit {0}
+HasReason reason file.TooLarge = Unit {0}
+HasReason reason file.OutOfMemory = Unit {0}
 
 -- the same of the program's own faults
 abbrev pub TellsReason : Reason → ProgramFault → Type 0
 TellsReason reason (program.NotRead file) = file.reason ≡ reason
-TellsReason reason _ = Unit {0}
+TellsReason reason (program.Load fault) = Unit {0}
+TellsReason reason (program.Scan fault) = Unit {0}
+TellsReason reason (program.Mount fault) = Unit {0}
+TellsReason reason (program.Clash addr other) = Unit {0}
+TellsReason reason (program.File file) = Unit {0}
+TellsReason reason (program.Listing bad) = Unit {0}
+TellsReason reason (program.Session fault line cause) = Unit {0}
+TellsReason reason (program.Path fault) = Unit {0}
+TellsReason reason program.NotRegular = Unit {0}
+TellsReason reason program.Output = Unit {0}
+TellsReason reason program.OutOfMemory = Unit {0}
+TellsReason reason (program.NoSpace name) = Unit {0}
+TellsReason reason (program.Data addr) = Unit {0}
+TellsReason reason (program.TooLong addr) = Unit {0}
+TellsReason reason (program.Image fault) = Unit {0}
 
 -- a file that was not opened, or failed while it was read, counts once
 abbrev pub CountsFile : {T : Type 0} → ℕ → ℕ → Result T FileFault → Type 0
@@ -78,7 +98,20 @@ CountsFile before now (Err file.OutOfMemory) = now ≡ before
 abbrev pub IsReadFault : ℕ → ℕ → ProgramFault → Type 0
 IsReadFault before now (program.File name) = now ≡ next_count before
 IsReadFault before now (program.NotRead name) = now ≡ next_count before
-IsReadFault before now _ = Unit {0}
+IsReadFault before now (program.Load fault) = Unit {0}
+IsReadFault before now (program.Scan fault) = Unit {0}
+IsReadFault before now (program.Mount fault) = Unit {0}
+IsReadFault before now (program.Clash addr other) = Unit {0}
+IsReadFault before now (program.Listing bad) = Unit {0}
+IsReadFault before now (program.Session fault line cause) = Unit {0}
+IsReadFault before now (program.Path fault) = Unit {0}
+IsReadFault before now program.NotRegular = Unit {0}
+IsReadFault before now program.Output = Unit {0}
+IsReadFault before now program.OutOfMemory = Unit {0}
+IsReadFault before now (program.NoSpace name) = Unit {0}
+IsReadFault before now (program.Data addr) = Unit {0}
+IsReadFault before now (program.TooLong addr) = Unit {0}
+IsReadFault before now (program.Image fault) = Unit {0}
 
 -- a source gives the bytes of the file, where the host tells them
 abbrev pub GivesFile : Option (List ℕ) → Option (List ℕ) → Type 0
@@ -168,14 +201,31 @@ RunsFiles told held form base text old new (Err (program.Clash addr other)) = Ar
 RunsFiles told held form base text old new (Err program.OutOfMemory) =
     (held.1 ≡ held.0) ⊎ HoldsNothing held
 RunsFiles told held form base text old new (Err (program.File name)) = held.1 ≡ held.0
-RunsFiles told held form base text old new (Err _) = Unit {0}
+RunsFiles told held form base text old new
+    (Err (program.Session (session.Refused refused) None cause)) = Unit {0}
+RunsFiles told held form base text old new
+    (Err (program.Session (session.Full wanted left) None cause)) = Unit {0}
+RunsFiles told held form base text old new (Err (program.Session session.Broken None cause)) =
+    Unit {0}
+RunsFiles told held form base text old new (Err (program.Load load.Device)) = Unit {0}
+RunsFiles told held form base text old new (Err (program.Load load.OutOfMemory)) = Unit {0}
+RunsFiles told held form base text old new (Err (program.Scan fault)) = Unit {0}
+RunsFiles told held form base text old new (Err (program.NotRead file)) = Unit {0}
+RunsFiles told held form base text old new (Err (program.Listing bad)) = Unit {0}
+RunsFiles told held form base text old new (Err (program.Path fault)) = Unit {0}
+RunsFiles told held form base text old new (Err program.NotRegular) = Unit {0}
+RunsFiles told held form base text old new (Err (program.NoSpace name)) = Unit {0}
+RunsFiles told held form base text old new (Err (program.Data addr)) = Unit {0}
+RunsFiles told held form base text old new (Err (program.TooLong addr)) = Unit {0}
+RunsFiles told held form base text old new (Err (program.Image fault)) = Unit {0}
 
 -- ---- the file that is made
 
 -- a file that was not made counts once
 abbrev pub CountsNotMade : {T : Type 0} → ℕ → ℕ → Result T MakeFault → Type 0
 CountsNotMade before now (Err (make.NotMade reason)) = now ≡ next_count before
-CountsNotMade before now _ = Unit {0}
+CountsNotMade before now (Err make.OutOfMemory) = Unit {0}
+CountsNotMade before now (Ok _) = Unit {0}
 
 -- a file of this name was made after those that were made before, where their names are told
 abbrev pub MakesFile : List ℕ → Option (List (List ℕ)) → Option (List (List ℕ)) → Type 0
@@ -199,7 +249,21 @@ HoldsBy old new (Err make.OutOfMemory) = HoldsNothing (old, new)
 -- what a fault of making leaves: a file that was made, or none where it can't be opened
 abbrev pub Leaves : Type 0 → Type 0 → ProgramFault → Type 0
 Leaves makes same (program.File name) = same
-Leaves makes same _ = makes
+Leaves makes same (program.Load fault) = makes
+Leaves makes same (program.Scan fault) = makes
+Leaves makes same (program.Mount fault) = makes
+Leaves makes same (program.Clash addr other) = makes
+Leaves makes same (program.NotRead file) = makes
+Leaves makes same (program.Listing bad) = makes
+Leaves makes same (program.Session fault line cause) = makes
+Leaves makes same (program.Path fault) = makes
+Leaves makes same program.NotRegular = makes
+Leaves makes same program.Output = makes
+Leaves makes same program.OutOfMemory = makes
+Leaves makes same (program.NoSpace name) = makes
+Leaves makes same (program.Data addr) = makes
+Leaves makes same (program.TooLong addr) = makes
+Leaves makes same (program.Image fault) = makes
 
 -- ---- who is to blame
 
@@ -213,7 +277,12 @@ abbrev pub IsHandedBack : ℕ → SessionFault → Option ℕ → Type 0
 IsHandedBack before session.Sink None = ⊥
 IsHandedBack before session.Sink (Some now) = HasFailed before now
 IsHandedBack before session.OutOfMemory None = ⊥
-IsHandedBack before _ back = Unit {0}
+IsHandedBack before session.OutOfMemory (Some now) = Unit {0}
+IsHandedBack before (session.Refused refused) back = Unit {0}
+IsHandedBack before (session.Full wanted left) back = Unit {0}
+IsHandedBack before session.ReadOnly back = Unit {0}
+IsHandedBack before session.Broken back = Unit {0}
+IsHandedBack before session.Geometry back = Unit {0}
 
 -- why a run on a file that was made stopped: the file failed, or it did not
 abbrev pub IsMadeUntil : ℕ → ℕ → Option SessionFault → Type 0
@@ -225,7 +294,26 @@ IsMadeUntil before now None = now ≡ before
 abbrev pub IsMakeFault : ℕ → ℕ → ProgramFault → Type 0
 IsMakeFault before now (program.File name) = now ≡ next_count before
 IsMakeFault before now (program.Session session.Sink line cause) = HasFailed before now
-IsMakeFault before now _ = Unit {0}
+IsMakeFault before now (program.Session (session.Refused refused) line cause) = Unit {0}
+IsMakeFault before now (program.Session (session.Full wanted left) line cause) = Unit {0}
+IsMakeFault before now (program.Session session.ReadOnly line cause) = Unit {0}
+IsMakeFault before now (program.Session session.OutOfMemory line cause) = Unit {0}
+IsMakeFault before now (program.Session session.Broken line cause) = Unit {0}
+IsMakeFault before now (program.Session session.Geometry line cause) = Unit {0}
+IsMakeFault before now (program.Load fault) = Unit {0}
+IsMakeFault before now (program.Scan fault) = Unit {0}
+IsMakeFault before now (program.Mount fault) = Unit {0}
+IsMakeFault before now (program.Clash addr other) = Unit {0}
+IsMakeFault before now (program.NotRead file) = Unit {0}
+IsMakeFault before now (program.Listing bad) = Unit {0}
+IsMakeFault before now (program.Path fault) = Unit {0}
+IsMakeFault before now program.NotRegular = Unit {0}
+IsMakeFault before now program.Output = Unit {0}
+IsMakeFault before now program.OutOfMemory = Unit {0}
+IsMakeFault before now (program.NoSpace name) = Unit {0}
+IsMakeFault before now (program.Data addr) = Unit {0}
+IsMakeFault before now (program.TooLong addr) = Unit {0}
+IsMakeFault before now (program.Image fault) = Unit {0}
 
 -- By the answer: a fault of the file that is made comes only where it failed; what is judged before
 -- comes with no file touched; at any other answer but that it can't be opened `makes` holds, the
@@ -240,7 +328,13 @@ BlamesMaker untouched makes before now (Err (program.Session session.Geometry li
     untouched
 BlamesMaker untouched makes before now (Err (program.Session session.Sink line cause)) =
     HasFailed before now × makes
-BlamesMaker untouched makes before now (Err (program.Session fault line cause)) = makes
+BlamesMaker untouched makes before now
+    (Err (program.Session (session.Refused refused) line cause)) = makes
+BlamesMaker untouched makes before now
+    (Err (program.Session (session.Full wanted left) line cause)) = makes
+BlamesMaker untouched makes before now (Err (program.Session session.OutOfMemory line cause)) =
+    makes
+BlamesMaker untouched makes before now (Err (program.Session session.Broken line cause)) = makes
 BlamesMaker untouched makes before now (Err (program.File name)) = now ≡ next_count before
 BlamesMaker untouched makes before now (Err (program.NotRead name)) = ⊥
 BlamesMaker untouched makes before now (Err (program.Load fault)) = ⊥
@@ -274,7 +368,13 @@ Blames untouched makes read_before read_now made_before made_now
 Blames untouched makes read_before read_now made_before made_now
     (Err (program.Session session.Sink line cause)) = HasFailed made_before made_now × makes
 Blames untouched makes read_before read_now made_before made_now
-    (Err (program.Session fault line cause)) = makes
+    (Err (program.Session (session.Refused refused) line cause)) = makes
+Blames untouched makes read_before read_now made_before made_now
+    (Err (program.Session (session.Full wanted left) line cause)) = makes
+Blames untouched makes read_before read_now made_before made_now
+    (Err (program.Session session.OutOfMemory line cause)) = makes
+Blames untouched makes read_before read_now made_before made_now
+    (Err (program.Session session.Broken line cause)) = makes
 Blames untouched makes read_before read_now made_before made_now (Err (program.File name)) =
     (untouched × (read_now ≡ next_count read_before)) ⊎ (made_now ≡ next_count made_before)
 Blames untouched makes read_before read_now made_before made_now (Err (program.NotRead name)) =
@@ -302,7 +402,22 @@ abbrev pub ReadsFile : {T : Type 0} → Option (List ℕ) → ℕ → ℕ → Re
 ReadsFile told before now (Err (program.File name)) = now ≡ next_count before
 ReadsFile told before now (Err (program.NotRead name)) = now ≡ next_count before
 ReadsFile told before now (Err (program.Load load.TooLarge)) = IsTooLong told × (now ≡ before)
-ReadsFile told before now _ = now ≡ before
+ReadsFile told before now (Err (program.Load load.Device)) = now ≡ before
+ReadsFile told before now (Err (program.Load load.OutOfMemory)) = now ≡ before
+ReadsFile told before now (Err (program.Scan fault)) = now ≡ before
+ReadsFile told before now (Err (program.Mount fault)) = now ≡ before
+ReadsFile told before now (Err (program.Clash addr other)) = now ≡ before
+ReadsFile told before now (Err (program.Listing bad)) = now ≡ before
+ReadsFile told before now (Err (program.Session fault line cause)) = now ≡ before
+ReadsFile told before now (Err (program.Path fault)) = now ≡ before
+ReadsFile told before now (Err program.NotRegular) = now ≡ before
+ReadsFile told before now (Err program.Output) = now ≡ before
+ReadsFile told before now (Err program.OutOfMemory) = now ≡ before
+ReadsFile told before now (Err (program.NoSpace name)) = now ≡ before
+ReadsFile told before now (Err (program.Data addr)) = now ≡ before
+ReadsFile told before now (Err (program.TooLong addr)) = now ≡ before
+ReadsFile told before now (Err (program.Image fault)) = now ≡ before
+ReadsFile told before now (Ok _) = now ≡ before
 
 -- With `--decompress`, the image of this file may also be refused for what it holds, and then no
 -- file is made and none failed: `untouched`.
@@ -331,7 +446,38 @@ BlamesDecompress untouched makes read_before read_now made_before made_now (Err 
     makes
 BlamesDecompress untouched makes read_before read_now made_before made_now
     (Err program.OutOfMemory) = makes
-BlamesDecompress untouched makes read_before read_now made_before made_now (Err _) = untouched
+BlamesDecompress untouched makes read_before read_now made_before made_now
+    (Err (program.Session (session.Refused refused) line cause)) = untouched
+BlamesDecompress untouched makes read_before read_now made_before made_now
+    (Err (program.Session (session.Full wanted left) line cause)) = untouched
+BlamesDecompress untouched makes read_before read_now made_before made_now
+    (Err (program.Session session.ReadOnly line cause)) = untouched
+BlamesDecompress untouched makes read_before read_now made_before made_now
+    (Err (program.Session session.Broken line cause)) = untouched
+BlamesDecompress untouched makes read_before read_now made_before made_now
+    (Err (program.Session session.Geometry line cause)) = untouched
+BlamesDecompress untouched makes read_before read_now made_before made_now
+    (Err (program.Load fault)) = untouched
+BlamesDecompress untouched makes read_before read_now made_before made_now
+    (Err (program.Scan fault)) = untouched
+BlamesDecompress untouched makes read_before read_now made_before made_now
+    (Err (program.Mount fault)) = untouched
+BlamesDecompress untouched makes read_before read_now made_before made_now
+    (Err (program.Clash addr other)) = untouched
+BlamesDecompress untouched makes read_before read_now made_before made_now
+    (Err (program.Listing bad)) = untouched
+BlamesDecompress untouched makes read_before read_now made_before made_now
+    (Err (program.Path fault)) = untouched
+BlamesDecompress untouched makes read_before read_now made_before made_now
+    (Err program.NotRegular) = untouched
+BlamesDecompress untouched makes read_before read_now made_before made_now
+    (Err (program.NoSpace name)) = untouched
+BlamesDecompress untouched makes read_before read_now made_before made_now
+    (Err (program.Data addr)) = untouched
+BlamesDecompress untouched makes read_before read_now made_before made_now
+    (Err (program.TooLong addr)) = untouched
+BlamesDecompress untouched makes read_before read_now made_before made_now
+    (Err (program.Image fault)) = untouched
 
 -- the same of a request that writes an image, whose file has the name of its output; any other
 -- reads the file of its image, and makes none
@@ -367,4 +513,9 @@ BlamesCommand (Ok request) unread untouched reading writing (Ok ended) =
 BlamesCommand (Ok request) unread untouched reading writing (Err (stop.Fault fault)) =
     BlamesFor {T = Success} (options_of request).endian (view request) untouched reading writing
     (Err fault)
-BlamesCommand _ unread untouched reading writing _ = unread × untouched
+BlamesCommand (Ok request) unread untouched reading writing (Err (stop.Usage text)) =
+    unread × untouched
+BlamesCommand (Err (refused.Help text)) unread untouched reading writing answer = unread × untouched
+BlamesCommand (Err (refused.Usage text)) unread untouched reading writing answer =
+    unread × untouched
+BlamesCommand (Err refused.OutOfMemory) unread untouched reading writing answer = unread × untouched

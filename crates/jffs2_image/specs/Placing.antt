@@ -126,7 +126,31 @@ IsBlamed Says IsDue errors result =
 -- the host refused to write the file
 abbrev pub IsSinkRefused : ProgramFault → Type 0
 IsSinkRefused (program.Session session.Sink None (cause.Host reason)) = Unit {0}
-IsSinkRefused _ = ⊥
+IsSinkRefused (program.Session session.Sink None cause.Unknown) = ⊥
+IsSinkRefused (program.Session session.Sink None (cause.Limit limit)) = ⊥
+IsSinkRefused (program.Session session.Sink None (cause.Blocks blocks)) = ⊥
+IsSinkRefused (program.Session session.Sink (Some number) why) = ⊥
+IsSinkRefused (program.Session (session.Refused refused) line why) = ⊥
+IsSinkRefused (program.Session (session.Full wanted left) line why) = ⊥
+IsSinkRefused (program.Session session.ReadOnly line why) = ⊥
+IsSinkRefused (program.Session session.OutOfMemory line why) = ⊥
+IsSinkRefused (program.Session session.Broken line why) = ⊥
+IsSinkRefused (program.Session session.Geometry line why) = ⊥
+IsSinkRefused (program.Load fault) = ⊥
+IsSinkRefused (program.Scan fault) = ⊥
+IsSinkRefused (program.Mount fault) = ⊥
+IsSinkRefused (program.Clash addr other) = ⊥
+IsSinkRefused (program.File file) = ⊥
+IsSinkRefused (program.NotRead file) = ⊥
+IsSinkRefused (program.Listing bad) = ⊥
+IsSinkRefused (program.Path fault) = ⊥
+IsSinkRefused program.NotRegular = ⊥
+IsSinkRefused program.Output = ⊥
+IsSinkRefused program.OutOfMemory = ⊥
+IsSinkRefused (program.NoSpace name) = ⊥
+IsSinkRefused (program.Data addr) = ⊥
+IsSinkRefused (program.TooLong addr) = ⊥
+IsSinkRefused (program.Image fault) = ⊥
 
 -- nothing else happens
 abbrev pub EndsSo : {E : Type 0} → E → E → Outcome → Outcome → Type 0

@@ -10,12 +10,13 @@ use Rattle.jscan.specs.declared.geometry.ScanFault.TheVariants as scan
 use Rattle.jmount.specs.declared.fault.FindFault.TheVariants as find
 use Rattle.jreport.specs.Advice.{fault_lines_of}
 use Rattle.jreport.specs.WholeImage.{PutsCheck, PutsFile, PutsListing, list_request}
+use Rattle.jreport.specs.NoNodes.{none_notes_of}
 use Rattle.jreport.specs.Notes.{note_line_of}
 use Rattle.jreport.specs.Stream.{PutsStream}
 use Rattle.jreport.specs.Paths.{path_of}
 use Rattle.jreport.specs.declared.faults.ProgramFault.{ProgramFault}
 use Rattle.jreport.specs.declared.faults.ProgramFault.TheVariants as program
-use Rattle.jcommand.specs.Parsed.{Parsed, ScanParsed, CheckParsed, ListParsed, CatParsed, BuildParsed, AppendParsed, DecompressParsed, ImageParsed, IsFaultless, IsHelpRequested, IsRefusedByClap, IsUnreadable, parsed_from, view}
+use Rattle.jcommand.specs.Parsed.{Parsed, ScanParsed, CheckParsed, ListParsed, CatParsed, BuildParsed, AppendParsed, DecompressParsed, ImageParsed, IsFaultless, IsHelpRequested, IsRefusedByClap, IsUnreadable, options_of, parsed_from, view}
 use Rattle.jcommand.specs.declared.parsed.Options.{Options}
 use Rattle.jcommand.specs.declared.parsed.Request.{Request}
 use Rattle.jcommand.specs.declared.command_line.RequestFault.{RequestFault}
@@ -26,6 +27,7 @@ use Rattle.jcommand.specs.declared.outcome.Outcome.TheVariants as outcome
 use Rattle.jffs2_image.specs.Decompressing.{DecompressesOf, IsGoneOnWith, PutsTaken}
 use Rattle.jffs2_image.specs.Host.{AreLoaded, AreOf, HasFailed, RunsFiles}
 use Rattle.jffs2_image.specs.Judging.{original}
+use Rattle.jffs2_image.specs.Looking.{NotesOthers}
 use Rattle.jffs2_image.specs.Writes.{GivesText, Held, ImageForm, IsBehind, IsNotedIn, IsUnreadFile, WritesImage, image_form}
 use Rattle.jffs2_image.specs.declared.program.Success.{Success}
 use Rattle.jffs2_image.specs.declared.program.Success.TheVariants as success
@@ -90,7 +92,21 @@ RunsListed told held form listing output image sink answer =
 -- the file of this name failed while it was read, for a reason of the host
 abbrev pub IsNotRead : List ℕ → ProgramFault → Type 0
 IsNotRead name (program.NotRead file) = file.name.now ≡ name
-IsNotRead name _ = ⊥
+IsNotRead name (program.Load fault) = ⊥
+IsNotRead name (program.Scan fault) = ⊥
+IsNotRead name (program.Mount fault) = ⊥
+IsNotRead name (program.Clash addr other) = ⊥
+IsNotRead name (program.File file) = ⊥
+IsNotRead name (program.Listing bad) = ⊥
+IsNotRead name (program.Session fault line cause) = ⊥
+IsNotRead name (program.Path fault) = ⊥
+IsNotRead name program.NotRegular = ⊥
+IsNotRead name program.Output = ⊥
+IsNotRead name program.OutOfMemory = ⊥
+IsNotRead name (program.NoSpace folder) = ⊥
+IsNotRead name (program.Data addr) = ⊥
+IsNotRead name (program.TooLong addr) = ⊥
+IsNotRead name (program.Image fault) = ⊥
 
 -- what a call comes to that answers so of a source, where the source is the file of this name
 abbrev pub NamesUnread : List ℕ → Result ℕ ProgramFault → Result ℕ ProgramFault → Type 0
@@ -140,7 +156,21 @@ PutsAnswer told held e (DecompressParsed options force name output) =
 -- its file can't be opened
 abbrev pub IsUnopened : List ℕ → ProgramFault → Type 0
 IsUnopened name (program.File file) = file.name.now ≡ name
-IsUnopened name _ = ⊥
+IsUnopened name (program.Load fault) = ⊥
+IsUnopened name (program.Scan fault) = ⊥
+IsUnopened name (program.Mount fault) = ⊥
+IsUnopened name (program.Clash addr other) = ⊥
+IsUnopened name (program.NotRead file) = ⊥
+IsUnopened name (program.Listing bad) = ⊥
+IsUnopened name (program.Session fault line cause) = ⊥
+IsUnopened name (program.Path fault) = ⊥
+IsUnopened name program.NotRegular = ⊥
+IsUnopened name program.Output = ⊥
+IsUnopened name program.OutOfMemory = ⊥
+IsUnopened name (program.NoSpace folder) = ⊥
+IsUnopened name (program.Data addr) = ⊥
+IsUnopened name (program.TooLong addr) = ⊥
+IsUnopened name (program.Image fault) = ⊥
 
 -- Why no image is read: its file can't be opened, or not be read to its end where it is held in
 -- memory. The word of a path is judged before the file is opened, and the size of a block before
@@ -232,27 +262,30 @@ MeetsWhole told held parsed = GoesOut (Meets told held (options_parsed parsed).e
 
 -- ---- a run
 
--- what it comes to that the work found so much
-abbrev pub success_of : Parsed → ℕ → Success
-success_of (ScanParsed options image) n = success.Found n
-success_of (CheckParsed options shape image) n = success.Found n
-success_of (ListParsed options decompress image path) n = success.Shown n
-success_of (CatParsed options decompress image path) n = success.Shown n
-success_of (BuildParsed options blocks page listing output) n = success.Shown n
-success_of (AppendParsed options blocks page decompress image listing output) n = success.Shown n
-success_of (DecompressParsed options force image output) n = success.Made n
+-- what it comes to that the work found so much, and that so many nodes of the other byte order are
+-- told of where no node is found
+abbrev pub success_of : Parsed → ℕ → Option ℕ → Success
+success_of (ScanParsed options image) n others = success.Found n
+success_of (CheckParsed options shape image) n others = success.Found n
+success_of (ListParsed options decompress image path) n others = success.Shown n others
+success_of (CatParsed options decompress image path) n others = success.Shown n others
+success_of (BuildParsed options blocks page listing output) n others = success.Shown n None
+success_of (AppendParsed options blocks page decompress image listing output) n others =
+    success.Shown n others
+success_of (DecompressParsed options force image output) n others = success.Made n
 
 -- What a command line is answered: the request is met; help goes out; a refusal and out of memory
 -- stay what they are, and leave the output as it was.
 abbrev pub MeetsCommand : Type 0 → (List ℕ → Option (List ℕ)) → Held → Result Request RequestFault
     → SinkChange → Result Success Stop → Type 0
 MeetsCommand untouched told held (Ok request) output (Ok ended) =
-    (n : ℕ) × (ended ≡ success_of (view request) n)
+    (n : ℕ) × (others : Option ℕ) × (ended ≡ success_of (view request) n others)
+    × NotesOthers told (options_of request).endian (view request) others
     × MeetsWhole told held (view request) output (Ok n)
 MeetsCommand untouched told held (Ok request) output (Err (stop.Fault fault)) =
     MeetsWhole told held (view request) output (Err fault)
 MeetsCommand untouched told held (Err (refused.Help text)) output (Ok ended) =
-    (ended ≡ success.Shown 0) × Appends output.old output.new (string_bytes text)
+    (ended ≡ success.Shown 0 None) × Appends output.old output.new (string_bytes text)
     × (output.now ≡ output.before)
 MeetsCommand untouched told held (Err (refused.Help text)) output (Err (stop.Fault fault)) =
     (fault ≡ program.Output) × GivesText output.old output.new (string_bytes text)
@@ -261,7 +294,12 @@ MeetsCommand untouched told held (Err (refused.Usage text)) output (Err (stop.Us
     (said ≡ text) × untouched
 MeetsCommand untouched told held (Err refused.OutOfMemory) output (Err (stop.Fault fault)) =
     (fault ≡ program.OutOfMemory) × untouched
-MeetsCommand untouched told held _ output _ = ⊥
+MeetsCommand untouched told held (Ok request) output (Err (stop.Usage said)) = ⊥
+MeetsCommand untouched told held (Err (refused.Help text)) output (Err (stop.Usage said)) = ⊥
+MeetsCommand untouched told held (Err (refused.Usage text)) output (Ok ended) = ⊥
+MeetsCommand untouched told held (Err (refused.Usage text)) output (Err (stop.Fault fault)) = ⊥
+MeetsCommand untouched told held (Err refused.OutOfMemory) output (Ok ended) = ⊥
+MeetsCommand untouched told held (Err refused.OutOfMemory) output (Err (stop.Usage said)) = ⊥
 
 -- what the words make of a command line
 abbrev pub IsCommand : List (List ℕ) → Result Request RequestFault → Type 0
@@ -273,7 +311,7 @@ IsCommand args (Err refused.OutOfMemory) = Unit {0}
 
 abbrev pub outcome_after : Result Success Stop → Outcome
 outcome_after (Ok (success.Found n)) = outcome_of n
-outcome_after (Ok (success.Shown n)) = outcome.Done
+outcome_after (Ok (success.Shown n others)) = outcome.Done
 outcome_after (Ok (success.Made n)) = outcome_of n
 outcome_after (Err (stop.Usage text)) = outcome.Usage
 outcome_after (Err (stop.Fault fault)) = outcome.Fault
@@ -286,10 +324,16 @@ either_found n m = if n == 0 then m else n
 abbrev pub note_after : ℕ → Option (List ℕ)
 note_after n = if n == 0 then None else Some (note_line_of n)
 
+-- the same of an image that was shown; where no node is found in it, with how many the other byte
+-- order has
+abbrev pub shown_after : ℕ → Option ℕ → Option (List ℕ)
+shown_after n None = note_after n
+shown_after n (Some others) = Some (none_notes_of n others)
+
 -- what is said on standard error
 abbrev pub said_after : Result Success Stop → Option (List ℕ)
 said_after (Ok (success.Found n)) = None
-said_after (Ok (success.Shown n)) = note_after n
+said_after (Ok (success.Shown n others)) = shown_after n others
 said_after (Ok (success.Made n)) = note_after n
 said_after (Err (stop.Usage text)) = Some (string_bytes text)
 said_after (Err (stop.Fault fault)) = Some (fault_lines_of fault)

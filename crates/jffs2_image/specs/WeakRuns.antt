@@ -26,7 +26,8 @@ use Rattle.jcommand.specs.declared.parsed.Request.{Request}
 use Rattle.jcommand.specs.declared.outcome.Outcome.{Outcome}
 use Rattle.jcommand.specs.declared.outcome.Outcome.TheVariants as outcome
 use Rattle.jffs2_image.specs.Host.{AreLoaded, BlamesFor, HaveBytes}
-use Rattle.jffs2_image.specs.Runs.{MeetsWhole, Says, note_after}
+use Rattle.jffs2_image.specs.Looking.{NotesOthers}
+use Rattle.jffs2_image.specs.Runs.{MeetsWhole, Says, shown_after}
 use Rattle.jffs2_image.specs.declared.weak.Notes.{Notes}
 use Rattle.jffs2_image.specs.Writes.{FileReads, FileWrites}
 
@@ -89,10 +90,11 @@ HasNotes told e _ notes = Unit {0}
 
 -- ---- a run
 
--- what is said first: how much was found in the image that was read, or the fault
-abbrev pub said_of_writing : Result ℕ ProgramFault → Option (List ℕ)
-said_of_writing (Ok n) = note_after n
-said_of_writing (Err fault) = Some (fault_lines_of fault)
+-- what is said first: how much was found in the image that was read, and that no node was; or the
+-- fault
+abbrev pub said_of_writing : Result ℕ ProgramFault → Option ℕ → Option (List ℕ)
+said_of_writing (Ok n) others = shown_after n others
+said_of_writing (Err fault) others = Some (fault_lines_of fault)
 
 -- and then: the notes, if there are any, and where all was written
 abbrev pub notes_said : Notes → Option (List ℕ)
@@ -113,14 +115,17 @@ pub record EndsWeak (request : Request) (reading : FileReads) (writing : FileWri
     (untouched : Type 0) (output errors : SinkChange) (result : Outcome) : Type 0 where
   pub answer : Result ℕ ProgramFault
   pub notes : Notes
+  pub others : Option ℕ
   pub between : Option (List ℕ)
   pub count : ℕ
   pub meets : MeetsWhole reading.told writing.held (view request) output answer
   pub host : BlamesFor (options_of request).endian (view request) untouched reading writing answer
   pub noted : IfOk answer
       (λ _. HasNotes reading.told (options_of request).endian (view request) notes)
+  pub of_none : IfOk answer
+      (λ _. NotesOthers reading.told (options_of request).endian (view request) others)
   pub said : Says ((between ≡ errors.old) × (count ≡ errors.before)) errors.old between
-      errors.before count (said_of_writing answer)
+      errors.before count (said_of_writing answer others)
   pub told : Says ((errors.new ≡ between) × (errors.now ≡ count)) between errors.new count
       errors.now (notes_after answer notes)
   pub ends : result ≡ outcome_of_writing answer notes

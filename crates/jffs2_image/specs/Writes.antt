@@ -73,7 +73,20 @@ IsUnreadFile name told (program.File file) = file.name.now ≡ name
 IsUnreadFile name told (program.NotRead file) = file.name.now ≡ name
 IsUnreadFile name told (program.Load load.TooLarge) = IsTooLong told
 IsUnreadFile name told (program.Load load.OutOfMemory) = Unit {0}
-IsUnreadFile name told _ = ⊥
+IsUnreadFile name told (program.Load load.Device) = ⊥
+IsUnreadFile name told (program.Scan fault) = ⊥
+IsUnreadFile name told (program.Mount fault) = ⊥
+IsUnreadFile name told (program.Clash addr other) = ⊥
+IsUnreadFile name told (program.Listing bad) = ⊥
+IsUnreadFile name told (program.Session fault line cause) = ⊥
+IsUnreadFile name told (program.Path fault) = ⊥
+IsUnreadFile name told program.NotRegular = ⊥
+IsUnreadFile name told program.Output = ⊥
+IsUnreadFile name told program.OutOfMemory = ⊥
+IsUnreadFile name told (program.NoSpace folder) = ⊥
+IsUnreadFile name told (program.Data addr) = ⊥
+IsUnreadFile name told (program.TooLong addr) = ⊥
+IsUnreadFile name told (program.Image fault) = ⊥
 
 -- a line names this file of the host
 abbrev pub IsNamedByLine : List Line → List ℕ → Type 0
@@ -87,7 +100,19 @@ IsPartUnread told lines (program.Load load.TooLarge) =
     (name : List ℕ) × IsNamedByLine lines name × IsTooLong (told name)
 IsPartUnread told lines (program.Load load.OutOfMemory) = Unit {0}
 IsPartUnread told lines program.OutOfMemory = Unit {0}
-IsPartUnread told lines _ = ⊥
+IsPartUnread told lines (program.Load load.Device) = ⊥
+IsPartUnread told lines (program.Scan fault) = ⊥
+IsPartUnread told lines (program.Mount fault) = ⊥
+IsPartUnread told lines (program.Clash addr other) = ⊥
+IsPartUnread told lines (program.Listing bad) = ⊥
+IsPartUnread told lines (program.Session fault line cause) = ⊥
+IsPartUnread told lines (program.Path fault) = ⊥
+IsPartUnread told lines program.NotRegular = ⊥
+IsPartUnread told lines program.Output = ⊥
+IsPartUnread told lines (program.NoSpace name) = ⊥
+IsPartUnread told lines (program.Data addr) = ⊥
+IsPartUnread told lines (program.TooLong addr) = ⊥
+IsPartUnread told lines (program.Image fault) = ⊥
 
 -- ---- what goes out to the file that is made
 
@@ -105,7 +130,15 @@ GivesText old given text =
 abbrev pub IsGivenOn : Option SessionFault → Option (List ℕ) → Option (List ℕ) → ℕ → ℕ → Type 0
 IsGivenOn (Some session.Sink) taken given before now =
     (Keeps taken given × (now ≡ before)) ⊎ (IsBehind given taken × (now ≡ next_count before))
-IsGivenOn _ taken given before now = Keeps taken given × (now ≡ before)
+IsGivenOn (Some (session.Refused refused)) taken given before now =
+    Keeps taken given × (now ≡ before)
+IsGivenOn (Some (session.Full wanted left)) taken given before now =
+    Keeps taken given × (now ≡ before)
+IsGivenOn (Some session.ReadOnly) taken given before now = Keeps taken given × (now ≡ before)
+IsGivenOn (Some session.OutOfMemory) taken given before now = Keeps taken given × (now ≡ before)
+IsGivenOn (Some session.Broken) taken given before now = Keeps taken given × (now ≡ before)
+IsGivenOn (Some session.Geometry) taken given before now = Keeps taken given × (now ≡ before)
+IsGivenOn None taken given before now = Keeps taken given × (now ≡ before)
 
 -- A base and operations on it were put out, and what was taken was given on: so many were accepted,
 -- their nodes have these places, and this stopped them.
@@ -179,7 +212,12 @@ GivesFront form base old given =
 abbrev pub GivesCut : SessionFault → ImageForm → List ℕ → List Op → Option (List ℕ)
     → Option (List ℕ) → Type 0
 GivesCut session.OutOfMemory form base ops old given = GivesFront form base old given
-GivesCut _ form base ops old given = GivesPart form base ops old given
+GivesCut (session.Refused refused) form base ops old given = GivesPart form base ops old given
+GivesCut (session.Full wanted left) form base ops old given = GivesPart form base ops old given
+GivesCut session.ReadOnly form base ops old given = GivesPart form base ops old given
+GivesCut session.Sink form base ops old given = GivesPart form base ops old given
+GivesCut session.Broken form base ops old given = GivesPart form base ops old given
+GivesCut session.Geometry form base ops old given = GivesPart form base ops old given
 
 -- to a file, to which nothing else was given
 abbrev pub HoldsPart : Held → ImageForm → List ℕ → List Op → Type 0
@@ -202,7 +240,24 @@ HoldsCut held form base ops (program.Session session.OutOfMemory line cause) =
     HoldsFront held form base
 HoldsCut held form base ops program.OutOfMemory = HoldsNothing held
 HoldsCut held form base ops (program.File name) = held.1 ≡ held.0
-HoldsCut held form base ops _ = Unit {0}
+HoldsCut held form base ops (program.Session (session.Refused refused) line cause) = Unit {0}
+HoldsCut held form base ops (program.Session (session.Full wanted left) line cause) = Unit {0}
+HoldsCut held form base ops (program.Session session.ReadOnly line cause) = Unit {0}
+HoldsCut held form base ops (program.Session session.Broken line cause) = Unit {0}
+HoldsCut held form base ops (program.Session session.Geometry line cause) = Unit {0}
+HoldsCut held form base ops (program.Load fault) = Unit {0}
+HoldsCut held form base ops (program.Scan fault) = Unit {0}
+HoldsCut held form base ops (program.Mount fault) = Unit {0}
+HoldsCut held form base ops (program.Clash addr other) = Unit {0}
+HoldsCut held form base ops (program.NotRead file) = Unit {0}
+HoldsCut held form base ops (program.Listing bad) = Unit {0}
+HoldsCut held form base ops (program.Path fault) = Unit {0}
+HoldsCut held form base ops program.NotRegular = Unit {0}
+HoldsCut held form base ops program.Output = Unit {0}
+HoldsCut held form base ops (program.NoSpace name) = Unit {0}
+HoldsCut held form base ops (program.Data addr) = Unit {0}
+HoldsCut held form base ops (program.TooLong addr) = Unit {0}
+HoldsCut held form base ops (program.Image fault) = Unit {0}
 
 -- The lines of the listing were run on a base, with some bytes for the files that they name: so
 -- many were accepted, their nodes have these places, and this stopped them. What they did survives
@@ -219,7 +274,11 @@ pub record IsRunOn (held : Held) (form : ImageForm) (base text : List ℕ) (line
 abbrev pub IsFaultOfMaking : SessionFault → Type 0
 IsFaultOfMaking session.Sink = Unit {0}
 IsFaultOfMaking session.OutOfMemory = Unit {0}
-IsFaultOfMaking _ = ⊥
+IsFaultOfMaking (session.Refused refused) = ⊥
+IsFaultOfMaking (session.Full wanted left) = ⊥
+IsFaultOfMaking session.ReadOnly = ⊥
+IsFaultOfMaking session.Broken = ⊥
+IsFaultOfMaking session.Geometry = ⊥
 
 -- Why no operation was run, or not to its end: the image is not gone on from; or it is, and the
 -- file that is made failed, or memory ran out.
@@ -242,6 +301,11 @@ abbrev pub IsCause : Page → ℕ → ℕ → List ℕ → SessionFault → Caus
 IsCause page size blocks base fault cause =
     (reason : Reason) × (cause ≡ cause_of (flash_plan page size blocks base) fault reason None)
 
+-- what is told of blocks, where memory did not run out for it
+abbrev pub known_blocks : {X : Type 0} → Result (Option ℕ) X → Option ℕ
+known_blocks (Ok blocks) = blocks
+known_blocks (Err _) = None
+
 -- The same of a run that accepted so many operations. Where the next one stopped it for want of
 -- room, the least number of blocks that hold this one, unless memory ran out for that.
 abbrev pub IsRunCause : ImageForm → List ℕ → List Op → ℕ → SessionFault → Cause → Type 0
@@ -258,7 +322,20 @@ IsNotMade form m output (program.File file) = file.name.now ≡ output
 IsNotMade form m output (program.Session fault None cause) =
     IsNotGoneOn form m fault × IsCause form.page form.block form.blocks m.image fault cause
 IsNotMade form m output program.OutOfMemory = Unit {0}
-IsNotMade form m output _ = ⊥
+IsNotMade form m output (program.Session fault (Some number) cause) = ⊥
+IsNotMade form m output (program.Load fault) = ⊥
+IsNotMade form m output (program.Scan fault) = ⊥
+IsNotMade form m output (program.Mount fault) = ⊥
+IsNotMade form m output (program.Clash addr other) = ⊥
+IsNotMade form m output (program.NotRead file) = ⊥
+IsNotMade form m output (program.Listing bad) = ⊥
+IsNotMade form m output (program.Path fault) = ⊥
+IsNotMade form m output program.NotRegular = ⊥
+IsNotMade form m output program.Output = ⊥
+IsNotMade form m output (program.NoSpace name) = ⊥
+IsNotMade form m output (program.Data addr) = ⊥
+IsNotMade form m output (program.TooLong addr) = ⊥
+IsNotMade form m output (program.Image fault) = ⊥
 
 -- the fault of a session, the line of the listing that it came to, and its cause
 abbrev pub IsSessionFault : Held → ImageForm → List ℕ → List ℕ → SessionFault → Option ℕ → Cause

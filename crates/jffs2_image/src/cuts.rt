@@ -17,7 +17,7 @@ use crate::host::Loader;
 use crate::loading::{load_file, load_parts};
 use crate::output::{Output, finished};
 use crate::program::report_fault;
-use crate::writing::{Texts, numbers_of};
+use crate::writing::{Texts, known_blocks, numbers_of};
 use flashbase::Sink;
 use jbuild::{HostFiles, operations};
 use jcommand::{Cuts, Outcome};
@@ -30,9 +30,10 @@ use jreport::{Cause, Plan, ProgramFault, Reason, cause_of, mount_or_tell};
 use jsteps::Op;
 use std::alloc::Global;
 
-/// Why operations on a mounted image are not told: the first limit that the flash does not keep.
-fn cause_on(mounted: &Mounted<'_>, flash: Flash, fault: SessionFault) -> Cause
-    ensures { result ≡ cause_of_cuts flash mounted.now.image fault }
+/// Why operations on a mounted image are not told: the first limit that the flash does not keep, or
+/// `blocks`, how many hold the operation that lacks room.
+fn cause_on(mounted: &Mounted<'_>, flash: Flash, fault: SessionFault, blocks: Option<u32>) -> Cause
+    ensures { result ≡ cause_of_cuts flash mounted.now.image fault blocks }
 {
     let plan = Plan {
         geometry: flash.geometry,
@@ -40,7 +41,7 @@ fn cause_on(mounted: &Mounted<'_>, flash: Flash, fault: SessionFault) -> Cause
         page: flash.page,
         length: mounted.image().len(),
     };
-    cause_of(plan, fault, Reason::Other, None)
+    cause_of(plan, fault, Reason::Other, blocks)
 }
 
 /// Tells operations from where a log goes on in a mounted image, with the numbers of their lines.
@@ -63,10 +64,16 @@ fn tell_ops<E: Order, T: Sink>(
 {
     match put_cuts::<E, T>(alloc, start, Telling::Nodes, ops, lines, sink) {
         Ok(weak) => Ok(weak as u64),
-        Err(CutsFault::Session { fault, line }) => Err(ProgramFault::Session {
+        Err(
+            CutsFault::Session {
+                fault,
+                line,
+                blocks,
+            },
+        ) => Err(ProgramFault::Session {
             fault,
             line,
-            cause: cause_on(start.mounted(), start.flash(), fault),
+            cause: cause_on(start.mounted(), start.flash(), fault, known_blocks(blocks)),
         }),
         Err(CutsFault::Output) => Err(ProgramFault::Output),
     }
@@ -90,7 +97,7 @@ fn start_on<'m, 'a, E: Order>(
         Err(fault) => Err(ProgramFault::Session {
             fault,
             line: None,
-            cause: cause_on(mounted, flash, fault),
+            cause: cause_on(mounted, flash, fault, None),
         }),
     }
 }

@@ -1,12 +1,12 @@
 //! The commands that look at an image alone: `check --scan`, `check`, `ls`, `cat`. Each lets
 //! `jreport` do the work: the first over the file, the others over its bytes.
 
-ghost use Rattle.std.specs.Prelude.{◌≡◌, IfErr, IfOk, None, Some, option_map};
+ghost use Rattle.std.specs.Prelude.{◌≡◌, IfErr, IfOk, None, OnOk, Some, option_map};
 ghost use Rattle.jcommand.specs.Parsed.{ScanParsed, CheckParsed, ListParsed, CatParsed};
 ghost use Rattle.jreport.specs.WholeImage.{PutsFile, PutsListing, list_request};
 ghost use Rattle.jffs2_image.specs.Decompressing.{PutsTaken};
 ghost use Rattle.jffs2_image.specs.Host.{ReadsFile};
-ghost use Rattle.jffs2_image.specs.Looking.{IsPartRefused, part_named};
+ghost use Rattle.jffs2_image.specs.Looking.{IsPartRefused, TellsNoneOf, part_named};
 ghost use Rattle.jffs2_image.specs.Runs.{NamesUnread, Meets, found_answer};
 ghost use Rattle.flashbase.specs.Sinks.{change_of};
 
@@ -16,7 +16,10 @@ use crate::loading::{FileFault, load_file, load_opened, told_of};
 use flashbase::{LoadFault, Sink};
 use jcommand::Options;
 use jnode::Order;
-use jreport::{ProgramFault, Reason, image_check, image_file, image_tree, path_word, stream_lines};
+use jreport::{
+    ProgramFault, Reason, image_check, image_file, image_tree, others_if_none, path_word,
+    stream_lines,
+};
 use jscan::{Geometry, ScanFault};
 use std::alloc::Global;
 
@@ -149,8 +152,8 @@ fn put_tree<E: Order, T: Sink>(
     noting(subject.noted, put)
 }
 
-/// `ls`: answers how many findings to note. The word of a path is judged before the image is
-/// opened.
+/// `ls`: answers how many findings to note, and sets `others` where no node is found. The word of a
+/// path is judged before the image is opened.
 pub(crate) fn list<'a, E: Order, L: Loader, T: Sink>(
     alloc: Global,
     loader: &mut L,
@@ -158,11 +161,14 @@ pub(crate) fn list<'a, E: Order, L: Loader, T: Sink>(
     decompress: bool,
     image: &'a str,
     path: Option<&str>,
+    others: &mut Option<u64>,
     sink: &mut T,
 ) -> Result<u64, ProgramFault<'a>>
     ensures meets { Meets (L.told loader.old) (None, None) E.order
         (ListParsed options decompress image.now (option_map (λ p. p.now) path.entry))
         (change_of T.Sink sink.old sink.new) result }
+    ensures others { OnOk result (TellsNoneOf (L.told loader.old image.now) E.order
+        options.geometry.block others.new) }
     ensures host { ReadsFile (L.told loader.old image.now) (L.failures loader.old)
         (L.failures loader.new) result }
 {
@@ -174,6 +180,7 @@ pub(crate) fn list<'a, E: Order, L: Loader, T: Sink>(
         Ok(bytes) => bytes,
         Err(fault) => return Err(fault),
     };
+    *others = others_if_none::<E>(bytes.as_slice(), options.geometry);
     let part = slice_of(&word);
     put_tree::<E, T>(alloc, bytes, options.geometry, decompress, part, sink)
 }
@@ -200,8 +207,8 @@ fn put_file<E: Order, T: Sink>(
     noting(subject.noted, put)
 }
 
-/// `cat`: answers how many findings to note. The word of the path is judged before the image is
-/// opened.
+/// `cat`: answers how many findings to note, and sets `others` where no node is found. The word of
+/// the path is judged before the image is opened.
 pub(crate) fn cat<'a, E: Order, L: Loader, T: Sink>(
     alloc: Global,
     loader: &mut L,
@@ -209,11 +216,14 @@ pub(crate) fn cat<'a, E: Order, L: Loader, T: Sink>(
     decompress: bool,
     image: &'a str,
     path: &str,
+    others: &mut Option<u64>,
     sink: &mut T,
 ) -> Result<u64, ProgramFault<'a>>
     ensures meets { Meets (L.told loader.old) (None, None) E.order
         (CatParsed options decompress image.now path.now) (change_of T.Sink sink.old sink.new)
         result }
+    ensures others { OnOk result (TellsNoneOf (L.told loader.old image.now) E.order
+        options.geometry.block others.new) }
     ensures host { ReadsFile (L.told loader.old image.now) (L.failures loader.old)
         (L.failures loader.new) result }
 {
@@ -225,6 +235,7 @@ pub(crate) fn cat<'a, E: Order, L: Loader, T: Sink>(
         Ok(bytes) => bytes,
         Err(fault) => return Err(fault),
     };
+    *others = others_if_none::<E>(bytes.as_slice(), options.geometry);
     put_file::<E, T>(
         alloc,
         bytes,

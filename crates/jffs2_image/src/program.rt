@@ -6,11 +6,12 @@ ghost use Rattle.jcommand.specs.Status.{outcome_of};
 ghost use Rattle.jcommand.specs.Parsed.{BuildParsed, AppendParsed, DecompressParsed, is_unplaced, options_of, placing_from, view};
 ghost use Rattle.jreport.specs.Advice.{fault_lines_of};
 ghost use Rattle.jffs2_image.specs.Host.{Blames, BlamesCommand, BlamesDecompress, BlamesFor, HasFailed, MakesFile};
+ghost use Rattle.jffs2_image.specs.Looking.{NotesOthers, TellsNoneOf};
 ghost use Rattle.jffs2_image.specs.WeakRuns.{HasNotes};
 ghost use Rattle.jffs2_image.specs.Tasks.{RunsAsked, RunsTask, fills, passage, reads};
 ghost use Rattle.jffs2_image.specs.Placing.{SaysOn, putting, telling, tellings, writes};
 ghost use Rattle.jffs2_image.specs.Writes.{GivesText, Held};
-ghost use Rattle.jffs2_image.specs.Runs.{IsSaid, Meets, MeetsCommand, MeetsWhole, RunsCommand, Says, either_found, note_after, outcome_after, said_after, success_of};
+ghost use Rattle.jffs2_image.specs.Runs.{IsSaid, Meets, MeetsCommand, MeetsWhole, RunsCommand, Says, either_found, note_after, outcome_after, said_after, shown_after, success_of};
 ghost use Rattle.flashbase.specs.Sinks.{PutsTo, change_of};
 
 use crate::decompressing::{decompress_into, noting, subject_of};
@@ -22,20 +23,21 @@ use crate::looking::{cat, check, list, scan};
 use crate::output::{Output, finished};
 use crate::placing::Placer;
 use crate::tasks::run_placed;
-use crate::weak::Notes;
+use crate::weak::{Noted, Notes};
 use crate::writing::{Texts, Writing, write_image};
 use flashbase::{Sink, put_all};
 use jcommand::{Options, Outcome, Request, RequestFault, Target, asked};
 use jnode::Order;
-use jreport::{ProgramFault, put_fault_and_note, put_note};
+use jreport::{ProgramFault, others_if_none, put_fault_and_note, put_none_notes, put_note};
 use std::alloc::Global;
 
 /// What a run comes to that went well.
 pub enum Success {
     /// `check` found so much.
     Found(u64),
-    /// What was asked for was shown, of an image with so many findings to note.
-    Shown(u64),
+    /// What was asked for was shown, of an image with so many findings to note. Where no node is
+    /// found in it, the other byte order has so many others.
+    Shown { findings: u64, others: Option<u64> },
     /// An image was made of one with so many findings to note, which are found.
     Made(u64),
 }
@@ -121,7 +123,7 @@ fn decompress<'a, E: Order, L: Loader, M: Maker, T: Sink>(
 /// `append`: an image, or what `decompress` makes of it, with what a listing makes of its file
 /// system. It is held in memory before the file is made, so the two may be one. The listing's text
 /// is kept, since a fault may name a part of it. Answers how many findings of the image that was
-/// read to note.
+/// read to note, and sets `others` where no node is found in it.
 fn append<'a, E: Order, L: Loader, M: Maker, T: Sink>(
     alloc: Global,
     loader: &mut L,
@@ -131,7 +133,7 @@ fn append<'a, E: Order, L: Loader, M: Maker, T: Sink>(
     image: &'a str,
     listing: &'a str,
     texts: &'a mut Texts,
-    notes: &mut Notes,
+    noted: &mut Noted,
     sink: &mut T,
 ) -> Result<u64, ProgramFault<'a>>
     ensures meets { Meets (L.told loader.old) (M.held maker.old, M.held maker.new) E.order
@@ -142,15 +144,18 @@ fn append<'a, E: Order, L: Loader, M: Maker, T: Sink>(
         target.entry.page decompress image.entry.now listing.entry.now target.entry.output.now)
         (maker.new ≡ maker.old) (reads L.told L.failures loader.old loader.new)
         (writes (telling M.names M.held M.failures) maker.old maker.new) result }
-    ensures weak { OnOk result (IsTrue notes.old.asked
+    ensures weak { OnOk result (IsTrue noted.old.weak.asked
         → HasNotes (L.told loader.old) E.order (AppendParsed target.entry.options
         target.entry.blocks target.entry.page decompress image.entry.now listing.entry.now
-        target.entry.output.now) notes.new) }
+        target.entry.output.now) noted.new.weak) }
+    ensures others { OnOk result (TellsNoneOf (L.told loader.old image.entry.now) E.order
+        target.entry.options.geometry.block noted.new.others) }
 {
     let read = match load_file(alloc, loader, image) {
         Ok(bytes) => bytes,
         Err(fault) => return Err(fault),
     };
+    noted.others = others_if_none::<E>(read.as_slice(), target.options.geometry);
     let subject = match subject_of::<E>(alloc, read, target.options.geometry, decompress) {
         Ok(subject) => subject,
         Err(fault) => return Err(fault),
@@ -170,7 +175,7 @@ fn append<'a, E: Order, L: Loader, M: Maker, T: Sink>(
         maker,
         work,
         &mut texts.unread,
-        notes,
+        &mut noted.weak,
         sink,
     );
     noting(subject.noted, answer)
@@ -183,7 +188,7 @@ fn run_in_order<'a, E: Order, L: Loader, M: Maker, T: Sink>(
     maker: &mut M,
     request: Request<'a>,
     texts: &'a mut Texts,
-    notes: &mut Notes,
+    noted: &mut Noted,
     sink: &mut T,
 ) -> Result<u64, ProgramFault<'a>>
     ensures meets { Meets (L.told loader.old) (M.held maker.old, M.held maker.new) E.order
@@ -191,9 +196,12 @@ fn run_in_order<'a, E: Order, L: Loader, M: Maker, T: Sink>(
     ensures host { BlamesFor E.order (view request.entry) (maker.new ≡ maker.old)
         (reads L.told L.failures loader.old loader.new)
         (writes (telling M.names M.held M.failures) maker.old maker.new) result }
-    ensures weak { OnOk result (IsTrue notes.old.asked
-        → HasNotes (L.told loader.old) E.order (view request.entry) notes.new) }
+    ensures weak { OnOk result (IsTrue noted.old.weak.asked
+        → HasNotes (L.told loader.old) E.order (view request.entry) noted.new.weak) }
+    ensures others { OnOk result
+        (NotesOthers (L.told loader.old) E.order (view request.entry) noted.new.others) }
 {
+    noted.others = None;
     match request {
         Request::Scan { options, image } => scan::<E, _, _>(alloc, loader, options, image, sink),
         Request::Check {
@@ -206,15 +214,42 @@ fn run_in_order<'a, E: Order, L: Loader, M: Maker, T: Sink>(
             decompress,
             image,
             path,
-        } => list::<E, _, _>(alloc, loader, options, decompress, image, path, sink),
+        } => list::<E, _, _>(
+            alloc,
+            loader,
+            options,
+            decompress,
+            image,
+            path,
+            &mut noted.others,
+            sink,
+        ),
         Request::Cat {
             options,
             decompress,
             image,
             path,
-        } => cat::<E, _, _>(alloc, loader, options, decompress, image, path, sink),
+        } => cat::<E, _, _>(
+            alloc,
+            loader,
+            options,
+            decompress,
+            image,
+            path,
+            &mut noted.others,
+            sink,
+        ),
         Request::Build { target, listing } => {
-            build::<E, _, _, _>(alloc, loader, maker, target, listing, texts, notes, sink)
+            build::<E, _, _, _>(
+                alloc,
+                loader,
+                maker,
+                target,
+                listing,
+                texts,
+                &mut noted.weak,
+                sink,
+            )
         }
         Request::Append {
             target,
@@ -222,7 +257,7 @@ fn run_in_order<'a, E: Order, L: Loader, M: Maker, T: Sink>(
             image,
             listing,
         } => append::<E, _, _, _>(
-            alloc, loader, maker, target, decompress, image, listing, texts, notes, sink,
+            alloc, loader, maker, target, decompress, image, listing, texts, noted, sink,
         ),
         Request::Decompress {
             options,
@@ -240,7 +275,7 @@ pub(crate) fn run_whole<'a, E: Order, L: Loader, M: Maker, T: Output>(
     maker: &mut M,
     request: Request<'a>,
     texts: &'a mut Texts,
-    notes: &mut Notes,
+    noted: &mut Noted,
     output: &mut T,
 ) -> Result<u64, ProgramFault<'a>>
     requires { (options_of request).endian ≡ E.order }
@@ -249,11 +284,13 @@ pub(crate) fn run_whole<'a, E: Order, L: Loader, M: Maker, T: Output>(
     ensures host { BlamesFor (options_of request.entry).endian (view request.entry)
         (maker.new ≡ maker.old) (reads L.told L.failures loader.old loader.new)
         (writes (telling M.names M.held M.failures) maker.old maker.new) result }
-    ensures weak { OnOk result (IsTrue notes.old.asked
+    ensures weak { OnOk result (IsTrue noted.old.weak.asked
         → HasNotes (L.told loader.old) (options_of request.entry).endian (view request.entry)
-        notes.new) }
+        noted.new.weak) }
+    ensures others { OnOk result (NotesOthers (L.told loader.old)
+        (options_of request.entry).endian (view request.entry) noted.new.others) }
 {
-    let answer = run_in_order::<E, L, M, T>(alloc, loader, maker, request, texts, notes, output);
+    let answer = run_in_order::<E, L, M, T>(alloc, loader, maker, request, texts, noted, output);
     finished(answer, output)
 }
 
@@ -281,16 +318,20 @@ pub(crate) fn put_whole<T: Output>(text: &[u8], output: &mut T) -> Result<(), Pr
     finished(answer, output)
 }
 
-/// What it comes to that the work of a request found so much.
-fn as_success(request: &Request<'_>, findings: u64) -> Success
-    ensures { result ≡ success_of (view request.now) findings }
+/// What it comes to that the work of a request found so much, and what is noted where no node is
+/// found.
+fn as_success(request: &Request<'_>, findings: u64, others: Option<u64>) -> Success
+    ensures { result ≡ success_of (view request.now) findings others }
 {
     match request {
         Request::Scan { .. } | Request::Check { .. } => Success::Found(findings),
-        Request::List { .. }
-        | Request::Cat { .. }
-        | Request::Build { .. }
-        | Request::Append { .. } => Success::Shown(findings),
+        Request::List { .. } | Request::Cat { .. } | Request::Append { .. } => {
+            Success::Shown { findings, others }
+        }
+        Request::Build { .. } => Success::Shown {
+            findings,
+            others: None,
+        },
         Request::Decompress { .. } => Success::Made(findings),
     }
 }
@@ -312,9 +353,9 @@ fn answer_request<'a, E: Order, L: Loader, M: Maker, T: Output>(
         (maker.new ≡ maker.old) (reads L.told L.failures loader.old loader.new)
         (writes (telling M.names M.held M.failures) maker.old maker.new) result }
 {
-    let mut notes = Notes::new(alloc, false);
-    match run_whole::<E, L, M, T>(alloc, loader, maker, request, texts, &mut notes, output) {
-        Ok(findings) => Ok(as_success(&request, findings)),
+    let mut noted = Noted::new(alloc, false);
+    match run_whole::<E, L, M, T>(alloc, loader, maker, request, texts, &mut noted, output) {
+        Ok(findings) => Ok(as_success(&request, findings, noted.others)),
         Err(fault) => Err(Stop::Fault(fault)),
     }
 }
@@ -327,7 +368,10 @@ fn answer_refusal<T: Output>(fault: RequestFault, output: &mut T) -> Result<Succ
 {
     match fault {
         RequestFault::Help { text } => match put_whole(text.as_bytes(), output) {
-            Ok(()) => Ok(Success::Shown(0)),
+            Ok(()) => Ok(Success::Shown {
+                findings: 0,
+                others: None,
+            }),
             Err(fault) => Err(Stop::Fault(fault)),
         },
         RequestFault::Usage { text } => Err(Stop::Usage { text }),
@@ -367,6 +411,21 @@ pub fn note<E: Sink>(findings: u64, errors: &mut E) -> Outcome
     Outcome::Done
 }
 
+/// Notes the same, and where no node is found in the image, how many the other byte order has.
+pub(crate) fn note_shown<E: Sink>(findings: u64, others: Option<u64>, errors: &mut E) -> Outcome
+    ensures done { result ≡ Outcome.Done }
+    ensures noted { Says (errors.new ≡ errors.old) (E.taken errors.old) (E.taken errors.new)
+        (E.failures errors.old) (E.failures errors.new) (shown_after findings others) }
+{
+    match others {
+        None => note(findings, errors),
+        Some(others) => {
+            let _ = put_none_notes(findings, others, errors);
+            Outcome::Done
+        }
+    }
+}
+
 /// Notes that an image of which another was made has findings, which is how that ends.
 pub(crate) fn note_found<E: Sink>(findings: u64, errors: &mut E) -> Outcome
     ensures ends { result ≡ outcome_of findings }
@@ -393,7 +452,7 @@ fn report_answer<N: Sink>(answer: Result<Success, Stop<'_>>, errors: &mut N) -> 
 {
     match answer {
         Ok(Success::Found(findings)) => Outcome::of(findings),
-        Ok(Success::Shown(findings)) => note(findings, errors),
+        Ok(Success::Shown { findings, others }) => note_shown(findings, others, errors),
         Ok(Success::Made(findings)) => note_found(findings, errors),
         Err(Stop::Usage { text }) => report_usage(text.as_str(), errors),
         Err(Stop::Fault(fault)) => report_fault(&fault, errors),

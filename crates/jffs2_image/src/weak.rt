@@ -11,7 +11,7 @@ ghost use Rattle.jffs2_image.specs.Placing.{telling, writes};
 
 use crate::host::{Loader, Maker};
 use crate::output::Output;
-use crate::program::{note, report_fault, run_whole};
+use crate::program::{note_shown, report_fault, run_whole};
 use crate::writing::Texts;
 use flashbase::{Sink, put_all};
 use jcommand::{Outcome, Request};
@@ -28,6 +28,15 @@ pub struct Notes {
     pub asked: bool,
     pub text: Vec<u8>,
     pub weak: u64,
+}
+
+/// What is noted of a run beside how many findings an image has.
+#[derive(Drop)]
+pub struct Noted {
+    pub weak: Notes,
+    /// How many nodes the other byte order has, of an image that was read and in which no node is
+    /// found.
+    pub others: Option<u64>,
 }
 
 /// Whether memory was wanting.
@@ -61,8 +70,14 @@ fn notes_of<E: Order>(
             weak: weak as u64,
         }),
         Err(CutsFault::Output) => Err(AllocError),
-        Err(CutsFault::Session { fault, line }) => {
-            let _ = line;
+        Err(
+            CutsFault::Session {
+                fault,
+                line,
+                blocks,
+            },
+        ) => {
+            let _ = (line, blocks);
             if is_of_memory(fault) {
                 Err(AllocError)
             } else {
@@ -105,6 +120,18 @@ impl Notes {
     }
 }
 
+impl Noted {
+    /// Nothing yet.
+    pub fn new(alloc: Global, asked: bool) -> Noted
+        ensures { result.weak.asked ≡ asked }
+    {
+        Noted {
+            weak: Notes::new(alloc, asked),
+            others: None,
+        }
+    }
+}
+
 /// Puts the notes, where there are any. A weak node is found.
 pub(crate) fn put_notes<E: Sink>(notes: &Notes, errors: &mut E) -> Outcome
     ensures found { result ≡ outcome_of notes.now.weak }
@@ -133,13 +160,13 @@ pub(crate) fn run_weak<E: Order, L: Loader, M: Maker, T: Output, N: Sink>(
         (change_of N.Sink errors.old errors.new) result }
 {
     let mut texts = Texts::new(alloc);
-    let mut notes = Notes::new(alloc, true);
+    let mut noted = Noted::new(alloc, true);
     match run_whole::<E, L, M, T>(
-        alloc, loader, maker, request, &mut texts, &mut notes, output,
+        alloc, loader, maker, request, &mut texts, &mut noted, output,
     ) {
         Ok(findings) => {
-            note(findings, errors);
-            put_notes(&notes, errors)
+            note_shown(findings, noted.others, errors);
+            put_notes(&noted.weak, errors)
         }
         Err(fault) => report_fault(&fault, errors),
     }

@@ -6,7 +6,7 @@ ghost use Rattle.jffs2_image.specs.Host.{AreRead, Blames, BlamesMaker, IsHandedB
 ghost use Rattle.jbuild.specs.Operations.{ops_in};
 ghost use Rattle.jbuild.specs.HostFiles.{part_contents};
 ghost use Rattle.jffs2_image.specs.WeakRuns.{AreNotes, AreNotesOn, flash_given};
-ghost use Rattle.jffs2_image.specs.Writes.{GivesCut, HoldsCut, IsCause, IsMade, IsNotGoneOn, IsNotMade, IsNotedIn, IsPut, WritesImage, form_of, resumed, form_flash, flash_plan};
+ghost use Rattle.jffs2_image.specs.Writes.{GivesCut, HoldsCut, IsCause, IsMade, IsNotGoneOn, IsNotMade, IsNotedIn, IsPut, WritesImage, form_of, resumed, form_flash, flash_plan, known_blocks};
 ghost use Rattle.jbuild.specs.Blocks.{TellsRefusedOn};
 ghost use Rattle.jbuild.specs.Emitting.{IsEmitted, IsNotEmitted};
 ghost use Rattle.jlog.specs.View.{address_of, flash_of_start, mount_of};
@@ -136,7 +136,8 @@ fn start_on<'m, 'a, E: Order>(
 }
 
 /// What is told of blocks, where memory did not run out for it.
-fn known_blocks(told: Result<Option<u32>, AllocError>) -> Option<u32>
+pub(crate) fn known_blocks(told: Result<Option<u32>, AllocError>) -> Option<u32>
+    ensures known { result ≡ known_blocks told }
     ensures some { IfSome result (λ blocks. told ≡ Ok (Some blocks)) }
     ensures same { IfOk told (λ blocks. result ≡ blocks) }
 {

@@ -1,10 +1,13 @@
 -- An image in which no node is found.
-use Rattle.std.specs.Prelude.{◌≡◌, ℕ, List, [], length, option_map, Option}
+use Rattle.std.specs.Prelude.{◌≡◌, ℕ, List, [], ◌++◌, codes, length, option_map, Option, Some, None}
 use Rattle.flashbase.specs.Bytes.{erased}
 use Rattle.jnode.specs.declared.order.Endian.{Endian}
 use Rattle.jnode.specs.declared.order.Endian.TheVariants.{Little, Big}
 use Rattle.jscan.specs.Image.{sightings}
 use Rattle.jscan.specs.Scans.{IsScannable}
+use Rattle.jreport.specs.ExtractionNotes.{line_of_count}
+use Rattle.jreport.specs.ImageFaults.{image_note}
+use Rattle.jreport.specs.Notes.{note_line_of}
 use Rattle.jreport.specs.declared.faults.ProgramFault.{ProgramFault}
 use Rattle.jreport.specs.declared.faults.ProgramFault.TheVariants as program
 use Rattle.jreport.specs.declared.image_fault.ImageFault.{ImageFault}
@@ -45,3 +48,24 @@ pub record IsNoNodes (e : Endian) (size : ℕ) (bytes : List ℕ) (name : Option
   pub why : ImageFault
   pub is : fault ≡ program.Image why
   pub told : TellsOthers name (node_count (other_order e) size bytes) why
+
+-- rule: What is printed: The note of `ls`, `cat` and `append` on an image in which no node is
+--   found.
+--   definitions: jreport.NoNodes.TellsNone, jreport.NoNodes.none_notes_of,
+--   jffs2_image.Looking.NotesOthers
+--   code: jreport::no_nodes::others_if_none, jreport::no_nodes::put_none_notes
+-- Of an image in which no node is found it is told how many the other byte order has; of any other
+-- nothing is.
+abbrev pub TellsNone : Endian → ℕ → List ℕ → Option ℕ → Type 0
+TellsNone e size image None = HasNoNode e size image → ⊥
+TellsNone e size image (Some others) =
+    HasNoNode e size image × (others ≡ node_count (other_order e) size image)
+
+-- the line on standard error that says so
+unfoldable pub none_line_of : ℕ → List ℕ
+none_line_of others =
+    codes "jffs2_image: note: " ++ (image_note (image.NoNodes None others) ++ codes "\n")
+
+-- behind the one on so many findings, where there are any
+unfoldable pub none_notes_of : ℕ → ℕ → List ℕ
+none_notes_of findings others = line_of_count note_line_of findings ++ none_line_of others

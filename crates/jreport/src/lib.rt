@@ -56,7 +56,7 @@ pub use crate::findings::{Found, found_in, refuse_findings};
 pub use crate::image_fault::ImageFault;
 pub use crate::met::MetDirectories;
 pub use crate::named_notes::put_named_notes;
-pub use crate::no_nodes::refuse_no_nodes;
+pub use crate::no_nodes::{others_if_none, put_none_notes, refuse_no_nodes};
 pub use crate::notes::{noted, put_note};
 pub use crate::paths::path_word;
 pub use crate::reason::{Reason, Unopened};

@@ -7,8 +7,6 @@ mod build;
 #[cfg(test)]
 mod checks;
 #[cfg(test)]
-mod compact;
-#[cfg(test)]
 mod convert;
 #[cfg(test)]
 mod log;

@@ -95,10 +95,39 @@ fn a_refused_operation_ends_it(rt: HostRuntime) {
     let wanted = CutsFault::Session {
         fault: SessionFault::Refused(OpFault::Exists),
         line: Some(5),
+        blocks: Ok(None),
     };
     expect(
         &rt,
         told == Some(Err(wanted)) && sink.took(0, &TOLD.as_bytes()[..104]),
+    );
+}
+
+/// How many blocks are told where room is wanting for the operation of line 5.
+fn least(told: &Option<Result<usize, CutsFault>>) -> Option<u32> {
+    match told {
+        Some(
+            Err(
+                CutsFault::Session {
+                    fault: SessionFault::Full { .. },
+                    line: Some(5),
+                    blocks: Ok(blocks),
+                },
+            ),
+        ) => *blocks,
+        _ => None,
+    }
+}
+
+/// Two nodes of a page each need a block of their own.
+#[test]
+fn least_blocks_are_told(rt: HostRuntime) {
+    let ops = [create(), write(&[0x55; 8192]), write(WEAK_BYTES)];
+    let mut sink = Taker::new(rt.alloc());
+    let told = tell(rt.alloc(), Telling::Nodes, &ops, &mut sink);
+    expect(
+        &rt,
+        least(&told) == Some(2) && sink.took(0, &TOLD.as_bytes()[..104]),
     );
 }
 

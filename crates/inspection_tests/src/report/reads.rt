@@ -11,7 +11,7 @@ use jline::put_escaped;
 use jmount::{FindFault, MountFault, mount};
 use jreport::{
     Found, ImageFault, ProgramFault, content, found_in, image_check, image_file, image_tree,
-    put_named_notes, put_note, refuse_findings, refuse_no_nodes,
+    others_if_none, put_named_notes, put_none_notes, put_note, refuse_findings, refuse_no_nodes,
 };
 use jscan::{GREATEST_IMAGE, Geometry};
 use std::alloc::Global;
@@ -334,6 +334,11 @@ fn images_that_are_refused(rt: HostRuntime) -> Result<(), Fail> {
         let image = raw_image(rt.alloc(), Raw { nodes, ..ONE_BLOCK })?;
         let refused = refuse_no_nodes::<LittleEndian>(&image, GEOMETRY, Some("a")).err();
         equal(&rt, refused, others.map(no_nodes));
+        equal(
+            &rt,
+            others_if_none::<LittleEndian>(&image, GEOMETRY),
+            others,
+        );
         let refused = refuse_findings::<LittleEndian>(&image, GEOMETRY, "a").err();
         equal(&rt, refused, findings.map(with_findings));
     }
@@ -346,6 +351,7 @@ fn images_that_are_refused(rt: HostRuntime) -> Result<(), Fail> {
     )?;
     let refused = refuse_no_nodes::<BigEndian>(&image, GEOMETRY, Some("a")).err();
     equal(&rt, refused, Some(no_nodes(1)));
+    equal(&rt, others_if_none::<BigEndian>(&image, GEOMETRY), Some(1));
     let small = Geometry { block: 4097 };
     equal(
         &rt,
@@ -375,6 +381,40 @@ fn notes(rt: HostRuntime) {
     for &(findings, wanted) in counted() {
         let mut sink = FromWriter::new(Vec::new(rt.alloc()));
         equal(&rt, put_note(findings, &mut sink), Ok(()));
+        equal(&rt, sink.into_writer().as_slice(), wanted);
+    }
+}
+
+/// Findings, nodes of the other order, and what is noted where no node is found.
+fn without_nodes() -> &'static [(u64, u64, &'static [u8])] {
+    &[
+        (
+            0,
+            0,
+            b"jffs2_image: note: no node is found in either byte order, see info\n",
+        ),
+        (
+            1,
+            1,
+            b"jffs2_image: note: 1 finding, see check --scan; a wrong --block or --endian shows \
+              as findings too, see info\n\
+              jffs2_image: note: the other byte order has 1 node, see --endian and info\n",
+        ),
+        (
+            17,
+            5,
+            b"jffs2_image: note: 17 findings, see check --scan; a wrong --block or --endian shows \
+              as findings too, see info\n\
+              jffs2_image: note: the other byte order has 5 nodes, see --endian and info\n",
+        ),
+    ]
+}
+
+#[test]
+fn notes_where_no_node_is_found(rt: HostRuntime) {
+    for &(findings, others, wanted) in without_nodes() {
+        let mut sink = FromWriter::new(Vec::new(rt.alloc()));
+        equal(&rt, put_none_notes(findings, others, &mut sink), Ok(()));
         equal(&rt, sink.into_writer().as_slice(), wanted);
     }
 }

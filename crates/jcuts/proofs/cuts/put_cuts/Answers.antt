@@ -7,7 +7,7 @@ use Rattle.jcuts.proofs.CutsLemmas.{cuts_end, cuts_end_failed, cuts_stop, end_at
 use Rattle.jcuts.proofs.cuts.put_cuts.Goals as goal
 
 pub returns-in-Err : goal.returns-in-Err
-returns-in-Err g c = (refl, refl, refl)
+returns-in-Err g c = (refl, refl, refl, refl)
 
 pub tell_ops-requires-clause-ready : goal.tell_ops-requires-clause-ready
 tell_ops-requires-clause-ready g c = c.in-Ok.ensures.ready

@@ -1,10 +1,11 @@
 use Rattle.std.proofs.Common.{rules, ◌≡◌, ◌∙◌, List, ap, length, refl, subst}
 use Rattle.std.specs.Io.KnownBytes.{Appends}
 use Rattle.flashbase.specs.Device.{PutsPart}
-use Rattle.jcuts.specs.Cuts.{told_of_op}
+use Rattle.jlog.specs.View.{cursor_of, index_of_log}
+use Rattle.jcuts.specs.Cuts.{flash_of, told_of_op}
 use Rattle.jcuts.specs.Lines.{weak_count}
 use Rattle.jcuts.specs.declared.standing.Standing.{Standing}
-use Rattle.jcuts.proofs.CutsLemmas.{same_flash}
+use Rattle.jcuts.proofs.CutsLemmas.{least_at, same_flash}
 use Rattle.jcuts.proofs.cuts.tell_op.Goals as goal
 
 pub plan_op-requires-clause-whole : goal.plan_op-requires-clause-whole
@@ -23,7 +24,17 @@ returns-in-Err-clause-flash g c =
     same_flash q.block p.block q.blocks p.blocks q.page p.page c.plan_op.ensures.block c.plan_op.ensures.blocks c.plan_op.ensures.page
 
 pub returns-in-Err-clause-tells : goal.returns-in-Err-clause-tells
-returns-in-Err-clause-tells g c = (refl, c.in-Err.ensures.declined, refl, refl)
+returns-in-Err-clause-tells g c =
+    let p = c.args.plan.now in
+    let q = c.plan_op.new.plan in
+    let same = same_flash q.block p.block q.blocks p.blocks q.page p.page c.plan_op.ensures.block c.plan_op.ensures.blocks c.plan_op.ensures.page in (
+      refl,
+      c.in-Err.ensures.declined,
+      refl,
+      refl,
+      least_at g.E.Order.order (flash_of q) (flash_of p) (cursor_of q) (cursor_of p) (index_of_log q) (index_of_log p) c.args.op.now c.in-Err.fault c.least_for.result same
+          c.in-Err.ensures.stays c.least_for.ensures,
+    )
 
 pub returns-in-Ok-put_nodes-clause-flash : goal.returns-in-Ok-put_nodes-clause-flash
 returns-in-Ok-put_nodes-clause-flash g c =

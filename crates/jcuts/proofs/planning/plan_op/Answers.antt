@@ -1,4 +1,4 @@
-use Rattle.std.proofs.Common.{◌∙◌, ℕ, List, Some, [], refl, sym, ap, subst}
+use Rattle.std.proofs.Common.{◌≡◌, ◌∙◌, ℕ, List, Some, [], refl, sym, ap, subst}
 use Rattle.std.proofs.lemmas.Result.{IfOk-from_err, err_from_is_err_and}
 use Rattle.jscan.specs.Pages.{page_size}
 use Rattle.jsteps.proofs.FewLemmas.{sizes_are_pages}
@@ -6,7 +6,8 @@ use Rattle.jlog.specs.Session.{Declines}
 use Rattle.jlog.specs.View.{block_size_of, blocks_of, page_of, cursor_of, index_of_log, is_broken, sink_of}
 use Rattle.jlog.specs.declared.fault.SessionFault.{SessionFault}
 use Rattle.jlog.specs.declared.report.Applied.{Applied}
-use Rattle.jcuts.proofs.PlanLemmas.{can_at, declined_op, nodes_at, planned_at, planned_op, standings_at}
+use Rattle.jcuts.specs.Planning.{IfFull}
+use Rattle.jcuts.proofs.PlanLemmas.{can_at, declined_op, nodes_at, planned_at, planned_op, standings_at, stays_op}
 use Rattle.jcuts.proofs.planning.plan_op.Goals as goal
 
 pub returns-in-Err : goal.returns-in-Err
@@ -23,6 +24,9 @@ returns-in-Err g c =
       whole = tt;
       can = tt;
       none = tt;
+      stays = subst (λ (f : SessionFault). IfFull f ((cursor_of q ≡ cursor_of p) × (index_of_log q ≡ index_of_log p))) (sym c.without_sink.ensures)
+          (stays_op Applied (page_size (page_of p)) e (block_size_of p) (blocks_of p) (cursor_of p) (index_of_log p) c.args.op.now (is_broken p) (cursor_of q) (index_of_log q) (is_broken q)
+          (Some (sink_of p).bytes.items) (Some (sink_of q).bytes.items) (sink_of p).failures (sink_of q).failures [] c.in-Err.ensures.applies.0 c.in-Err.fault c.in-Err.ensures.applies.2);
       declined = subst (λ (f : SessionFault). Declines (page_size (page_of p)) e (block_size_of p) (blocks_of p) (cursor_of p) (index_of_log p) c.args.op.now f) (sym c.without_sink.ensures)
           (declined_op Applied (page_size (page_of p)) e (block_size_of p) (blocks_of p) (cursor_of p) (index_of_log p) c.args.op.now (is_broken p) (cursor_of q) (index_of_log q) (is_broken q)
           (Some (sink_of p).bytes.items) (Some (sink_of q).bytes.items) (sink_of p).failures (sink_of q).failures [] c.in-Err.ensures.applies.0 c.in-Err.fault c.requires.whole c.in-Err.ensures.applies.2);
@@ -78,6 +82,9 @@ returns-in_err-told-clause-none g c = IfOk-from_err c.from_residual.result _ c.f
 
 pub returns-in_err-told-clause-declined : goal.returns-in_err-told-clause-declined
 returns-in_err-told-clause-declined g c = let p = err_from_is_err_and c.from_residual.result c.from_residual.ensures.1 in rw (p.1, p.2) tt
+
+pub returns-in_err-told-clause-stays : goal.returns-in_err-told-clause-stays
+returns-in_err-told-clause-stays g c = let p = err_from_is_err_and c.from_residual.result c.from_residual.ensures.1 in rw (p.1, p.2) tt
 
 pub returns-clause-planned : goal.returns-clause-planned
 returns-clause-planned g c =

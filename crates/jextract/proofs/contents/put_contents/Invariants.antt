@@ -1,4 +1,4 @@
-use Rattle.std.proofs.Common.{◌≡◌, ◌-◌, ◌≤◌}
+use Rattle.std.proofs.Common.{◌≡◌, ◌-◌}
 use Rattle.jmount.specs.Shown.{readable}
 use Rattle.jextract.specs.Filling.{HasBlocks}
 use Rattle.jextract.proofs.contents.put_contents.Given as goal

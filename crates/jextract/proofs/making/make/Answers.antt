@@ -1,10 +1,10 @@
-use Rattle.std.proofs.Common.{◌≡◌, Bool, false, map, ap, ◌∙◌, sym, subst, Ok, Err, Some}
+use Rattle.std.proofs.Common.{◌≡◌, Bool, false, map, ap, ◌∙◌, sym, subst, refl, Ok, Err, Some}
 use Rattle.std.specs.Prelude.{string_bytes, IsErrAnd}
 use Rattle.jmount.specs.Shown.{readable}
 use Rattle.jextract.specs.Making.{Follows, firsts_of}
 use Rattle.jextract.specs.Outcomes.{Make, Plan, plan_anew}
 use Rattle.jextract.specs.declared.making.MakeFault.{MakeFault}
-use Rattle.jextract.proofs.MakingLemmas.{works_without_path, works_as_planned, works_at_fault, works_then_fails, works_without_object, lost_again, lost_anew, planned_again, planned_anew, first_noted, first_known, first_unknown, firsts_kept}
+use Rattle.jextract.proofs.MakingLemmas.{works_without_path, works_as_planned, works_at_fault, works_then_fails, works_without_object, lost_again, lost_anew, planned_again, planned_anew, first_noted, first_known, first_unknown, firsts_fail, firsts_kept}
 use Rattle.jextract.proofs.making.make.Goals as goal
 
 pub returns-in_err-path-clause-works : goal.returns-in_err-path-clause-works
@@ -101,3 +101,19 @@ pub returns-in-Some-get-clause-firsts : goal.returns-in-Some-get-clause-firsts
 returns-in-Some-get-clause-firsts g c =
     let known = first_known c.args.firsts.now c.args.ino c.get.result c.in-Some-get.first c.get.ensures.value c.in-Some-get.is in
     firsts_kept {T = Bool} c.args.mounted.now.state (firsts_of c.args.firsts.now) (map (λ name. name.now) c.args.names.now) (string_bytes c.in_ok-path.path) (string_bytes c.in-Some-get.first.now) c.args.ino (Ok false) c.in_ok-path.ensures known
+
+pub returns-in_err-path-clause-firsts : goal.returns-in_err-path-clause-firsts
+returns-in_err-path-clause-firsts g c =
+    firsts_fail {T = Bool} c.args.mounted.now.state (firsts_of c.args.firsts.now) (firsts_of c.args.firsts.now) (map (λ name. name.now) c.args.names.now) c.args.ino c.from_residual.result _ c.from_residual.ensures.1 refl
+
+pub returns-in_err-make_again-clause-firsts : goal.returns-in_err-make_again-clause-firsts
+returns-in_err-make_again-clause-firsts g c =
+    firsts_fail {T = Bool} c.args.mounted.now.state (firsts_of c.args.firsts.now) (firsts_of c.args.firsts.now) (map (λ name. name.now) c.args.names.now) c.args.ino c.from_residual-in_err-make_again.result _ c.from_residual-in_err-make_again.ensures.1 refl
+
+pub returns-in_err-make_anew-clause-firsts : goal.returns-in_err-make_anew-clause-firsts
+returns-in_err-make_anew-clause-firsts g c =
+    firsts_fail {T = Bool} c.args.mounted.now.state (firsts_of c.args.firsts.now) (firsts_of c.args.firsts.now) (map (λ name. name.now) c.args.names.now) c.args.ino c.from_residual-in_err-make_anew.result _ c.from_residual-in_err-make_anew.ensures.1 refl
+
+pub returns-in_err-note_first-clause-firsts : goal.returns-in_err-note_first-clause-firsts
+returns-in_err-note_first-clause-firsts g c =
+    firsts_fail {T = Bool} c.args.mounted.now.state (firsts_of c.args.firsts.now) (firsts_of c.note_first.new.firsts) (map (λ name. name.now) c.args.names.now) c.args.ino c.from_residual-in_err-note_first.result _ c.from_residual-in_err-note_first.ensures.1 c.in_err-note_first.ensures.notes

@@ -3,6 +3,7 @@ use Rattle.jcuts.specs.declared.cuts.CutsFault.TheVariants as cuts
 use Rattle.jmount.specs.Mount.{Mount}
 use Rattle.jlog.specs.declared.start.Flash.{Flash}
 use Rattle.jffs2_image.specs.CutRuns.{answer_of_cuts, cause_of_cuts}
+use Rattle.jffs2_image.specs.Writes.{known_blocks}
 use Rattle.jreport.specs.declared.cause.Cause.{Cause}
 use Rattle.jreport.specs.declared.faults.ProgramFault.TheVariants as program
 use Rattle.jffs2_image.proofs.cuts.tell_ops.Goals as goal
@@ -21,10 +22,13 @@ returns-in-Err-Session-clause-tells g c =
     let flash : Flash = c.args.start.now.flash in
     let m : Mount = c.args.start.now.mounted.now in
     let fault = c.in-Err-Session.fault in
-    let is : c.put_cuts.result ≡ Err (cuts.Session fault c.in-Err-Session.line) = cc in
-    let told : answer_of_cuts flash m.image c.put_cuts.result ≡ Err (program.Session fault c.in-Err-Session.line (cause_of_cuts flash m.image fault)) = ap (answer_of_cuts flash m.image) is in
-    let cause : c.cause_on.result ≡ cause_of_cuts flash m.image fault =
-    c.cause_on.ensures ∙ (ap (λ (f : Flash). cause_of_cuts f c.mounted.result.now.image fault) c.flash.ensures ∙ ap (λ (k : Mount). cause_of_cuts flash k.image fault) c.mounted.ensures.same) in
+    let blocks = c.in-Err-Session.blocks in
+    let known = known_blocks blocks in
+    let is : c.put_cuts.result ≡ Err (cuts.Session fault c.in-Err-Session.line blocks) = cc in
+    let told : answer_of_cuts flash m.image c.put_cuts.result ≡ Err (program.Session fault c.in-Err-Session.line (cause_of_cuts flash m.image fault known)) = ap (answer_of_cuts flash m.image) is in
+    let cause : c.cause_on.result ≡ cause_of_cuts flash m.image fault known =
+    c.cause_on.ensures ∙ (ap (λ (f : Flash). cause_of_cuts f c.mounted.result.now.image fault c.known_blocks.result) c.flash.ensures
+    ∙ (ap (λ (k : Mount). cause_of_cuts flash k.image fault c.known_blocks.result) c.mounted.ensures.same ∙ ap (cause_of_cuts flash m.image fault) c.known_blocks.ensures.known)) in
     (c.put_cuts.result, c.put_cuts.ensures, ap (λ (z : Cause). Err (program.Session fault c.in-Err-Session.line z)) cause ∙ sym told)
 
 pub returns-in-Err-Session-clause-unread : goal.returns-in-Err-Session-clause-unread

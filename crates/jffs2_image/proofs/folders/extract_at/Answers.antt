@@ -1,4 +1,4 @@
-use Rattle.std.proofs.Common.{inl, subst, None}
+use Rattle.std.proofs.Common.{inl, refl, subst, None}
 use Rattle.jmount.specs.Tree.{State}
 use Rattle.jextract.specs.Parts.{IsPartAt}
 use Rattle.jextract.specs.PartsOf.{IsPartFault, part_of}
@@ -17,7 +17,7 @@ returns-in-Err-OutOfMemory g c =
       some.1,
       none_extracted some.0 (extracting_of c.args.asked.options.endian c.args.asked None) (g.X.Folder.made c.args.folder.now) (g.X.Folder.failures c.args.folder.now) (g.N.Sink.taken c.args.notes.now)
           (g.N.Sink.failures c.args.notes.now),
-      tt,
+      refl,
     )
 
 pub returns : goal.returns

@@ -1,6 +1,6 @@
 use Rattle.std.proofs.Common.{◌∙◌, ap, sym, refl, Some, None}
 use Rattle.jffs2_image.proofs.LookingLemmas.{word_refused}
-use Rattle.jffs2_image.proofs.TakenLemmas.{list_put, list_unread, of_image_reads, taken_tree}
+use Rattle.jffs2_image.proofs.TakenLemmas.{list_put, list_unread, of_image_reads, ok_any, taken_tree}
 use Rattle.jffs2_image.proofs.looking.list.Goals as goal
 
 pub returns-in-Err-clause-meets : goal.returns-in-Err-clause-meets
@@ -20,3 +20,8 @@ returns-clause-meets g c =
 pub returns-clause-host : goal.returns-clause-host
 returns-clause-host g c =
     rw c.in-Ok-load_file.ensures.read (of_image_reads _ _ c.put_tree.result (taken_tree c.args.decompress g.E.Order.order _ _ _ _ c.put_tree.result c.put_tree.ensures))
+
+pub returns-clause-others : goal.returns-clause-others
+returns-clause-others g c =
+    let read = c.in-Ok-load_file.ensures in
+    ok_any _ c.put_tree.result (c.in-Ok-load_file.bytes.items, (read.bytes, read.within), rw c.as_slice.ensures.value at c.others_if_none.ensures)

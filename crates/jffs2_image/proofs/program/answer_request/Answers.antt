@@ -4,7 +4,7 @@ use Rattle.jffs2_image.proofs.CommandLemmas.{for_answer, for_fault}
 use Rattle.jffs2_image.proofs.program.answer_request.Goals as goal
 
 pub returns-in-Ok-clause-meets : goal.returns-in-Ok-clause-meets
-returns-in-Ok-clause-meets g c = (c.in-Ok.findings, c.as_success.ensures, c.in-Ok.ensures.meets)
+returns-in-Ok-clause-meets g c = (c.in-Ok.findings, c.run_whole.new.noted.others, c.as_success.ensures, c.in-Ok.ensures.others, c.in-Ok.ensures.meets)
 
 pub returns-in-Ok-clause-host : goal.returns-in-Ok-clause-host
 returns-in-Ok-clause-host g c =

@@ -2,7 +2,7 @@ use Rattle.std.proofs.Common.{◌≡◌, ◌∙◌, ℕ, inl, refl}
 use Rattle.jffs2_image.specs.Host.{AreLoaded, IsReadFault}
 use Rattle.jffs2_image.specs.Writes.{IsUnreadFile}
 use Rattle.jffs2_image.proofs.HostLemmas.{file_blame}
-use Rattle.jffs2_image.proofs.TakenLemmas.{append_done, append_refused, append_unlisted, append_unread, blames_noting, ok_noting, refused_blames, taken_base}
+use Rattle.jffs2_image.proofs.TakenLemmas.{append_done, append_refused, append_unlisted, append_unread, blames_noting, ok_any, ok_noting, refused_blames, taken_base}
 use Rattle.jffs2_image.proofs.WritingLemmas.{listed}
 use Rattle.jffs2_image.proofs.WeakLemmas.{append_notes, on_ok}
 use Rattle.jffs2_image.proofs.program.append.Goals as goal
@@ -53,10 +53,10 @@ returns-clause-meets g c =
     let read = c.in-Ok.ensures in
     let later = c.in-Ok-load_file.ensures in
     let w = c.write_image-answer in
-    let text : AreLoaded (g.L.Loader.told a.loader.now a.listing.now) c.as_slice-2.result.now = rw c.as_slice-2.ensures.value (rw (read.stays a.listing.now) at later.bytes, later.within) in
+    let text : AreLoaded (g.L.Loader.told a.loader.now a.listing.now) c.as_slice-3.result.now = rw c.as_slice-3.ensures.value (rw (read.stays a.listing.now) at later.bytes, later.within) in
     rw c.noting.ensures (append_done (g.L.Loader.told a.loader.now) _ a.target.page g.E.Order.order a.target.options a.target.blocks a.decompress a.image.now a.listing.now a.target.output.now
-    c.in-Ok.bytes.items c.as_slice.result.now c.in-Ok-subject_of.subject _ _ _ _ w.result (read.bytes, read.within) c.in-Ok-subject_of.ensures.taken c.as_slice.ensures.value
-    (listed (g.L.Loader.told a.loader.now) (g.L.Loader.told c.load_file-2.new.loader) _ a.target.page g.E.Order.order a.target.options.geometry.block a.target.blocks a.listing.now a.target.output.now c.as_slice.result.now c.as_slice-2.result.now _ _ _ _
+    c.in-Ok.bytes.items c.as_slice-2.result.now c.in-Ok-subject_of.subject _ _ _ _ w.result (read.bytes, read.within) c.in-Ok-subject_of.ensures.taken c.as_slice-2.ensures.value
+    (listed (g.L.Loader.told a.loader.now) (g.L.Loader.told c.load_file-2.new.loader) _ a.target.page g.E.Order.order a.target.options.geometry.block a.target.blocks a.listing.now a.target.output.now c.as_slice-2.result.now c.as_slice-3.result.now _ _ _ _
     w.result (λ name. later.stays name ∙ read.stays name) text w.ensures.writes w.ensures.files) w.ensures.noted)
 
 pub returns-clause-host : goal.returns-clause-host
@@ -71,8 +71,13 @@ returns-clause-weak g c =
     let read = c.in-Ok.ensures in
     let later = c.in-Ok-load_file.ensures in
     let w = c.write_image-answer in
-    let text : AreLoaded (g.L.Loader.told a.loader.now a.listing.now) c.as_slice-2.result.now = rw c.as_slice-2.ensures.value (rw (read.stays a.listing.now) at later.bytes, later.within) in
+    let text : AreLoaded (g.L.Loader.told a.loader.now a.listing.now) c.as_slice-3.result.now = rw c.as_slice-3.ensures.value (rw (read.stays a.listing.now) at later.bytes, later.within) in
     rw c.noting.ensures (ok_noting _ c.in-Ok-subject_of.subject.noted w.result (on_ok _ _ w.result
     (λ are asked. append_notes (g.L.Loader.told a.loader.now) (g.L.Loader.told c.load_file-2.new.loader) e a.target.options a.target.blocks a.target.page a.decompress a.image.now a.listing.now a.target.output.now
-    c.in-Ok.bytes.items c.as_slice.result.now c.as_slice-2.result.now _ (λ name. later.stays name ∙ read.stays name) (read.bytes, read.within)
-    (taken_base a.decompress e a.target.options.geometry.block c.in-Ok.bytes.items c.as_slice.result.now c.in-Ok-subject_of.subject c.in-Ok-subject_of.ensures.taken c.as_slice.ensures.value) text (are asked)) w.ensures.weak))
+    c.in-Ok.bytes.items c.as_slice-2.result.now c.as_slice-3.result.now _ (λ name. later.stays name ∙ read.stays name) (read.bytes, read.within)
+    (taken_base a.decompress e a.target.options.geometry.block c.in-Ok.bytes.items c.as_slice-2.result.now c.in-Ok-subject_of.subject c.in-Ok-subject_of.ensures.taken c.as_slice-2.ensures.value) text (are asked)) w.ensures.weak))
+
+pub returns-clause-others : goal.returns-clause-others
+returns-clause-others g c =
+    let read = c.in-Ok.ensures in
+    ok_any _ c.noting.result (c.in-Ok.bytes.items, (read.bytes, read.within), rw c.as_slice.ensures.value at c.others_if_none-noted.ensures)

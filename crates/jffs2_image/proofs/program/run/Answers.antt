@@ -5,6 +5,7 @@ use Rattle.jcommand.specs.Refused.{IsHelp, IsUsage}
 use Rattle.jcommand.specs.declared.command_line.RequestFault.{RequestFault}
 use Rattle.jcommand.specs.declared.command_line.RequestFault.TheVariants as refused
 use Rattle.jffs2_image.specs.Runs.{IsCommand}
+use Rattle.jffs2_image.proofs.CommandLemmas.{blames_none}
 use Rattle.jffs2_image.proofs.PlacingLemmas.{as_it_is, plain_intent, stays}
 use Rattle.jffs2_image.proofs.program.run.Goals as goal
 
@@ -39,7 +40,7 @@ returns-in-Err-clause-plain g c = λ plain. inl (record {
   asked = refusal _ c.in-Err.fault c.in-Err.ensures.help c.in-Err.ensures.usage;
   ran = c.run_refused.ensures _ _;
   folders = refl;
-  host = (refl, refl);
+  host = blames_none c.in-Err.fault _ _ _ _ _ refl refl;
 })
 
 pub returns-in-Err-clause-placed : goal.returns-in-Err-clause-placed
@@ -50,7 +51,7 @@ returns-in-Err-clause-placed g c = inr (
     asked = refusal _ c.in-Err.fault c.in-Err.ensures.help c.in-Err.ensures.usage;
     ran = c.run_refused.ensures _ _;
     folders = refl;
-    host = (refl, refl);
+    host = blames_none c.in-Err.fault _ _ _ _ _ refl refl;
   }),
 )
 

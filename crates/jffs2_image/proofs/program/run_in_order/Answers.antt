@@ -1,8 +1,10 @@
-use Rattle.std.proofs.Common.{rules, ◌≡◌, None, IsTrue, OnOk, subst, sym}
+use Rattle.std.proofs.Common.{rules, ◌≡◌, None, IsTrue, OnOk, refl, subst, sym}
 use Rattle.std.specs.Prelude.{option_map}
-use Rattle.jcommand.specs.Parsed.{Parsed, ScanParsed, CheckParsed, ListParsed, CatParsed, AppendParsed, view}
+use Rattle.jcommand.specs.Parsed.{Parsed, ScanParsed, CheckParsed, ListParsed, CatParsed, BuildParsed, AppendParsed, DecompressParsed, view}
+use Rattle.jffs2_image.specs.Looking.{NotesOthers}
 use Rattle.jffs2_image.specs.Runs.{Meets}
 use Rattle.jffs2_image.specs.WeakRuns.{HasNotes}
+use Rattle.jffs2_image.proofs.TakenLemmas.{ok_any}
 use Rattle.jffs2_image.proofs.WritingLemmas.{met_by_any}
 use Rattle.flashbase.specs.Sinks.{change_of}
 use Rattle.jffs2_image.proofs.program.run_in_order.Goals as goal
@@ -35,4 +37,41 @@ pub returns-in-Append-clause-weak : goal.returns-in-Append-clause-weak
 returns-in-Append-clause-weak g c =
     let t = c.in-Append.target in
     let is : view c.args.request ≡ AppendParsed t.options t.blocks t.page c.in-Append.decompress c.in-Append.image.now c.in-Append.listing.now t.output.now = search rules in
-    subst (λ (p : Parsed). OnOk c.append.result (IsTrue c.args.notes.now.asked → HasNotes (g.L.Loader.told c.args.loader.now) g.E.Order.order p c.append.new.notes)) (sym is) c.append.ensures.weak
+    subst (λ (p : Parsed). OnOk c.append.result (IsTrue c.args.noted.now.weak.asked → HasNotes (g.L.Loader.told c.args.loader.now) g.E.Order.order p c.append.new.noted.weak)) (sym is) c.append.ensures.weak
+
+pub returns-in-Scan-clause-others : goal.returns-in-Scan-clause-others
+returns-in-Scan-clause-others g c =
+    let is : view c.args.request ≡ ScanParsed c.in-Scan.options c.in-Scan.image.now = search rules in
+    subst (λ (p : Parsed). OnOk c.scan.result (NotesOthers (g.L.Loader.told c.args.loader.now) g.E.Order.order p None)) (sym is) (ok_any _ c.scan.result refl)
+
+pub returns-in-Check-clause-others : goal.returns-in-Check-clause-others
+returns-in-Check-clause-others g c =
+    let is : view c.args.request ≡ CheckParsed c.in-Check.options c.in-Check.shape c.in-Check.image.now = search rules in
+    subst (λ (p : Parsed). OnOk c.check.result (NotesOthers (g.L.Loader.told c.args.loader.now) g.E.Order.order p None)) (sym is) (ok_any _ c.check.result refl)
+
+pub returns-in-List-clause-others : goal.returns-in-List-clause-others
+returns-in-List-clause-others g c =
+    let is : view c.args.request ≡ ListParsed c.in-List.options c.in-List.decompress c.in-List.image.now (option_map (λ p. p.now) c.in-List.path) = search rules in
+    subst (λ (p : Parsed). OnOk c.list.result (NotesOthers (g.L.Loader.told c.args.loader.now) g.E.Order.order p c.list.new.others)) (sym is) c.list.ensures.others
+
+pub returns-in-Cat-clause-others : goal.returns-in-Cat-clause-others
+returns-in-Cat-clause-others g c =
+    let is : view c.args.request ≡ CatParsed c.in-Cat.options c.in-Cat.decompress c.in-Cat.image.now c.in-Cat.path.now = search rules in
+    subst (λ (p : Parsed). OnOk c.cat.result (NotesOthers (g.L.Loader.told c.args.loader.now) g.E.Order.order p c.cat.new.others)) (sym is) c.cat.ensures.others
+
+pub returns-in-Build-clause-others : goal.returns-in-Build-clause-others
+returns-in-Build-clause-others g c =
+    let t = c.in-Build.target in
+    let is : view c.args.request ≡ BuildParsed t.options t.blocks t.page c.in-Build.listing.now t.output.now = search rules in
+    subst (λ (p : Parsed). OnOk c.build.result (NotesOthers (g.L.Loader.told c.args.loader.now) g.E.Order.order p None)) (sym is) (ok_any _ c.build.result refl)
+
+pub returns-in-Append-clause-others : goal.returns-in-Append-clause-others
+returns-in-Append-clause-others g c =
+    let t = c.in-Append.target in
+    let is : view c.args.request ≡ AppendParsed t.options t.blocks t.page c.in-Append.decompress c.in-Append.image.now c.in-Append.listing.now t.output.now = search rules in
+    subst (λ (p : Parsed). OnOk c.append.result (NotesOthers (g.L.Loader.told c.args.loader.now) g.E.Order.order p c.append.new.noted.others)) (sym is) c.append.ensures.others
+
+pub returns-in-Decompress-clause-others : goal.returns-in-Decompress-clause-others
+returns-in-Decompress-clause-others g c =
+    let is : view c.args.request ≡ DecompressParsed c.in-Decompress.options c.in-Decompress.force c.in-Decompress.image.now c.in-Decompress.output.now = search rules in
+    subst (λ (p : Parsed). OnOk c.decompress.result (NotesOthers (g.L.Loader.told c.args.loader.now) g.E.Order.order p None)) (sym is) (ok_any _ c.decompress.result refl)

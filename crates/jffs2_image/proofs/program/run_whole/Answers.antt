@@ -33,3 +33,6 @@ returns-clause-host g c =
 
 pub returns-clause-weak : goal.returns-clause-weak
 returns-clause-weak g c = rw c.finished.ensures.2 (rw c.requires (ok_finished _ _ c.run_in_order-answer.result c.finished.ensures.0 c.run_in_order-answer.ensures.weak))
+
+pub returns-clause-others : goal.returns-clause-others
+returns-clause-others g c = rw c.finished.ensures.2 (rw c.requires (ok_finished _ _ c.run_in_order-answer.result c.finished.ensures.0 c.run_in_order-answer.ensures.others))

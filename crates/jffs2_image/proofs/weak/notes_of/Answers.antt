@@ -17,8 +17,8 @@ returns g c =
     let m = c.args.start.now.mounted.now in
     let asked : Asked = record { telling = WeakNotes; ops = c.args.ops.now; lines = c.args.lines.now } in
     let sink : SinkChange = record { old = Some c.new-held.result.bytes.items; new = Some c.put_cuts.new.sink.bytes.items; before = c.new-held.result.failures; now = c.put_cuts.new.sink.failures } in
-    let is : c.put_cuts.result ≡ Err (told.Session c.in-Err-Session.fault c.in-Err-Session.line) = cc in
-    let puts : PutsCuts g.E.Order.order flash m.image asked sink (Err (told.Session c.in-Err-Session.fault c.in-Err-Session.line)) =
+    let is : c.put_cuts.result ≡ Err (told.Session c.in-Err-Session.fault c.in-Err-Session.line c.in-Err-Session.blocks) = cc in
+    let puts : PutsCuts g.E.Order.order flash m.image asked sink (Err (told.Session c.in-Err-Session.fault c.in-Err-Session.line c.in-Err-Session.blocks)) =
     subst (λ (r : Result ℕ CutsFault). PutsCuts g.E.Order.order flash m.image asked sink r) is c.put_cuts.ensures in
     λ taken. absurd (c.is_of_memory.ensures c.if-is_of_memory.false
-    (only_memory g.E.Order.order flash m asked sink c.in-Err-Session.fault c.in-Err-Session.line taken puts))
+    (only_memory g.E.Order.order flash m asked sink c.in-Err-Session.fault c.in-Err-Session.line c.in-Err-Session.blocks taken puts))

@@ -5,13 +5,15 @@ use Rattle.jffs2_image.proofs.weak.run_weak.Goals as goal
 pub returns-in-Ok : goal.returns-in-Ok
 returns-in-Ok g c = record {
   answer = Ok c.in-Ok.findings;
-  notes = c.run_whole.new.notes;
-  between = g.N.Sink.taken c.note.new.errors;
-  count = g.N.Sink.failures c.note.new.errors;
+  notes = c.run_whole.new.noted.weak;
+  others = c.run_whole.new.noted.others;
+  between = g.N.Sink.taken c.note_shown.new.errors;
+  count = g.N.Sink.failures c.note_shown.new.errors;
   meets = c.in-Ok.ensures.meets;
   host = c.in-Ok.ensures.host;
-  noted = c.in-Ok.ensures.weak c.new-notes.ensures;
-  said = note_said _ (λ e. g.N.Sink.taken e) (λ e. g.N.Sink.failures e) _ _ _ c.note.ensures.noted;
+  noted = c.in-Ok.ensures.weak c.new-noted.ensures;
+  of_none = c.in-Ok.ensures.others;
+  said = note_said _ (λ e. g.N.Sink.taken e) (λ e. g.N.Sink.failures e) _ _ _ c.note_shown.ensures.noted;
   told = note_said _ (λ e. g.N.Sink.taken e) (λ e. g.N.Sink.failures e) _ _ _ c.put_notes.ensures.said;
   ends = c.put_notes.ensures.found;
 }
@@ -19,12 +21,14 @@ returns-in-Ok g c = record {
 pub returns : goal.returns
 returns g c = record {
   answer = Err c.in-Err.fault;
-  notes = c.run_whole.new.notes;
+  notes = c.run_whole.new.noted.weak;
+  others = c.run_whole.new.noted.others;
   between = g.N.Sink.taken c.report_fault.new.errors;
   count = g.N.Sink.failures c.report_fault.new.errors;
   meets = c.in-Err.ensures.meets;
   host = c.in-Err.ensures.host;
   noted = tt;
+  of_none = tt;
   said = c.report_fault.ensures.reported;
   told = (refl, refl);
   ends = c.report_fault.ensures.fault;

@@ -1,0 +1,5 @@
+pub mod BlamingLemmas
+pub mod CostLemmas
+pub mod JudgingLemmas
+pub mod LookingLemmas
+pub mod Steps

@@ -1,0 +1,133 @@
+-- What is true of the acts of all commands.
+use Rattle.std.specs.Prelude.{◌≡◌, ◌⊎◌, ℕ, List, [], ◌∷◌, Result, Err, string_bytes}
+use Rattle.jcommand.specs.declared.parsed.Options.{Options}
+use Rattle.flashbase.specs.declared.source.LoadFault.TheVariants as load
+use Rattle.jreport.specs.declared.faults.ProgramFault.{ProgramFault}
+use Rattle.jreport.specs.declared.faults.ProgramFault.TheVariants as program
+use Rattle.jreport.specs.declared.reason.Reason.{Reason}
+use Rattle.jedge.specs.Acts.{Act}
+use Rattle.jedge.specs.Calls.{Call, Event, Did, Failed, Answers, Errors, Open, Read, ReadPart, Print, Create, Write, Sync, SyncFolder, Rename, Remove, Close}
+use Rattle.jedge.specs.Commands.{damage_act, info_act, reported}
+use Rattle.jedge.specs.declared.fault.Fault.{Fault}
+use Rattle.jedge.specs.declared.fault.Fault.TheVariants as fault
+
+-- ---- nothing is made
+
+-- a call that makes nothing, and changes no file
+abbrev pub IsLooking : Call → Type 0
+IsLooking (Open name) = Unit {0}
+IsLooking (Read name bytes) = Unit {0}
+IsLooking (ReadPart name bytes) = Unit {0}
+IsLooking (Print stream text) = Unit {0}
+IsLooking (Create name how) = ⊥
+IsLooking (Write name bytes) = ⊥
+IsLooking (Sync name) = ⊥
+IsLooking (SyncFolder name) = ⊥
+IsLooking (Rename name other) = ⊥
+IsLooking (Remove name) = ⊥
+IsLooking (Close name) = ⊥
+
+abbrev pub Looks : Event → Type 0
+Looks (Did call) = IsLooking call
+Looks (Failed call reason) = IsLooking call
+
+abbrev pub LooksOnly : List Event → Type 0
+LooksOnly [] = Unit {0}
+LooksOnly (event ∷ events) = Looks event × LooksOnly events
+
+-- an act makes nothing, and changes no file, whatever it answers
+abbrev pub MakesNothing : {A : Type 0} → Act A → Type 0
+MakesNothing {A} act =
+    (events : List Event) (result : Result A Fault) → act events result → LooksOnly events
+
+-- `info` and `damage` make nothing
+abbrev pub ReadsOnly : Type 0
+ReadsOnly = ((name : List ℕ) → MakesNothing (reported (info_act name)))
+    × ((options : Options) (name : List ℕ) → MakesNothing (reported (damage_act options name)))
+
+-- ---- a fault is an event
+
+abbrev pub Happened : Event → List Event → Type 0
+Happened event [] = ⊥
+Happened event (first ∷ events) = (first ≡ event) ⊎ Happened event events
+
+-- What was read is too long, or does not mount, or there is no memory for it. That names no file,
+-- and blames no call.
+abbrev pub IsOfBytes : ProgramFault → Type 0
+IsOfBytes (program.Load load.Device) = ⊥
+IsOfBytes (program.Load load.TooLarge) = Unit {0}
+IsOfBytes (program.Load load.OutOfMemory) = Unit {0}
+IsOfBytes (program.Scan why) = ⊥
+IsOfBytes (program.Mount why) = Unit {0}
+IsOfBytes (program.Clash addr other) = Unit {0}
+IsOfBytes (program.File file) = ⊥
+IsOfBytes (program.NotRead file) = ⊥
+IsOfBytes (program.Listing line) = ⊥
+IsOfBytes (program.Session why line cause) = ⊥
+IsOfBytes (program.Path why) = ⊥
+IsOfBytes program.NotRegular = ⊥
+IsOfBytes program.Output = ⊥
+IsOfBytes program.OutOfMemory = ⊥
+IsOfBytes (program.NoSpace name) = ⊥
+IsOfBytes (program.Data addr) = ⊥
+IsOfBytes (program.TooLong addr) = ⊥
+IsOfBytes (program.Image why) = ⊥
+
+-- A fault that names a file comes with a call on that file that failed, for the same reason; that
+-- of the output with a print that failed.
+abbrev pub BlamesEvent : Fault → List Event → Type 0
+BlamesEvent (fault.File file) events =
+    Happened (Failed (Open (string_bytes file.name)) file.reason) events
+BlamesEvent (fault.NotRead file) events = (bytes : List ℕ)
+    × Happened (Failed (ReadPart (string_bytes file.name) bytes) file.reason) events
+BlamesEvent (fault.NoNodes name others) events = Unit {0}
+BlamesEvent (fault.Refused why) events = IsOfBytes why
+BlamesEvent fault.Output events =
+    (rest : List ℕ) × (reason : Reason) × Happened (Failed (Print Answers rest) reason) events
+BlamesEvent fault.OutOfMemory events = Unit {0}
+
+abbrev pub BlamesFailed : {A : Type 0} → Act A → Type 0
+BlamesFailed act = (events : List Event) (f : Fault) → act events (Err f) → BlamesEvent f events
+
+abbrev pub BlamedIsFailed : Type 0
+BlamedIsFailed = ((name : List ℕ) → BlamesFailed (info_act name))
+    × ((options : Options) (name : List ℕ) → BlamesFailed (damage_act options name))
+
+-- ---- all that is refused is refused before anything is printed
+
+-- standard output gets nothing by this call
+abbrev pub IsUnprinted : Call → Type 0
+IsUnprinted (Open name) = Unit {0}
+IsUnprinted (Read name bytes) = Unit {0}
+IsUnprinted (ReadPart name bytes) = Unit {0}
+IsUnprinted (Print Answers text) = ⊥
+IsUnprinted (Print Errors text) = Unit {0}
+IsUnprinted (Create name how) = Unit {0}
+IsUnprinted (Write name bytes) = Unit {0}
+IsUnprinted (Sync name) = Unit {0}
+IsUnprinted (SyncFolder name) = Unit {0}
+IsUnprinted (Rename name other) = Unit {0}
+IsUnprinted (Remove name) = Unit {0}
+IsUnprinted (Close name) = Unit {0}
+
+-- nor by any of these; a print that failed gave it nothing
+abbrev pub NonePrinted : List Event → Type 0
+NonePrinted [] = Unit {0}
+NonePrinted (Did call ∷ events) = IsUnprinted call × NonePrinted events
+NonePrinted (Failed call reason ∷ events) = NonePrinted events
+
+-- Where it ends by this fault, nothing was printed; but that of the output may come at any time.
+abbrev pub ComesFirst : Fault → List Event → Type 0
+ComesFirst (fault.File file) events = NonePrinted events
+ComesFirst (fault.NotRead file) events = NonePrinted events
+ComesFirst (fault.NoNodes name others) events = NonePrinted events
+ComesFirst (fault.Refused why) events = NonePrinted events
+ComesFirst fault.Output events = Unit {0}
+ComesFirst fault.OutOfMemory events = NonePrinted events
+
+abbrev pub JudgesFirst : {A : Type 0} → Act A → Type 0
+JudgesFirst act = (events : List Event) (f : Fault) → act events (Err f) → ComesFirst f events
+
+abbrev pub JudgedFirst : Type 0
+JudgedFirst = ((name : List ℕ) → JudgesFirst (info_act name))
+    × ((options : Options) (name : List ℕ) → JudgesFirst (damage_act options name))

@@ -1,0 +1,102 @@
+//! `damage`: what the damage of an image costs.
+ghost use Rattle.std.specs.Prelude.{◌≡◌, option_map};
+ghost use Rattle.jscan.specs.Scans.{IsScannable};
+ghost use Rattle.jedge.specs.Acts.{DoesFrom, prints, seen_as};
+ghost use Rattle.jedge.specs.Commands.{Costs, costs_found, damage_act, either, examined, findings_noted, found_told, note_text};
+
+use crate::fault::Fault;
+use crate::found::{Found, Note, finished};
+use crate::host::Host;
+use crate::mounting::{judge_nodes, mounted};
+use crate::reading::load;
+use jcommand::Examination;
+use jdamage::{DamageFault, Totals, put_damage};
+use jmount::Mounted;
+use jnode::Order;
+use jreport::noted;
+use jscan::Geometry;
+use std::alloc::Global;
+
+/// Of two numbers of things found one that is not zero, if there is one.
+pub(crate) fn either(first: u64, second: u64) -> u64
+    ensures { result ≡ either first second }
+{
+    match first {
+        0 => second,
+        _ => first,
+    }
+}
+
+/// The note on so many findings.
+pub(crate) fn findings_noted(findings: u64) -> Option<Note>
+    ensures { option_map note_text result ≡ findings_noted findings }
+{
+    match findings {
+        0 => None,
+        _ => Some(Note::Findings(findings)),
+    }
+}
+
+/// What an examination comes to.
+fn examined(totals: Totals, mounted: &Mounted<'_>) -> Found
+    ensures { found_told result ≡ examined totals mounted.now }
+{
+    let told = (totals.damaged as u64).saturating_add(totals.missing as u64);
+    let findings = noted(mounted);
+    Found {
+        counted: either(told, findings),
+        note: findings_noted(findings),
+    }
+}
+
+/// What the damage of a mount comes to, by what was put of it.
+fn costs_found(mounted: &Mounted<'_>, put: Result<Totals, DamageFault>) -> Result<Found, Fault>
+    ensures { seen_as found_told result ≡ costs_found mounted.now put }
+{
+    match put {
+        Ok(totals) => Ok(examined(totals, mounted)),
+        Err(DamageFault::Output) => Err(Fault::Output),
+        Err(DamageFault::OutOfMemory) => Err(Fault::OutOfMemory),
+    }
+}
+
+/// Prints what the damage of a mount costs.
+fn print_costs<E: Order, H: Host>(
+    host: &mut H,
+    mounted: &Mounted<'_>,
+    geometry: Geometry,
+) -> Result<Found, Fault>
+    requires { IsScannable geometry.block mounted.now.image }
+    ensures { DoesFrom (H.history host.old) (H.history host.new)
+        (prints (Costs E.order geometry.block mounted.now)) (seen_as found_told result) }
+{
+    let mut out = match host.output() {
+        Ok(out) => out,
+        Err(fault) => return Err(fault),
+    };
+    let put = put_damage::<E, _>(host.alloc(), mounted, geometry, &mut out);
+    let closed = host.close(out);
+    finished(costs_found(mounted, put), closed)
+}
+
+/// `damage`.
+pub fn damage<E: Order, H: Host>(host: &mut H, asked: Examination<'_>) -> Result<Found, Fault>
+    requires { asked.options.endian ≡ E.order }
+    ensures { DoesFrom (H.history host.old) (H.history host.new)
+        (damage_act asked.entry.options asked.entry.image.now) (seen_as found_told result) }
+{
+    let geometry = asked.options.geometry;
+    let image = match load(host, asked.image) {
+        Ok(image) => image,
+        Err(fault) => return Err(fault),
+    };
+    let bytes = image.as_slice();
+    match judge_nodes::<E>(host.alloc(), bytes, geometry, None) {
+        Ok(()) => {}
+        Err(fault) => return Err(fault),
+    }
+    match mounted::<E>(host.alloc(), bytes, geometry) {
+        Ok(mounted) => print_costs::<E, H>(host, &mounted, geometry),
+        Err(fault) => Err(fault),
+    }
+}

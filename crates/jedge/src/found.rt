@@ -1,0 +1,35 @@
+//! What a command found.
+ghost use Rattle.std.specs.Prelude.{◌≡◌};
+ghost use Rattle.jedge.specs.Acts.{and_closed};
+
+use crate::fault::Fault;
+use jinfo::Container;
+
+/// What is noted of it on standard error.
+#[derive(Clone, Copy)]
+pub enum Note {
+    /// The file begins as this.
+    Container(Container),
+    /// The image has so many findings.
+    Findings(u64),
+}
+
+/// How much a command found of what it looks for, and what is noted.
+#[derive(Clone, Copy)]
+pub struct Found {
+    pub counted: u64,
+    pub note: Option<Note>,
+}
+
+/// The answer of a call whose output was closed.
+pub fn finished<A: Drop>(answer: Result<A, Fault>, closed: Result<(), Fault>) -> Result<A, Fault>
+    ensures { result ≡ and_closed answer closed }
+{
+    match answer {
+        Ok(found) => match closed {
+            Ok(()) => Ok(found),
+            Err(fault) => Err(fault),
+        },
+        Err(fault) => Err(fault),
+    }
+}

@@ -1,0 +1,60 @@
+//! `info`: what an image tells of itself, of which nobody says the byte order or the block size.
+ghost use Rattle.std.specs.Prelude.{◌≡◌, ◌≤◌, length};
+ghost use Rattle.flashbase.specs.Sinks.{change_of};
+ghost use Rattle.jscan.specs.Image.{greatest_image};
+ghost use Rattle.jinfo.specs.InfoText.{info_text};
+ghost use Rattle.jinfo.specs.Infos.{order_of};
+ghost use Rattle.jedge.specs.Acts.{DoesFrom, PutsBy, Whole, seen_as};
+ghost use Rattle.jedge.specs.Commands.{info_act, informed, found_told};
+
+use crate::fault::Fault;
+use crate::found::{Found, Note, finished};
+use crate::host::Host;
+use crate::reading::load;
+use flashbase::Sink;
+use jinfo::{InfoFault, container_of, put_info};
+use jnode::Endian;
+
+/// What an image was found to be.
+fn informed(image: &[u8], order: Option<Endian>) -> Found
+    requires { order ≡ order_of image.now }
+    ensures { found_told result ≡ informed image.now }
+{
+    Found {
+        counted: u64::from(order.is_none()),
+        note: match container_of(image) {
+            Some(container) => Some(Note::Container(container)),
+            None => None,
+        },
+    }
+}
+
+/// Puts all lines of an image, and answers what it was found to be.
+fn put_lines<T: Sink>(image: &[u8], sink: &mut T) -> Result<Found, Fault>
+    requires { length image.now ≤ greatest_image }
+    ensures { PutsBy (Whole (info_text image.now) (informed image.now))
+        (change_of T.Sink sink.old sink.new) (seen_as found_told result) }
+{
+    match put_info(image, sink) {
+        Ok(order) => Ok(informed(image, order)),
+        Err(InfoFault::Output | InfoFault::TooLarge) => Err(Fault::Output),
+    }
+}
+
+/// `info`.
+pub fn info<H: Host>(host: &mut H, name: &str) -> Result<Found, Fault>
+    ensures { DoesFrom (H.history host.old) (H.history host.new) (info_act name.now)
+        (seen_as found_told result) }
+{
+    let image = match load(host, name) {
+        Ok(image) => image,
+        Err(fault) => return Err(fault),
+    };
+    let mut out = match host.output() {
+        Ok(out) => out,
+        Err(fault) => return Err(fault),
+    };
+    let answer = put_lines(image.as_slice(), &mut out);
+    let closed = host.close(out);
+    finished(answer, closed)
+}

@@ -1,0 +1,19 @@
+//! Laws of the acts. Each function's contract is a law, and its body is empty.
+
+ghost use Rattle.jedge.specs.Laws.{BlamedIsFailed, JudgedFirst, ReadsOnly};
+
+/// No command here makes a file, or changes one, whatever it answers.
+pub fn reads_only()
+    ensures { ReadsOnly }
+{}
+
+/// A fault that names a file comes with that file's failed call, and that of the output with a
+/// print that failed.
+pub fn blamed_is_failed()
+    ensures { BlamedIsFailed }
+{}
+
+/// A command that ends by another fault than that of standard output has printed nothing there.
+pub fn judged_first()
+    ensures { JudgedFirst }
+{}

@@ -1,0 +1,80 @@
+//! What standard error is told of an answer, and how the program ends.
+ghost use Rattle.std.specs.Prelude.{◌≡◌, ℕ, List, Ok, Err, Some, option_map};
+ghost use Rattle.flashbase.specs.Sinks.{PutsTo};
+ghost use Rattle.jedge.specs.Acts.{DoesFrom, says, seen_as};
+ghost use Rattle.jedge.specs.Commands.{ends, note_text, found_told};
+ghost use Rattle.jedge.specs.Faults.{TellsFault};
+
+use crate::fault::Fault;
+use crate::found::{Found, Note};
+use crate::host::Host;
+use flashbase::{DeviceFault, Sink};
+use jcommand::Outcome;
+use jinfo::put_container_note;
+use jreport::{put_fault_and_note, put_note};
+
+/// Puts the lines of a fault.
+fn put_fault<T: Sink>(fault: &Fault, sink: &mut T) -> Result<(), DeviceFault>
+    ensures { (text : List ℕ) × TellsFault fault.now text
+        × PutsTo T.Sink sink.old sink.new text result }
+{
+    put_fault_and_note(&fault.told(), sink)
+}
+
+/// Says why a command ended early.
+fn say_fault<H: Host>(host: &mut H, fault: &Fault)
+    ensures { (text : List ℕ) × TellsFault fault.now text
+        × DoesFrom (H.history host.old) (H.history host.new) (says (Some text)) (Ok result) }
+{
+    let mut errors = host.errors();
+    let _ = put_fault(fault, &mut errors);
+    host.close_errors(errors);
+}
+
+/// Puts a note.
+fn put_noted<T: Sink>(note: Note, sink: &mut T) -> Result<(), DeviceFault>
+    ensures { PutsTo T.Sink sink.old sink.new (note_text note) result }
+{
+    match note {
+        Note::Container(container) => put_container_note(Some(container), sink),
+        Note::Findings(findings) => put_note(findings, sink),
+    }
+}
+
+/// Says it.
+fn say_note<H: Host>(host: &mut H, note: Note)
+    ensures { DoesFrom (H.history host.old) (H.history host.new) (says (Some (note_text note)))
+        (Ok result) }
+{
+    let mut errors = host.errors();
+    let _ = put_noted(note, &mut errors);
+    host.close_errors(errors);
+}
+
+/// Says it where there is one.
+fn say_noted<H: Host>(host: &mut H, note: Option<Note>)
+    ensures { DoesFrom (H.history host.old) (H.history host.new) (says (option_map note_text note))
+        (Ok result) }
+{
+    match note {
+        Some(note) => say_note(host, note),
+        None => {}
+    }
+}
+
+/// Tells an answer on standard error, and how the program ends with it.
+pub fn report<H: Host>(host: &mut H, answer: Result<Found, Fault>) -> Outcome
+    ensures { DoesFrom (H.history host.old) (H.history host.new) (ends (seen_as found_told answer))
+        (Ok result) }
+{
+    match answer {
+        Ok(found) => {
+            say_noted(host, found.note);
+            Outcome::of(found.counted)
+        }
+        Err(fault) => {
+            say_fault(host, &fault);
+            Outcome::Fault
+        }
+    }
+}

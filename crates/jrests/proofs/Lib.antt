@@ -1,0 +1,10 @@
+pub mod DecidedLemmas
+pub mod KeepLemmas
+pub mod MixLemmas
+pub mod OpenedLemmas
+pub mod OpeningLemmas
+pub mod RestLemmas
+pub mod RunLemmas
+pub mod ShareLemmas
+pub mod StandLemmas
+pub mod SurviveLemmas
