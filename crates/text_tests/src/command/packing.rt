@@ -188,7 +188,7 @@ const HELP: [(&str, &str); 9] = [
     ("t pack --help", "Usage: t pack [OPTIONS] <DIR> <OUT>"),
     (
         "t help pack",
-        "It writes what build makes of the listing of DIR",
+        "the image that build makes of the listing of DIR",
     ),
     (
         "t build --help",
@@ -196,7 +196,7 @@ const HELP: [(&str, &str); 9] = [
     ),
     (
         "t append --help",
-        "Leave an old OUT as it was unless all goes well",
+        "Replace an old OUT only if all goes well",
     ),
     ("t decompress --help", "--atomic"),
     ("t compress --help", "--atomic"),
@@ -204,7 +204,7 @@ const HELP: [(&str, &str); 9] = [
     ("t --help", "damage a loss"),
     (
         "t --help",
-        "or decompress\n     --clashes left something out",
+        "extract, listing, pack or decompress --clashes left",
     ),
 ];
 
