@@ -154,10 +154,15 @@ link_static() {
 
 link_dynamic() {
     cp "$program" "$work/program"
-    glibc=$(objdump -T "$program" | grep -o 'GLIBC_[0-9.]*' | sort -Vu | tail -n 1)
-    needs="Linux on x86-64-v2, with glibc ${glibc#GLIBC_} or later"
-    depends="Depends: libc6 (>= ${glibc#GLIBC_})"$'\n'
+    glibc=$(glibc_of "$program")
+    needs="Linux on x86-64-v2, with glibc $glibc or later"
+    depends="Depends: libc6 (>= $glibc)"$'\n'
     linked="by the kit"
+}
+
+# glibc_of FILE: the version of glibc that it needs
+glibc_of() {
+    objdump -T "$1" | grep -o 'GLIBC_[0-9.]*' | sort -Vu | tail -n 1 | cut -d _ -f 2
 }
 
 sum_of() {
@@ -200,7 +205,7 @@ proved() {
     [[ ! -f $program.o ]] || echo "  sha256 of the proved object $(sum_of "$program.o")"
     echo "  sha256 as the kit links it $(sum_of "$program")"
     if [[ $library == yes ]]; then
-        echo "The archive libjffs2_c.a:"
+        echo "The archive libjffs2_c.a. The library libjffs2.so of it needs glibc $(glibc_of "$work/libjffs2.so") or later."
         echo "  sha256 $(sum_of "$archive")"
         echo "  known to be of this commit: $known_archive"
     fi
@@ -326,11 +331,11 @@ make_wheel() {
 "link_$link"
 strip --strip-all --remove-section=.comment "$work/program"
 name_commit
+[[ $library == no ]] || link_library
 proved > "$made/PROVED.txt"
 make_tarball
 make_debian
 if [[ $library == yes ]]; then
-    link_library
     make_library
     make_crate
     make_wheel
