@@ -92,6 +92,7 @@ check_verdict() {
     [[ -n $found ]] || refuse "no log has a verdict on $1: give that of an earlier gate, or of rt verdict, by --verdict"
     [[ $found == "logic=proved "* && $found == *" $2"* && $found == *" sum=$logic "* ]] \
         || refuse "$1 is not proved by the logic $logic: $found"
+    [[ ! $found =~ \ (cache|incremental|pinned)= ]] || refuse "$1 has a check and no verdict: $found"
 }
 check_verdict jffs2_image axioms=
 [[ $library == no ]] || check_verdict jffs2_c functions=
