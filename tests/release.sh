@@ -254,7 +254,9 @@ if [[ $is_debian == yes ]] && has debootstrap; then
         source=$root/source
         cp "$package" "$root/tmp"
         does "$suite: dpkg -i" chroot "$root" dpkg -i "/tmp/$package"
-        echo "$suite: ldd says $(chroot "$root" ldd /usr/bin/jffs2_image 2>&1 | xargs)"
+        chroot "$root" ldd /usr/bin/jffs2_image > "$folder/said" 2>&1
+        equal "$suite: libraries that are missing" "$(grep 'not found' "$folder/said")" ""
+        [[ $link == dynamic ]] || equal "$suite: libraries" "$(grep -e '=>' -e '/ld-' "$folder/said")" ""
         programs "$root" /usr/bin/jffs2_image
         quick "$suite"
         does "$suite: dpkg --purge" chroot "$root" dpkg --purge jffs2-image
