@@ -40,7 +40,7 @@ while (($#)); do
     shift
 done
 cd "$top"
-for tool in ar cc dpkg-deb git gzip objcopy objdump python3 rt strip tar; do
+for tool in ar cc dpkg-deb git gzip nm objcopy objdump python3 rt strip tar; do
     command -v "$tool" > /dev/null || refuse "there is no $tool here"
 done
 [[ ! -e $to ]] || refuse "$to is there: remove it, or give another --to"
@@ -79,7 +79,7 @@ fi
 judged() {
     cat /dev/null ${verdict:+"$verdict"} ${gate:+"$gate"} | awk -v crate="$1" '
         /^(fn|struct|enum|impl|trait) / { of = substr($2, 1, index($2, "::") - 1) }
-        /^axioms / { held = held $0 "\n" }
+        /^axioms / || / reached$/ { held = held $0 "\n" }
         /^logic=/ { if (of == crate && !/ tests=/) last = held $0; held = of = "" }
         END { if (last) print last }'
 }
@@ -203,7 +203,12 @@ proved() {
     echo "  sha256 $(sum_of "$work/program")"
     echo "  linked $linked"
     echo "  known to be of this commit: $known"
-    [[ ! -f $program.o ]] || echo "  sha256 of the proved object $(sum_of "$program.o")"
+    if [[ -f $program.o ]]; then
+        echo "  sha256 of the proved object $(sum_of "$program.o")"
+        echo "  functions of C that the proved object calls:"
+        nm --undefined-only "$program.o" | awk '{ print $2 }' | sort | xargs | fold -s -w 90 \
+            | sed 's/ *$//; s/^/    /'
+    fi
     echo "  sha256 as the kit links it $(sum_of "$program")"
     if [[ $library == yes ]]; then
         echo "The archive libjffs2_c.a. The library libjffs2.so of it needs glibc $(glibc_of "$work/libjffs2.so") or later."
