@@ -195,7 +195,7 @@ proved() {
     echo "jffs2_image $version"
     [[ -z $trial ]] || echo "A TRIAL AND NO RELEASE: the logs of the gate and of the verdict may be missing."
     echo "commit $commit"
-    echo "of $(date -d "@$SOURCE_DATE_EPOCH" '+%Y-%m-%d %H:%M:%S') UTC"
+    echo "date $(date -d "@$SOURCE_DATE_EPOCH" '+%Y-%m-%d %H:%M:%S') UTC"
     echo "kit $kit"
     echo "licence none: all rights reserved until the owner chooses"
     echo
