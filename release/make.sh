@@ -231,7 +231,9 @@ share() {
     put 644 completions/_jffs2_image "$share/$zsh/_jffs2_image"
     put 644 completions/jffs2_image.fish "$share/$fish/jffs2_image.fish"
     put 644 README.md "$doc/README.md"
-    put 644 docs/GUIDE.md "$doc/docs/GUIDE.md"
+    for page in GUIDE FAQ POWER-CUTS; do
+        put 644 "docs/$page.md" "$doc/docs/$page.md"
+    done
     put 644 "$made/PROVED.txt" "$doc/PROVED.txt"
 }
 
