@@ -3,9 +3,8 @@
 
 Compresses pieces of 4 KiB by `bench_deflate` and by zlib at level 6 (bench/deflate.c), one after the other, so that other work on
 the machine meets both. The pieces are of text, machine code, random bytes, two and four letters at random, zeros, and 259 random
-bytes over and over. It prints the least processor time of each
-over the runs for one piece, the ratio, and the bytes that each made. Needs cc and zlib1g-dev. The program is the one that
-`rt run` built here, or in CRATES.
+bytes over and over. It prints the least processor time of each over the runs for one piece, the ratio, and the bytes that each
+made. Needs cc and zlib1g-dev. The program is the one that `rt run` built here, or in CRATES.
 """
 import os
 import random
@@ -16,7 +15,7 @@ HERE = os.path.dirname(os.path.abspath(__file__))
 from compression import FOLDER, PIECE, PIECES, RUNS, CRATES  # noqa: E402
 from measuring import documents, machine_code, taken  # noqa: E402
 
-ROUNDS = 20
+ROUNDS = 40
 
 
 def compare(name, content):

@@ -1,5 +1,6 @@
 pub mod AddressLemmas
 pub mod ArrangedLemmas
+pub mod BehindLemmas
 pub mod BlankLemmas
 pub mod BlockLemmas
 pub mod ExampleLemmas

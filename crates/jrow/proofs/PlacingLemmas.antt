@@ -70,6 +70,18 @@ begin_within len b blocks f within =
     ap (λ (n : ℕ). flat_map f (below n)) (sym sum) ∙ (ap (flat_map f) it.1 ∙ flat_map-append f (below b) it.0) in
     (take (len - length xs) (flat_map f it.0), sym (take_parts len xs (flat_map f it.0)) ∙ sym (ap (take len) whole))
 
+-- what lies within a beginning of them is as of all of them
+pub begin_rest : (size len b blocks : ℕ) (f : ℕ → List ℕ) → ((c : ℕ) → length (f c) ≡ size) → b ≤ blocks → len ≤ b * size
+    → take len (flat_map f (below b)) ≡ take len (flat_map f (below blocks))
+begin_rest size len b blocks f long within inside =
+    let it = below_begins b (blocks - b) in
+    let sum : b + (blocks - b) ≡ blocks = omega arith in
+    let xs : List ℕ = flat_map f (below b) in
+    let front : length xs ≡ b * size = made_long size f long (below b) ∙ ap (λ (n : ℕ). n * size) (length-below b) in
+    let whole : flat_map f (below blocks) ≡ xs ++ flat_map f it.0 =
+    ap (λ (n : ℕ). flat_map f (below n)) (sym sum) ∙ (ap (flat_map f) it.1 ∙ flat_map-append f (below b) it.0) in
+    sym (ap (take len) whole ∙ take-append-le len xs (flat_map f it.0) (omega (arith, inside, front)))
+
 -- ---- up to a fault
 
 pub begun_more : (a b c : Option (List ℕ)) (size len k left held : ℕ) (f : ℕ → List ℕ) → ((d : ℕ) → length (f d) ≡ size) → left ≡ len - k * size → held ≡ min left size

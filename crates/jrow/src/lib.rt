@@ -8,8 +8,9 @@
 //!
 //! - `Row`: the blank blocks of an image, where they begin on the flash that has them last, and
 //!   where each address lies. Finding them takes one `u32` of memory a block.
-//! - `put_with_row`: an image with bytes in its row, put block by block without a copy of it;
-//!   `written_len` says how long it is then.
+//! - `block_part`, `is_blank_block`: a block of an image, and whether it is blank.
+//! - `put_with_row`: an image with bytes in its row, put block by block without a copy of it, and
+//!   how much of it went out if the sink failed; `written_len` says how long it is then.
 //! - `laws`, each the contract of a function that does nothing, and `examples`, a worked row.
 //!
 //! No call here writes the log itself: the packing session of `jpacked` does.
@@ -27,4 +28,4 @@ mod placing;
 mod row;
 
 pub use crate::placing::{RowOnFlash, put_with_row, written_len};
-pub use crate::row::Row;
+pub use crate::row::{Row, block_part, is_blank_block};

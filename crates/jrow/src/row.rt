@@ -13,7 +13,7 @@ use std::alloc::{AllocError, Global};
 use std::marker::Model;
 
 /// A block of an image. What the image lacks counts as erased, and a block past its end too.
-pub(crate) fn block_part(image: &[u8], geometry: Geometry, block: u32) -> Part<'_>
+pub fn block_part(image: &[u8], geometry: Geometry, block: u32) -> Part<'_>
     requires readable { is_block_size geometry.block ≡ true }
     requires small { block * geometry.block < greatest_image }
     ensures { result ≡ block_of geometry.block image.now block }
@@ -28,7 +28,7 @@ pub(crate) fn block_part(image: &[u8], geometry: Geometry, block: u32) -> Part<'
 }
 
 /// Whether a block of an image is blank.
-fn is_blank_block<E: Order>(image: &[u8], geometry: Geometry, block: u32) -> bool
+pub fn is_blank_block<E: Order>(image: &[u8], geometry: Geometry, block: u32) -> bool
     requires readable { is_block_size geometry.block ≡ true }
     requires small { block * geometry.block < greatest_image }
     ensures { result ≡ is_blank E.order geometry.block (block_of geometry.block image.now block) }
