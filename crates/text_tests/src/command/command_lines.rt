@@ -555,10 +555,7 @@ const HELP: [(&str, &str); 24] = [
         "t build --help",
         "Usage: t build [OPTIONS] --blocks <N> <LISTING> <OUT>",
     ),
-    (
-        "t build -h",
-        "Blocks of the flash, 268435456 bytes at most",
-    ),
+    ("t build -h", "Blocks of the flash, 268435456 bytes at most"),
     ("t help build", "write PATH OFFSET HEX"),
     ("t help build", "accepted A nodes N bytes B"),
     (
