@@ -6,8 +6,8 @@
 #                    (crates/jffs2_image/out/jffs2_image)
 #   --archive FILE   the proved archive (crates/jffs2_c/out/libjffs2_c.a)
 #   --no-library     leaves out what is made of the archive
-#   --gate FILE      what tests/all.sh printed
-#   --verdict FILE   what `rt verdict` printed in crates/jffs2_image
+#   --gate FILE      what tests/all.sh printed, with the verdict on each crate that it proved
+#   --verdict FILE   what `rt verdict`, or an earlier gate, printed of what this gate kept as proved
 #   --dynamic        takes the program as rt linked it, which wants glibc; FILE.o is not needed then
 #   --trial          makes them without --gate and --verdict, and says so in their names
 # The last line says what was made. Status 1 is a refusal, of which standard error has the reason.
@@ -40,7 +40,7 @@ while (($#)); do
     shift
 done
 cd "$top"
-for tool in ar cc dpkg-deb git gzip objdump python3 rt strip tar; do
+for tool in ar cc dpkg-deb git gzip nm objcopy objdump python3 rt strip tar; do
     command -v "$tool" > /dev/null || refuse "there is no $tool here"
 done
 [[ ! -e $to ]] || refuse "$to is there: remove it, or give another --to"
@@ -65,23 +65,37 @@ grep -qF "logic \`$logic\`" README.md || refuse "the kit is '$kit', and README.m
 
 # ---- What was proved of it
 
-if [[ -z $trial ]]; then
-    [[ -f $gate ]] || refuse "--gate names what tests/all.sh printed (or give --trial)"
-    [[ -f $verdict ]] || refuse "--verdict names what rt verdict printed (or give --trial)"
-fi
+for log in "$gate" "$verdict"; do
+    [[ -z $log || -f $log ]] || refuse "$log is not there"
+done
+[[ -n $trial || -n $gate ]] || refuse "--gate names what tests/all.sh printed (or give --trial)"
 if [[ -n $gate ]]; then
     grep -qx '[0-9]* passed, 0 failed' <(tail -n 1 "$gate") || refuse "$gate: the gate did not pass"
     tail -n 2 "$gate" | grep -qx "commit $commit" || refuse "$gate: it is not of the commit $commit"
 fi
-# the verdict's last line, and those on axioms before it
+
+# judged CRATE: the last verdict on it in the logs, with the lines on axioms above it. A log has a
+# line for each function of a crate, and then its verdict.
 judged() {
-    awk '/^axioms / { held = held $0 "\n" } /^logic=/ { last = held $0; held = "" } END { print last }' "$verdict"
+    cat /dev/null ${verdict:+"$verdict"} ${gate:+"$gate"} | awk -v crate="$1" '
+        /^(fn|struct|enum|impl|trait) / { of = substr($2, 1, index($2, "::") - 1) }
+        /^axioms / || / reached$/ { held = held $0 "\n" }
+        /^logic=/ { if (of == crate && !/ tests=/) last = held $0; held = of = "" }
+        END { if (last) print last }'
 }
-if [[ -n $verdict ]]; then
-    grep -qx 'fn jffs2_image::main: proved' "$verdict" || refuse "$verdict: it is not on jffs2_image"
-    judged | tail -n 1 | grep -q "^logic=proved .*axioms=.* sum=$logic " \
-        || refuse "$verdict: it does not say that the program is proved by the logic $logic"
-fi
+
+# check_verdict CRATE WORD: the logs say that it is proved by this logic, in a line with the word
+check_verdict() {
+    local found
+    found=$(judged "$1" | tail -n 1)
+    [[ -n $found || -z $trial ]] || return 0
+    [[ -n $found ]] || refuse "no log has a verdict on $1: give that of an earlier gate, or of rt verdict, by --verdict"
+    [[ $found == "logic=proved "* && $found == *" $2"* && $found == *" sum=$logic "* ]] \
+        || refuse "$1 is not proved by the logic $logic: $found"
+    [[ ! $found =~ \ (cache|incremental|pinned)= ]] || refuse "$1 has a check and no verdict: $found"
+}
+check_verdict jffs2_image axioms=
+[[ $library == no ]] || check_verdict jffs2_c functions=
 known=$(release/of_commit.py "$program") || exit 1
 told=$("$program" --version) || refuse "$program does not run here"
 [[ $told == "jffs2_image $version"* ]] || refuse "$program is another version: $told"
@@ -141,14 +155,28 @@ link_static() {
 
 link_dynamic() {
     cp "$program" "$work/program"
-    glibc=$(objdump -T "$program" | grep -o 'GLIBC_[0-9.]*' | sort -Vu | tail -n 1)
-    needs="Linux on x86-64-v2, with glibc ${glibc#GLIBC_} or later"
-    depends="Depends: libc6 (>= ${glibc#GLIBC_})"$'\n'
+    glibc=$(glibc_of "$program")
+    needs="Linux on x86-64-v2, with glibc $glibc or later"
+    depends="Depends: libc6 (>= $glibc)"$'\n'
     linked="by the kit"
+}
+
+# glibc_of FILE: the version of glibc that it needs
+glibc_of() {
+    objdump -T "$1" | grep -o 'GLIBC_[0-9.]*' | sort -Vu | tail -n 1 | cut -d _ -f 2
 }
 
 sum_of() {
     sha256sum < "$1" | cut -d ' ' -f 1
+}
+
+# Names the commit in the program, as --version cannot: in a section that is never loaded
+name_commit() {
+    objcopy -O binary "$work/program" "$work/loaded"
+    echo "jffs2_image $version commit $commit logic $logic" > "$work/commit"
+    objcopy --add-section ".commit=$work/commit" "$work/program"
+    objcopy -O binary "$work/program" "$work/loaded_now"
+    cmp "$work/loaded" "$work/loaded_now" || refuse "what is loaded of the program has changed"
 }
 
 # indented: the lines of standard input, two columns further in
@@ -156,12 +184,18 @@ indented() {
     sed 's/^/  /'
 }
 
+# put_verdict CRATE NAME: what the toolchain says of it
+put_verdict() {
+    echo "The toolchain's verdict on $2, with the C functions whose contracts it assumes:"
+    { judged "$1" | grep . || echo "not given"; } | indented
+}
+
 # What PROVED.txt says, of the program $work/program and of the archive
 proved() {
     echo "jffs2_image $version"
     [[ -z $trial ]] || echo "A TRIAL AND NO RELEASE: the logs of the gate and of the verdict may be missing."
     echo "commit $commit"
-    echo "of $(date -d "@$SOURCE_DATE_EPOCH" '+%Y-%m-%d %H:%M:%S') UTC"
+    echo "date $(date -d "@$SOURCE_DATE_EPOCH" '+%Y-%m-%d %H:%M:%S') UTC"
     echo "kit $kit"
     echo "licence none: all rights reserved until the owner chooses"
     echo
@@ -169,18 +203,23 @@ proved() {
     echo "  sha256 $(sum_of "$work/program")"
     echo "  linked $linked"
     echo "  known to be of this commit: $known"
-    [[ ! -f $program.o ]] || echo "  sha256 of the proved object $(sum_of "$program.o")"
+    if [[ -f $program.o ]]; then
+        echo "  sha256 of the proved object $(sum_of "$program.o")"
+        echo "  functions of C that the proved object calls:"
+        nm --undefined-only "$program.o" | awk '{ print $2 }' | sort | xargs | fold -s -w 90 \
+            | sed 's/ *$//; s/^/    /'
+    fi
     echo "  sha256 as the kit links it $(sum_of "$program")"
     if [[ $library == yes ]]; then
-        echo "The archive libjffs2_c.a:"
+        echo "The archive libjffs2_c.a. The library libjffs2.so of it needs glibc $(glibc_of "$work/libjffs2.so") or later."
         echo "  sha256 $(sum_of "$archive")"
         echo "  known to be of this commit: $known_archive"
     fi
     echo
     echo "The gate, tests/all.sh, ended with:"
-    if [[ -n $gate ]]; then tail -n 2 "$gate"; else echo "not given"; fi | indented
-    echo "The toolchain's verdict on the program, with the axioms that its proofs rest on:"
-    if [[ -n $verdict ]]; then judged; else echo "not given"; fi | indented
+    if [[ -n $gate ]]; then grep '^rt: ok; ' "$gate" || :; tail -n 2 "$gate"; else echo "not given"; fi | indented
+    put_verdict jffs2_image "the program"
+    [[ $library == no ]] || put_verdict jffs2_c "the archive"
     echo
     echo "docs/PROOFS.md of the repository says what is proved, what is only tested, and what is trusted."
 }
@@ -192,7 +231,9 @@ share() {
     put 644 completions/_jffs2_image "$share/$zsh/_jffs2_image"
     put 644 completions/jffs2_image.fish "$share/$fish/jffs2_image.fish"
     put 644 README.md "$doc/README.md"
-    put 644 docs/GUIDE.md "$doc/docs/GUIDE.md"
+    for page in GUIDE FAQ POWER-CUTS; do
+        put 644 "docs/$page.md" "$doc/docs/$page.md"
+    done
     put 644 "$made/PROVED.txt" "$doc/PROVED.txt"
 }
 
@@ -297,11 +338,12 @@ make_wheel() {
 
 "link_$link"
 strip --strip-all --remove-section=.comment "$work/program"
+name_commit
+[[ $library == no ]] || link_library
 proved > "$made/PROVED.txt"
 make_tarball
 make_debian
 if [[ $library == yes ]]; then
-    link_library
     make_library
     make_crate
     make_wheel

@@ -1,13 +1,14 @@
 #!/usr/bin/env python3
 """Runs the commands of the documents as they stand: tests/commands.py [--try | --real] [PROGRAM]
 
-In README.md, docs/GUIDE.md, docs/FAQ.md and CONTRIBUTING.md these are the blocks that begin with
-```sh, each begun at the top of the repository, one page after the other. The section 'Get it' of
-README.md is run first, as the others need the program. A block ```text after one is its output, in
-which a line `...` is any number of lines. The lines of its section 'As a library' are those of the
-examples in bindings/, which tests/bindings.sh runs. Of the manual pages they are the literal blocks of QUICK
-START and EXAMPLES and those after a line that begins with 'Example:', in order, each page in a
-folder with a folder `tree`; 'It prints' has the last line. Each block must end with status 0.
+In README.md, docs/GUIDE.md, docs/FAQ.md, docs/POWER-CUTS.md and CONTRIBUTING.md these are the
+blocks that begin with ```sh, each begun at the top of the repository, one page after the other. The
+section 'Get it' of README.md is run first, as the others need the program. A block ```text after
+one is its output, in which a line `...` is any number of lines. The lines of its section 'As a
+library' are those of the examples in bindings/, which tests/bindings.sh runs. Of the manual pages
+they are the literal blocks of QUICK START and EXAMPLES and those after a line that begins with
+'Example:', in order, each page in a folder with a folder `tree`; 'It prints' has the last line.
+Each block must end with status 0.
 
 The commands get a copy of the repository, the program, and a home of their own. Proving takes an
 hour, and the gate does it by itself. So `rt` and the scripts of tests/ are stand-ins, which look
@@ -28,7 +29,7 @@ import tempfile
 ROOT = os.path.dirname(os.path.dirname(os.path.abspath(__file__)))
 PROGRAM = os.path.join(ROOT, "crates", "jffs2_image", "out", "jffs2_image")
 # What the repository has; beside it there may be what somebody made by the commands of README.md.
-PAGES = ("README.md", "docs/GUIDE.md", "docs/FAQ.md", "CONTRIBUTING.md")
+PAGES = ("README.md", "docs/GUIDE.md", "docs/FAQ.md", "docs/POWER-CUTS.md", "CONTRIBUTING.md")
 # the section that a reader of a page needs before all others
 FIRST = "Get it"
 # the example of each language that README.md shows lines of

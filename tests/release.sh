@@ -8,10 +8,9 @@
 set -u
 is_debian=no
 [[ ${1-} == --debian ]] && is_debian=yes && shift
-archive=${2-}
+archive=$(realpath -m "${2:-$(dirname "$0")/../crates/jffs2_c/out/libjffs2_c.a}")
 # shellcheck source=tests/running.sh
 . "$(dirname "$0")/running.sh"
-archive=$(realpath -m "${archive:-$top/crates/jffs2_c/out/libjffs2_c.a}")
 PATH=$PATH:/usr/sbin:/sbin
 own=(git -c user.name=nobody -c user.email=nobody@localhost.example)
 
@@ -68,9 +67,16 @@ tar -C "$top" -c --exclude=./.git --exclude=out --exclude=must-fail --exclude=__
 "${own[@]}" -C "$source" commit -q -m "what is tested"
 cd "$source" || exit 1
 kit=$(rt version)
-printf 'commit %s\n1 passed, 0 failed\n' "$(git rev-parse HEAD)" > "$folder/gate"
-printf 'fn jffs2_image::main: proved\naxioms libc: some\nlogic=proved functions=1 axioms=1 sum=%s native=nat\n' "${kit##* }" > "$folder/verdict"
-words=(--gate "$folder/gate" --verdict "$folder/verdict")
+# as the gate prints it of a crate that it proved
+for crate in jffs2_image jffs2_c jtree; do
+    printf '== %s\nfn %s::main: proved\nlogic /opt: libraries=1\naxioms libc: %s\n' $crate $crate $crate
+    printf 'logic=proved functions=1 axioms=1 sum=%s native=nat\nrt: %s proved\n' "${kit##* }" $crate
+done > "$folder/verdict"
+printf 'rt: %s is kept: as before\n' jffs2_image jffs2_c > "$folder/kept"
+ends=$(printf 'rt: ok; each proof\n8 passed, 0 failed\ncommit %s\n1 passed, 0 failed' "$(git rev-parse HEAD)")
+echo "$ends" | cat "$folder/verdict" - > "$folder/gate"
+echo "$ends" >> "$folder/kept"
+words=(--gate "$folder/gate")
 link=static
 if [[ ! -f $program.o ]]; then
     echo "left out: linking statically, as $program.o is not there"
@@ -91,8 +97,9 @@ sed 's/0 failed/1 failed/' "$folder/gate" > "$folder/bad"
 refused "a gate that failed" "did not pass" "${words[@]}" --gate "$folder/bad"
 sed 's/commit ..../commit 0000/' "$folder/gate" > "$folder/bad"
 refused "a gate of another commit" "it is not of the commit" "${words[@]}" --gate "$folder/bad"
+refused "no verdict" "no log has a verdict on jffs2_image" "${words[@]}" --gate "$folder/kept"
 sed 's/sum=..../sum=0000/' "$folder/verdict" > "$folder/bad"
-refused "a verdict by another logic" "does not say that the program is proved" "${words[@]}" --verdict "$folder/bad"
+refused "a verdict by another logic" "is not proved by the logic" "${words[@]}" --gate "$folder/kept" --verdict "$folder/bad"
 touch more
 refused "an untracked file" "the checkout is not clean" "${words[@]}"
 rm more
@@ -115,12 +122,14 @@ cd "$folder/made" || exit 1
 does "SHA256SUMS" sha256sum --check --quiet SHA256SUMS
 equal "what SHA256SUMS names" "$(cut -c 67- SHA256SUMS | sort | xargs)" \
     "$(find . -type f ! -name SHA256SUMS -printf '%P\n' | sort | xargs)"
-equal "what PROVED.txt names" "$(grep -c -x -e "commit $(git -C "$source" rev-parse HEAD)" -e "kit $kit" \
-    -e "  axioms libc: some" -e "  1 passed, 0 failed" PROVED.txt)" 4
+commit="commit $(git -C "$source" rev-parse HEAD)"
+equal "what PROVED.txt names" "$(grep -c -x -e "$commit" -e "kit $kit" -e "  axioms libc: jffs2_image" \
+    -e "  rt: ok; each proof" -e "  1 passed, 0 failed" PROVED.txt)" 5
 tarball=$(echo jffs2_image-*.tar.gz)
 package=$(echo jffs2-image_*.deb)
 equal "owners and times in $tarball" "$(tar -tvzf "$tarball" --numeric-owner --full-time | awk '{ print $2, $4, $5 }' | sort -u)" \
     "0/0 $(TZ=UTC git -C "$source" log -1 --date=format-local:'%Y-%m-%d %H:%M:%S' --format=%cd)"
+equal "the commit in the program" "$(tar -xOzf "$tarball" --wildcards '*/bin/jffs2_image' | grep -ao 'commit [0-9a-f]\{40\}')" "$commit"
 equal "the licence" "$(tar -xOzf "$tarball" --wildcards '*/LICENCE.txt' | head -n 1)" \
     "No licence has been chosen. All rights reserved until the owner chooses."
 
@@ -245,7 +254,9 @@ if [[ $is_debian == yes ]] && has debootstrap; then
         source=$root/source
         cp "$package" "$root/tmp"
         does "$suite: dpkg -i" chroot "$root" dpkg -i "/tmp/$package"
-        echo "$suite: ldd says $(chroot "$root" ldd /usr/bin/jffs2_image 2>&1 | xargs)"
+        chroot "$root" ldd /usr/bin/jffs2_image > "$folder/said" 2>&1
+        equal "$suite: libraries that are missing" "$(grep 'not found' "$folder/said")" ""
+        [[ $link == dynamic ]] || equal "$suite: libraries" "$(grep -e '=>' -e '/ld-' "$folder/said")" ""
         programs "$root" /usr/bin/jffs2_image
         quick "$suite"
         does "$suite: dpkg --purge" chroot "$root" dpkg --purge jffs2-image
