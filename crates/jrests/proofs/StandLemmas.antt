@@ -42,14 +42,14 @@ use Rattle.jrests.proofs.ShareLemmas.{AllRoomy, all_behind, all_first, kept_are_
 
 -- ---- none of the first forms is cut, and a cut of each of the others is seen
 
-AllSure : Endian → ℕ → List Share → ℕ → Type 0
+unfoldable pub AllSure : Endian → ℕ → List Share → ℕ → Type 0
 AllSure e size [] k = Unit {0}
 AllSure e size (s ∷ more) k = Sure e size s.0.place k s.1 × AllSure e size more (k - length (output_to e size s))
 
 cuts_sure : (e : Endian) (size place k : ℕ) (forms : List (List ℕ)) → CutsSeen e forms → Sure e size place k forms
 cuts_sure e size place k forms seen = record { first = []; rest = forms; both = refl; uncut = omega arith; seen = seen }
 
-all_seen_sure : (e : Endian) (size k : ℕ) (row : List Opening) (forms : List (List ℕ)) → CutsSeen e forms → AllSure e size (shares size row forms) k
+pub all_seen_sure : (e : Endian) (size k : ℕ) (row : List Opening) (forms : List (List ℕ)) → CutsSeen e forms → AllSure e size (shares size row forms) k
 unfolding AllSure
 all_seen_sure e size k [] forms seen = tt
 all_seen_sure e size k (o ∷ row) forms seen =
@@ -133,7 +133,7 @@ or_false : (b : Bool) → (b || false) ≡ b
 or_false true = refl
 or_false false = refl
 
-sure_stands : (e : Endian) (size blocks k : ℕ) (base image : List ℕ) (row : List Opening) (forms : List (List ℕ)) → AreStoredInOpenings e size blocks base row forms
+pub sure_stands : (e : Endian) (size blocks k : ℕ) (base image : List ℕ) (row : List Opening) (forms : List (List ℕ)) → AreStoredInOpenings e size blocks base row forms
     → AllSure e size (shares size row forms) k → IsLeftOfShares e size blocks base (shares size row forms) k image
     → ExpandsInRow e size base image (take (whole_in_shares e size (shares size row forms) k) forms)
 sure_stands e size blocks k base image row forms stored sure left =

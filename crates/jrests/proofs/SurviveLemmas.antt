@@ -57,13 +57,13 @@ fewer_contents f (suc m) (x ∷ xs) = omega (arith, length-append (f x) (flat_ma
 -- ---- an image that has what the base has, and the first forms
 
 -- the base, and forms on it
-record Goes (page : ℕ) (e : Endian) (size blocks : ℕ) (base : List ℕ) (row : List Opening) (steps : List Step) (forms : List (List ℕ)) : Type 0 where
-  is_base : IsBaseThrough e size blocks base
-  on : AreFormsInOpenings e size base row steps forms
-  go : GoesOn page (expanded_nodes e size base) steps
-  carry : AllCarry e size (nodes_through e size base steps) forms
+pub record Goes (page : ℕ) (e : Endian) (size blocks : ℕ) (base : List ℕ) (row : List Opening) (steps : List Step) (forms : List (List ℕ)) : Type 0 where
+  pub is_base : IsBaseThrough e size blocks base
+  pub on : AreFormsInOpenings e size base row steps forms
+  pub go : GoesOn page (expanded_nodes e size base) steps
+  pub carry : AllCarry e size (nodes_through e size base steps) forms
 
-mounts_after : (page : ℕ) (e : Endian) (size blocks m : ℕ) (base image : List ℕ) (row : List Opening) (steps : List Step) (forms : List (List ℕ)) → Goes page e size blocks base row steps forms
+pub mounts_after : (page : ℕ) (e : Endian) (size blocks m : ℕ) (base image : List ℕ) (row : List Opening) (steps : List Step) (forms : List (List ℕ)) → Goes page e size blocks base row steps forms
     → length image ≤ blocks * size → ExpandsInRow e size base image (take m forms)
     → MountsThroughAs e size image (after bytes (state_through e size base) (take m steps))
 mounts_after page e size blocks m base image row steps forms it within has =
@@ -86,7 +86,7 @@ mounts_after page e size blocks m base image row steps forms it within has =
       same = state;
     }
 
-stored : (page : ℕ) (e : Endian) (size blocks : ℕ) (base : List ℕ) (row : List Opening) (steps : List Step) (forms : List (List ℕ)) → Goes page e size blocks base row steps forms
+pub stored : (page : ℕ) (e : Endian) (size blocks : ℕ) (base : List ℕ) (row : List Opening) (steps : List Step) (forms : List (List ℕ)) → Goes page e size blocks base row steps forms
     → AreOpeningsOf e size blocks base row → AreStoredInOpenings e size blocks base row forms
 stored page e size blocks base row steps forms it opens =
     let limits = limits_of size blocks base it.is_base.flash in
