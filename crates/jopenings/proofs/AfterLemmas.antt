@@ -20,7 +20,7 @@ use Rattle.jrests.specs.Left.{whole_in_shares, all_bytes}
 use Rattle.jrests.specs.Shares.{taken_from, Share, shares, left_out, fit_in, places_in, output_to}
 use Rattle.jrests.specs.declared.opening.Opening.{Opening}
 use Rattle.jrests.proofs.ShareLemmas.{all_first}
-use Rattle.jopenings.specs.After.{takes, behind, row_after, row_after_all, output_to_all}
+use Rattle.jopenings.specs.After.{takes, moved_opening, row_after, row_after_all, output_to_all}
 use Rattle.jopenings.specs.AfterLaws.{AllRowsGoOn, BytesAreCounted, EarlierAreWhole}
 
 -- ---- no forms
@@ -53,14 +53,14 @@ taken_one size o x xs inside = cond-true (takes size o x) (suc (taken_from size 
 taken_no : (size : ℕ) (o : Opening) (x : List ℕ) (xs : List (List ℕ)) → takes size o x ≡ false → taken_from size o.place (x ∷ xs) ≡ 0
 taken_no size o x xs outside = cond-false (takes size o x) (suc (taken_from size (end_after size o.place (length x)) xs)) 0 outside
 
-after_taken : (size : ℕ) (o : Opening) (row : List Opening) (x : List ℕ) → takes size o x ≡ true → row_after size (o ∷ row) x ≡ behind size o x ∷ row
-after_taken size o row x inside = cond-true (takes size o x) (behind size o x ∷ row) (row_after size row x) inside
+after_taken : (size : ℕ) (o : Opening) (row : List Opening) (x : List ℕ) → takes size o x ≡ true → row_after size (o ∷ row) x ≡ moved_opening size o x ∷ row
+after_taken size o row x inside = cond-true (takes size o x) (moved_opening size o x ∷ row) (row_after size row x) inside
 
 after_missed : (size : ℕ) (o : Opening) (row : List Opening) (x : List ℕ) → takes size o x ≡ false → row_after size (o ∷ row) x ≡ row_after size row x
-after_missed size o row x outside = cond-false (takes size o x) (behind size o x ∷ row) (row_after size row x) outside
+after_missed size o row x outside = cond-false (takes size o x) (moved_opening size o x ∷ row) (row_after size row x) outside
 
 pub left_taken : (size : ℕ) (o : Opening) (row : List Opening) (x : List ℕ) (xs : List (List ℕ)) → takes size o x ≡ true
-    → left_out size (o ∷ row) (x ∷ xs) ≡ left_out size (behind size o x ∷ row) xs
+    → left_out size (o ∷ row) (x ∷ xs) ≡ left_out size (moved_opening size o x ∷ row) xs
 left_taken size o row x xs inside = ap (λ (n : ℕ). left_out size row (drop n (x ∷ xs))) (taken_one size o x xs inside)
 
 pub left_missed : (size : ℕ) (o : Opening) (row : List Opening) (x : List ℕ) (xs : List (List ℕ)) → takes size o x ≡ false
@@ -77,7 +77,7 @@ shares_taken size o row x xs inside =
     ap (λ (n : ℕ). (let share : Share = (o, take n (x ∷ xs)) in share) ∷ shares size row (drop n (x ∷ xs))) (taken_one size o x xs inside)
 
 shares_behind : (size : ℕ) (o : Opening) (row : List Opening) (x : List ℕ) (xs : List (List ℕ))
-    → shares size (behind size o x ∷ row) xs ≡ (behind size o x, take (more_of size o x xs) xs) ∷ shares size row (drop (more_of size o x xs) xs)
+    → shares size (moved_opening size o x ∷ row) xs ≡ (moved_opening size o x, take (more_of size o x xs) xs) ∷ shares size row (drop (more_of size o x xs) xs)
 shares_behind size o row x xs = refl
 
 pub shares_missed : (size : ℕ) (o : Opening) (row : List Opening) (x : List ℕ) (xs : List (List ℕ)) → takes size o x ≡ false
@@ -99,7 +99,7 @@ room_step size [] x xs = some_stay x xs ∙ sym (ap (λ (b : Bool). b && fit_in 
 room_step size (o ∷ row) x xs = elim (cases_Bool (takes size o x)) [
   | inl inside ↦
       let one : fit_in size (o ∷ row) (x ∷ []) ≡ true =
-      ap (λ (forms : List (List ℕ)). length forms == 0) (left_taken size o row x [] inside ∙ none_out size (behind size o x ∷ row)) in
+      ap (λ (forms : List (List ℕ)). length forms == 0) (left_taken size o row x [] inside ∙ none_out size (moved_opening size o x ∷ row)) in
       ap (λ (forms : List (List ℕ)). length forms == 0) (left_taken size o row x xs inside)
       ∙ sym (ap₂ (λ (b : Bool) (r : List Opening). b && fit_in size r xs) one (after_taken size o row x inside))
   | inr outside ↦
@@ -132,7 +132,7 @@ places_step size (o ∷ row) x xs = elim (cases_Bool (takes size o x)) [
       let place : ℕ × ℕ = (o.block * size + place_after size o.place (length x), length x) in
       let one : places_in size (shares size (o ∷ row) (x ∷ [])) ≡ place ∷ [] =
       ap (places_in size) (shares_one size o row x inside) ∙ ap (λ (l : List (ℕ × ℕ)). place ∷ l) (no_places size row) in
-      let rest : places_in size (shares size (row_after size (o ∷ row) x) xs) ≡ places_in size ((behind size o x, take (more_of size o x xs) xs) ∷ shares size row (drop (more_of size o x xs) xs)) =
+      let rest : places_in size (shares size (row_after size (o ∷ row) x) xs) ≡ places_in size ((moved_opening size o x, take (more_of size o x xs) xs) ∷ shares size row (drop (more_of size o x xs) xs)) =
       ap (λ (r : List Opening). places_in size (shares size r xs)) (after_taken size o row x inside) ∙ ap (places_in size) (shares_behind size o row x xs) in
       ap (places_in size) (shares_taken size o row x xs inside) ∙ sym (ap₂ (λ (a b : List (ℕ × ℕ)). a ++ b) one rest)
   | inr outside ↦

@@ -153,7 +153,7 @@ forms_long e (n ∷ ns) (f ∷ fs) are = omega (arith, forms_long e ns fs are.1)
 
 earlier_stand : (page : ℕ) (e : Endian) (size blocks : ℕ) (base : List ℕ) (row : List Opening) (earlier steps : List Step) (before forms : List (List ℕ)) → length before ≡ length earlier
     → IsTrue (fit_in size row before) → AreOpeningsOf e size blocks base row → Goes page e size blocks base row (earlier ++ steps) (before ++ forms)
-    → EarlierStandInOpenings e size blocks base row earlier steps before forms
+    → EarlierStandInOpenings (flash_by page e size blocks) base row earlier steps before forms
 earlier_stand page e size blocks base row earlier steps before forms len room opens it none k image left =
     let all : List (List ℕ) = before ++ forms in
     let kept = stored page e size blocks base row (earlier ++ steps) all it opens in
@@ -216,7 +216,7 @@ first_fit page e size blocks base before forms left x ops n here =
 survives_after : (page : ℕ) (e : Endian) (size blocks n : ℕ) (base : List ℕ) (row left : List Opening) (done ops : List Op) (before forms : List (List ℕ)) (x : Indexed) → IsPage page → page + 80 ≤ size
     → GoesOnInOpenings (flash_by page e size blocks) base row done before left x → AreBytes base → AllByRecursion OpFits ops
     → FitInOpenings (flash_by page e size blocks) base before left x ops n forms
-    → SurvivesAfterInOpenings e size blocks base row (steps_through page e size base done) (steps_of_first page x ops n) before forms
+    → SurvivesAfterInOpenings (flash_by page e size blocks) base row (steps_through page e size base done) (steps_of_first page x ops n) before forms
 survives_after page e size blocks n base row left done ops before forms x is_page room on are_bytes widths here =
     let z : Indexed = index_through e size base in
     let earlier : List Step = steps_through page e size base done in
@@ -237,7 +237,7 @@ survives_after page e size blocks n base row left done ops before forms x is_pag
       carry = forms_carry e size (nodes_through e size base planned) (before ++ forms) (planned_loggable page e size (nodes_through e size base planned) is_page room (go.written e)) it.accepted.forms_in.are;
     }) in
     let len : length before ≡ length earlier = forms_long e (nodes_of z earlier) before on.accepted.forms_in.are ∙ nodes_long z earlier in
-    subst (λ (w : Indexed). SurvivesAfterInOpenings e size blocks base row earlier (steps_of_first page w ops n) before forms) (sym on.index_is)
+    subst (λ (w : Indexed). SurvivesAfterInOpenings (flash_by page e size blocks) base row earlier (steps_of_first page w ops n) before forms) (sym on.index_is)
     (record {
       all = subst (λ (l : List Step). SurvivesInOpenings e size blocks base row l (before ++ forms)) it.steps_are survive;
       stand = earlier_stand page e size blocks base row earlier steps before forms len on.accepted.forms_in.fits on.openings goes;
@@ -246,9 +246,9 @@ survives_after page e size blocks n base row left done ops before forms x is_pag
 survives_first : (page : ℕ) (e : Endian) (size blocks n : ℕ) (base : List ℕ) (row left : List Opening) (done ops : List Op) (before forms : List (List ℕ)) (x : Indexed) → IsPage page → page + 80 ≤ size
     → GoesOnInOpenings (flash_by page e size blocks) base row done before left x → AreBytes base → AllByRecursion OpFits (take n ops)
     → FitInOpenings (flash_by page e size blocks) base before left x ops n forms
-    → SurvivesAfterInOpenings e size blocks base row (steps_through page e size base done) (steps_of_first page x ops n) before forms
+    → SurvivesAfterInOpenings (flash_by page e size blocks) base row (steps_through page e size base done) (steps_of_first page x ops n) before forms
 survives_first page e size blocks n base row left done ops before forms x is_page room on are_bytes widths here =
-    subst (λ (l : List Step). SurvivesAfterInOpenings e size blocks base row (steps_through page e size base done) l before forms) (first_ops page x ops n here.planned).steps_are
+    subst (λ (l : List Step). SurvivesAfterInOpenings (flash_by page e size blocks) base row (steps_through page e size base done) l before forms) (first_ops page x ops n here.planned).steps_are
     (survives_after page e size blocks n base row left done (take n ops) before forms x is_page room on are_bytes widths (first_fit page e size blocks base before forms left x ops n here))
 
 pub done_survives : DoneSurvivesInOpenings

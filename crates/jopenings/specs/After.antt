@@ -10,8 +10,8 @@ abbrev pub takes : ℕ → Opening → List ℕ → Bool
 takes size o form = nat_le (place_after size o.place (length form) + length form) size
 
 -- an opening behind a form that it took
-abbrev pub behind : ℕ → Opening → List ℕ → Opening
-behind size o form = record { block = o.block; place = end_after size o.place (length form) }
+abbrev pub moved_opening : ℕ → Opening → List ℕ → Opening
+moved_opening size o form = record { block = o.block; place = end_after size o.place (length form) }
 
 -- rule: The log: What is left of a row of openings after nodes.
 --   definitions: jopenings.After.row_after_all
@@ -21,7 +21,7 @@ behind size o form = record { block = o.block; place = end_after size o.place (l
 abbrev pub row_after : ℕ → List Opening → List ℕ → List Opening
 row_after size [] form = []
 row_after size (o ∷ row) form =
-    if takes size o form then behind size o form ∷ row else row_after size row form
+    if takes size o form then moved_opening size o form ∷ row else row_after size row form
 
 -- the same after all of some forms, each after the one before it
 abbrev pub row_after_all : ℕ → List Opening → List (List ℕ) → List Opening

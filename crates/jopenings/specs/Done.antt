@@ -60,23 +60,26 @@ pub record FitInOpenings (flash : Flash) (base : List ℕ) (before : List (List 
 -- A stop while more forms were being written, after all bytes of the earlier ones and k more,
 -- leaves an image that mounts through as the file system after all earlier steps, and after those
 -- of the others whose forms stand whole. Of the earlier forms some may be weak.
-abbrev pub EarlierStandInOpenings : Endian → ℕ → ℕ → List ℕ → List Opening → List Step → List Step
+abbrev pub EarlierStandInOpenings : Flash → List ℕ → List Opening → List Step → List Step
     → List (List ℕ) → List (List ℕ) → Type 0
-EarlierStandInOpenings e size blocks base row earlier steps before forms =
+EarlierStandInOpenings flash base row earlier steps before forms =
+    let e = flash.order in
+    let size = flash.size in
     let left = row_after_all size row before in
     NoFormWeak e forms
     → (k : ℕ) (image : List ℕ)
-    → IsLeftOfShares e size blocks base (shares size row (before ++ forms))
+    → IsLeftOfShares e size flash.blocks base (shares size row (before ++ forms))
     (all_bytes e size (shares size row before) + k) image
     → MountsThroughAs e size image (after bytes (after bytes (state_through e size base) earlier)
     (take (whole_in_shares e size (shares size left forms) k) steps))
 
 -- All steps survive, the earlier ones and those after them; and while those after them are written
 -- the earlier ones stand.
-pub record SurvivesAfterInOpenings (e : Endian) (size blocks : ℕ) (base : List ℕ)
-    (row : List Opening) (earlier steps : List Step) (before forms : List (List ℕ)) : Type 0 where
-  pub all : SurvivesInOpenings e size blocks base row (earlier ++ steps) (before ++ forms)
-  pub stand : EarlierStandInOpenings e size blocks base row earlier steps before forms
+pub record SurvivesAfterInOpenings (flash : Flash) (base : List ℕ) (row : List Opening)
+    (earlier steps : List Step) (before forms : List (List ℕ)) : Type 0 where
+  pub all : SurvivesInOpenings flash.order flash.size flash.blocks base row (earlier ++ steps)
+      (before ++ forms)
+  pub stand : EarlierStandInOpenings flash base row earlier steps before forms
 
 -- ---- the laws
 
@@ -95,7 +98,7 @@ DoneSurvivesInOpenings = (flash : Flash) (n : ℕ) (base : List ℕ) (row left :
     → GoesOnInOpenings flash base row done before left x
     → AreBytes base → AllByRecursion OpFits (take n ops)
     → FitInOpenings flash base before left x ops n forms
-    → SurvivesAfterInOpenings flash.order flash.size flash.blocks base row
+    → SurvivesAfterInOpenings flash base row
     (steps_through flash.page flash.order flash.size base done)
     (steps_of_first flash.page x ops n) before forms
 
