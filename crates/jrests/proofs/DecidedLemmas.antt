@@ -1,5 +1,5 @@
 -- A block has at most one rest, which the function gives.
-use Rattle.std.proofs.Common.{◌≡◌, ◌↔◌, ℕ, zero, suc, ◌+◌, ◌-◌, ◌%◌, ◌<◌, ◌≤◌, Bool, true, false, eqb, List, [], ◌∷◌, ◌++◌, length, drop, take, refl, sym, ap, ap₂, subst, ◌∙◌, arith, inl, inr, Option, None, Some, length-append, length-drop}
+use Rattle.std.proofs.Common.{◌≡◌, ℕ, zero, suc, ◌+◌, ◌-◌, ◌%◌, ◌<◌, ◌≤◌, true, false, eqb, List, [], ◌∷◌, ◌++◌, length, drop, take, refl, sym, ap, ap₂, subst, ◌∙◌, arith, inl, inr, Some, length-append, length-drop}
 use Rattle.std.specs.Prelude.{not}
 use Rattle.std.specs.List.{AllByRecursion, list_all}
 use Rattle.std.proofs.lemmas.Bool.{cases_lt, le-leb, lt-leb}
@@ -10,8 +10,7 @@ use Rattle.jnode.specs.Reading.{seen_of, tile_of}
 use Rattle.jnode.specs.declared.node.Seen.{Seen}
 use Rattle.jnode.specs.declared.order.Endian.{Endian}
 use Rattle.jnode.proofs.HeaderLemmas.{erased_is_not_good}
-use Rattle.jscan.specs.Blank.{is_blank}
-use Rattle.jscan.specs.Extents.{class_of, extent_of, in_front, extents_from, extents}
+use Rattle.jscan.specs.Extents.{class_of, extent_of, in_front, extents_from}
 use Rattle.jscan.specs.Tiling.{Tile, bytes_of, tile_at, tiling_from}
 use Rattle.jscan.specs.declared.extent.Extent.{Extent}
 use Rattle.jscan.specs.declared.extent.ExtentKind.{ExtentKind}

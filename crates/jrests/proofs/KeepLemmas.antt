@@ -1,20 +1,19 @@
 -- What is written to the rest of a block changes no tile in front of it.
-use Rattle.std.proofs.Common.{◌≡◌, ℕ, zero, suc, ◌+◌, ◌-◌, ◌%◌, ◌<◌, ◌≤◌, Bool, true, false, List, [], ◌∷◌, ◌++◌, length, drop, take, min, refl, sym, ap, ap₂, subst, ◌∙◌, arith, inl, inr, length-append, length-drop, length-take-le}
+use Rattle.std.proofs.Common.{◌≡◌, ℕ, zero, suc, ◌+◌, ◌-◌, ◌%◌, ◌<◌, ◌≤◌, true, List, [], ◌∷◌, ◌++◌, length, drop, take, refl, sym, ap, ap₂, subst, ◌∙◌, arith, inl, inr, length-append, length-drop, length-take-le}
 use Rattle.std.specs.List.{AllByRecursion}
 use Rattle.std.proofs.lemmas.Bool.{cases_Bool, true≢false}
 use Rattle.std.proofs.lemmas.List.{drop-drop}
 use Rattle.flashbase.specs.Bytes.{pad4_of}
-use Rattle.jnode.specs.Header.{is_good, has_header, header_of, totlen_of}
+use Rattle.jnode.specs.Header.{is_good, header_of, totlen_of}
 use Rattle.jnode.specs.Reading.{tile_of}
 use Rattle.jnode.specs.declared.header.Header.{Header}
 use Rattle.jnode.specs.declared.order.Endian.{Endian}
 use Rattle.jnode.proofs.HeaderLemmas.{good_found, good_from, header_holds, header_is_twelve_bytes}
 use Rattle.jscan.specs.Tiling.{Tile, bytes_of, tile_at, tiling_from, tiling}
-use Rattle.jscan.specs.declared.tiles.TileKind.{TileKind}
-use Rattle.jscan.specs.declared.tiles.TileKind.TheVariants.{Node, Word, Rest}
+use Rattle.jscan.specs.declared.tiles.TileKind.TheVariants.{Node}
 use Rattle.jscan.proofs.PaddingLemmas.{pad4_fits}
 use Rattle.jscan.proofs.TileLemmas.{tile_good, tile_cases, tile_then_rest}
-use Rattle.jrests.specs.Begun.{IsWholeNode, IsRest}
+use Rattle.jrests.specs.Begun.{IsWholeNode}
 use Rattle.jrests.specs.BegunLaws.{RestKeepsTiles}
 
 -- ---- a good header in front of a place

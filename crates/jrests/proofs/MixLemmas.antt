@@ -1,13 +1,12 @@
 -- An image some of whose blocks were written: it has what was in each, and what was written there.
-use Rattle.std.proofs.Common.{◌≡◌, ℕ, zero, suc, ◌+◌, ◌-◌, ◌*◌, ◌%◌, ◌<◌, ◌≤◌, Bool, true, false, List, [], ◌∷◌, ◌++◌, length, map, filter_map, refl, sym, ap, ap₂, subst, ◌∙◌, arith, inl, inr, Option, None, Some, is_some, Contains, append_assoc, ⊎_elim}
-use Rattle.std.specs.Prelude.{filter, flat_map, IsTrue, ◌||◌}
+use Rattle.std.proofs.Common.{◌≡◌, ℕ, zero, suc, ◌+◌, ◌*◌, ◌<◌, ◌≤◌, Bool, List, [], ◌∷◌, ◌++◌, length, map, filter_map, refl, sym, ap, ap₂, subst, ◌∙◌, arith, inl, inr, is_some, Contains, append_assoc, ⊎_elim}
+use Rattle.std.specs.Prelude.{flat_map, IsTrue, ◌||◌}
 use Rattle.std.specs.List.{AllByRecursion, cons_option, list_any}
 use Rattle.std.proofs.lemmas.Bool.{cases_lt}
 use Rattle.std.proofs.lemmas.List.Elements.{filter-append}
 use Rattle.flashbase.specs.Lists.{below}
 use Rattle.flashbase.proofs.MemberLemmas.{Contains-none, Contains-cases}
 use Rattle.jnode.specs.declared.node.CompressedNode.{CompressedNode}
-use Rattle.jnode.specs.declared.node.NodeRef.{NodeRef}
 use Rattle.jnode.specs.declared.node.Seen.{Seen}
 use Rattle.jnode.specs.declared.node.Seen.TheVariants as seen
 use Rattle.jnode.specs.declared.order.Endian.{Endian}

@@ -1,14 +1,13 @@
 -- What is seen of a block that was written from an opening on: what was seen of it, and the forms that are whole.
-use Rattle.std.proofs.Common.{◌≡◌, ℕ, zero, suc, ◌+◌, ◌-◌, ◌*◌, ◌/◌, ◌%◌, ◌<◌, ◌≤◌, Bool, true, false, List, [], ◌∷◌, ◌++◌, length, map, filter_map, take, drop, get_or, refl, sym, ap, ap₂, subst, ◌∙◌, arith, inl, inr, Option, None, Some, length-append, length-drop, length-take-le}
-use Rattle.std.specs.Prelude.{◌⊎◌, filter, IsTrue, bytes_eq}
-use Rattle.std.specs.List.{AllByRecursion, cons_option}
+use Rattle.std.proofs.Common.{◌≡◌, ℕ, zero, suc, ◌+◌, ◌-◌, ◌*◌, ◌%◌, ◌<◌, ◌≤◌, Bool, true, List, [], ◌∷◌, ◌++◌, length, map, filter_map, take, drop, get_or, refl, sym, ap, ap₂, subst, ◌∙◌, arith, inl, inr, Option, None, Some, length-append, length-drop, length-take-le}
+use Rattle.std.specs.Prelude.{◌⊎◌, filter, IsTrue}
+use Rattle.std.specs.List.{AllByRecursion}
 use Rattle.std.proofs.lemmas.Bool.{cases_Bool, cases_lt, and_parts, leb-true, true≢false}
-use Rattle.std.proofs.lemmas.List.{append-nil, drop-drop, ext_get_or, get_or-take, length-take, length-replicate, take-map, take_all}
+use Rattle.std.proofs.lemmas.List.{append-nil, drop-drop, ext_get_or, get_or-take, length-take, length-replicate, take-map}
 use Rattle.std.proofs.lemmas.List.Elements.{filter-append, filter_map-append}
-use Rattle.std.proofs.lemmas.Nat.{div-mul-add, mod-mul-add}
-use Rattle.flashbase.specs.Bytes.{erased, pad4_of}
+use Rattle.std.proofs.lemmas.Nat.{mod-mul-add}
+use Rattle.flashbase.specs.Bytes.{erased}
 use Rattle.jnode.specs.Compressed.{compressed_of}
-use Rattle.jnode.specs.Header.{is_good, header_of}
 use Rattle.jnode.specs.Reading.{seen_of, tile_of}
 use Rattle.jnode.specs.Weak.{IsForm}
 use Rattle.jnode.specs.Writing.{clean_marker, filled}
@@ -18,28 +17,28 @@ use Rattle.jnode.specs.declared.node.Seen.TheVariants as seen
 use Rattle.jnode.specs.declared.order.Endian.{Endian}
 use Rattle.jnode.proofs.FormLemmas.{form_is_tile}
 use Rattle.jscan.specs.Blank.{marked, is_blank}
-use Rattle.jscan.specs.Image.{is_block_size, sighting, sightings_from, sightings_in}
-use Rattle.jscan.specs.Tiling.{Tile, bytes_of, tile_at, tiling_from, tiling}
+use Rattle.jscan.specs.Image.{is_block_size, sighting, sightings_from}
+use Rattle.jscan.specs.Tiling.{Tile, tile_at, tiling_from, tiling}
 use Rattle.jscan.specs.declared.tiles.TileKind.{TileKind}
 use Rattle.jscan.specs.declared.tiles.TileKind.TheVariants.{Node, Word, Rest}
 use Rattle.jscan.proofs.BlankCalls.{blank_found}
 use Rattle.std.proofs.lemmas.Slice.Eq.{bytes_eq-Decides}
-use Rattle.jscan.proofs.TileLemmas.{tile_good, tile_cases, tile_some, tile_then_rest}
-use Rattle.jlog.specs.Places.{place_after, end_after, places, fit}
+use Rattle.jscan.proofs.TileLemmas.{tile_cases, tile_some, tile_then_rest}
+use Rattle.jlog.specs.Places.{place_after, end_after, fit}
 use Rattle.jlog.specs.Output.{output}
 use Rattle.jlog.specs.Left.{HoldsWritten, HoldsMarker, IsLeft, intact}
 use Rattle.jlog.specs.LeftLaws.{tells}
 use Rattle.jlog.specs.Forms.{IsStorableForm, placed_forms, form_sighted}
 use Rattle.jlog.proofs.ByteLemmas.{erased_end}
-use Rattle.jlog.proofs.FlashLemmas.{BlockLeft, Cursor, Flash, met}
+use Rattle.jlog.proofs.FlashLemmas.{BlockLeft, Flash}
 use Rattle.jlog.proofs.HereLemmas.{Gives, StandsAt, Sure}
 use Rattle.jlog.proofs.ImageLemmas.{block_size}
 use Rattle.jlog.proofs.SightLemmas.{told, erased_told, marker_long}
 use Rattle.jlog.proofs.WalkLemmas.{walks_all}
 use Rattle.jrow.proofs.BlankLemmas.{blank_untold}
-use Rattle.jrow.proofs.GlimpseLemmas.{Glimpse, glimpse_of, glimpses_among, is_told, told_of, block_glimpses}
+use Rattle.jrow.proofs.GlimpseLemmas.{Glimpse, glimpses_among, told_of, block_glimpses}
 use Rattle.jscan.specs.Extents.{extents}
-use Rattle.jrests.specs.Begun.{IsWholeNode, IsRest, clear_last, rest_of}
+use Rattle.jrests.specs.Begun.{IsRest, clear_last, rest_of}
 use Rattle.jrests.specs.Openings.{opening_in}
 use Rattle.jrests.proofs.KeepLemmas.{keeps_front, whole_words}
 use Rattle.jrests.proofs.RestLemmas.{rest_is_found}

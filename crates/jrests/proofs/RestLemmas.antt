@@ -1,23 +1,23 @@
 -- The rest of a block: by its extents, and by its tiles.
-use Rattle.std.proofs.Common.{◌≡◌, ℕ, zero, suc, ◌+◌, ◌-◌, ◌%◌, ◌<◌, ◌≤◌, Bool, true, false, List, [], ◌∷◌, ◌++◌, length, drop, take, refl, sym, ap, ap₂, subst, ◌∙◌, arith, inl, inr, Option, None, Some, length-append, length-drop, length-take-le}
+use Rattle.std.proofs.Common.{◌≡◌, ℕ, zero, suc, ◌+◌, ◌<◌, ◌≤◌, true, false, List, [], ◌∷◌, ◌++◌, length, drop, take, refl, sym, ap, subst, ◌∙◌, arith, inl, inr, None, Some, length-append, length-drop}
 use Rattle.std.specs.Prelude.{sum_by, not, ◌&&◌, ◌==◌, if◌then◌else◌}
 use Rattle.std.specs.List.{AllByRecursion, list_all}
-use Rattle.std.proofs.lemmas.Bool.{cases_Bool, cond-true, cond-false, true≢false, false≢true, and_parts, cond_both, eqb-true}
+use Rattle.std.proofs.lemmas.Bool.{cases_Bool, true≢false, false≢true, and_parts, cond_both, eqb-true}
 use Rattle.std.proofs.lemmas.List.{take_all, drop-drop}
 use Rattle.std.proofs.lemmas.List.Sums.{sum_by-append, sum_by-cons}
-use Rattle.flashbase.specs.Bytes.{erased, pad4_of}
-use Rattle.jnode.specs.Header.{is_good, header_of, totlen_of, magic_of}
+use Rattle.flashbase.specs.Bytes.{erased}
+use Rattle.jnode.specs.Header.{is_good, header_of, magic_of}
 use Rattle.jnode.specs.Reading.{seen_of, tile_of}
 use Rattle.jnode.specs.declared.node.Seen.{Seen}
 use Rattle.jnode.specs.declared.order.Endian.{Endian}
 use Rattle.jscan.specs.Blank.{is_blank}
-use Rattle.jscan.specs.Extents.{class_of, other_magic, extent_of, extent_kind_of, is_one_run, in_front, extents_from, extents}
-use Rattle.jscan.specs.Tiling.{Tile, bytes_of, tile_at, tiling_from, tiling}
+use Rattle.jscan.specs.Extents.{class_of, other_magic, extent_of, is_one_run, in_front, extents_from, extents}
+use Rattle.jscan.specs.Tiling.{Tile, bytes_of, tile_at, tiling_from}
 use Rattle.jscan.specs.declared.extent.Extent.{Extent}
 use Rattle.jscan.specs.declared.extent.ExtentKind.{ExtentKind}
 use Rattle.jscan.specs.declared.extent.ExtentKind.TheVariants.{Tiled, Erased, OtherOrder, Dirt}
-use Rattle.jscan.specs.declared.tiles.TileKind.TheVariants.{Node, Word, Rest}
-use Rattle.jscan.proofs.ExtentLaws.{front_then_rest, no_extents, tile_within, extents_make_up}
+use Rattle.jscan.specs.declared.tiles.TileKind.TheVariants.{Node}
+use Rattle.jscan.proofs.ExtentLaws.{front_then_rest, no_extents, extents_make_up}
 use Rattle.jscan.proofs.ExtentLemmas.{in_front_node}
 use Rattle.jscan.proofs.RunLaws.{erased_runs_are_erased}
 use Rattle.jscan.proofs.TileLemmas.{tile_good, tile_cases, tile_place, tile_some, tile_then_rest}

@@ -1,24 +1,23 @@
 -- What goes to each opening, and which forms are whole.
-use Rattle.std.proofs.Common.{◌≡◌, ℕ, zero, suc, ◌+◌, ◌-◌, ◌*◌, ◌%◌, ◌<◌, ◌≤◌, Bool, true, false, List, [], ◌∷◌, ◌++◌, length, map, take, drop, get_or, refl, sym, ap, ap₂, subst, ◌∙◌, arith, inl, inr, length-append, append_assoc, append-nil, take-append-drop}
+use Rattle.std.proofs.Common.{◌≡◌, ℕ, zero, suc, ◌+◌, ◌-◌, ◌*◌, ◌%◌, ◌≤◌, Bool, true, false, List, [], ◌∷◌, ◌++◌, length, take, drop, get_or, refl, sym, ap, ap₂, ◌∙◌, arith, inl, inr, append_assoc, append-nil, take-append-drop}
 use Rattle.std.specs.Prelude.{IsTrue, flat_map, nat_le, ◌==◌, ◌&&◌, bytes_eq}
 use Rattle.std.specs.List.{AllByRecursion}
 use Rattle.std.proofs.Math.Seq.{take-append-add}
-use Rattle.std.proofs.lemmas.Bool.{cases_Bool, cases_lt, true≢false, false≢true, both_ways, cond-true, cond-false, eqb-true}
+use Rattle.std.proofs.lemmas.Bool.{cases_Bool, cases_lt, eqb-true}
 use Rattle.std.proofs.lemmas.List.{take_all, take-append-le, get_or-replicate}
 use Rattle.std.proofs.lemmas.Slice.Eq.{bytes_eq-Decides}
 use Rattle.flashbase.specs.Bytes.{erased, pad4_of}
 use Rattle.jnode.specs.Weak.{torn}
 use Rattle.jnode.specs.declared.order.Endian.{Endian}
-use Rattle.jlog.specs.Places.{place_after, end_after, places, fit}
-use Rattle.jlog.specs.Output.{output}
-use Rattle.jlog.specs.Left.{count_whole, intact}
+use Rattle.jlog.specs.Places.{place_after, end_after, fit}
+use Rattle.jlog.specs.Left.{intact}
 use Rattle.jlog.specs.Laws.{FitsBlock}
 use Rattle.jlog.specs.Forms.{IsStorableForm}
 use Rattle.jlog.proofs.IntactLemmas.{intact_is_counted, all_is_intact}
 use Rattle.jlog.proofs.LeftLemmas.{forms_have_room}
 use Rattle.jrests.specs.Left.{kept_in_shares, whole_in_shares}
-use Rattle.jrests.specs.LeftLaws.{FitsItsBlock, SharesHoldAll, SharesFit}
-use Rattle.jrests.specs.Shares.{taken_from, Share, shares, left_out, fit_in, output_to}
+use Rattle.jrests.specs.LeftLaws.{SharesHoldAll, SharesFit}
+use Rattle.jrests.specs.Shares.{taken_from, Share, shares, left_out, output_to}
 use Rattle.jrests.specs.declared.opening.Opening.{Opening}
 
 -- ---- each share fits its block

@@ -1,8 +1,8 @@
 -- What is left of a write to a row of openings: the base, and the forms that are whole.
-use Rattle.std.proofs.Common.{◌≡◌, ℕ, zero, suc, ◌+◌, ◌-◌, ◌*◌, ◌%◌, ◌<◌, ◌≤◌, Bool, true, false, List, [], ◌∷◌, ◌++◌, length, map, filter_map, take, drop, refl, sym, ap, ap₂, subst, ◌∙◌, arith, inl, inr, Option, None, Some, is_some, Contains, length-append}
+use Rattle.std.proofs.Common.{◌≡◌, ℕ, ◌+◌, ◌-◌, ◌%◌, ◌≤◌, Bool, true, false, List, [], ◌∷◌, ◌++◌, length, map, filter_map, take, drop, refl, sym, ap, ap₂, subst, ◌∙◌, arith, Option, None, is_some, Contains, length-append}
 use Rattle.std.specs.Prelude.{flat_map, IsTrue, ◌||◌}
 use Rattle.std.specs.List.{AllByRecursion, cons_option, list_any}
-use Rattle.std.proofs.lemmas.Bool.{cases_lt, false≢true}
+use Rattle.std.proofs.lemmas.Bool.{false≢true}
 use Rattle.std.proofs.lemmas.List.{take_all, map-append}
 use Rattle.jnode.specs.Laws.{IsPlain}
 use Rattle.jnode.specs.Reading.{seen_of}
@@ -15,13 +15,12 @@ use Rattle.jnode.specs.declared.order.Endian.{Endian}
 use Rattle.jscan.specs.Image.{is_block_size, block_of}
 use Rattle.jscan.specs.Scans.{forbids_writing, is_read_only}
 use Rattle.jscan.proofs.PartLemmas.{block_length}
-use Rattle.jexpand.specs.Expanded.{expanded_nodes, unpacked_bytes}
+use Rattle.jexpand.specs.Expanded.{expanded_nodes}
 use Rattle.jexpand.specs.declared.fault.ConvertFault.{ConvertFault}
 use Rattle.jview.specs.Through.{first_fault}
-use Rattle.jlog.specs.Places.{fit}
 use Rattle.jlog.specs.Output.{output}
 use Rattle.jlog.specs.Left.{intact}
-use Rattle.jlog.specs.Forms.{IsStorableForm, IsLoggableForm, NoFormWeak}
+use Rattle.jlog.specs.Forms.{IsStorableForm}
 use Rattle.jlog.specs.Through.{form_node, form_content, IsReadForm}
 use Rattle.jlog.proofs.HereLemmas.{CutsSeen, Sure, cuts_seen, none_cut}
 use Rattle.jlog.proofs.ImageLemmas.{block_size}
@@ -35,7 +34,7 @@ use Rattle.jrests.specs.LeftLaws.{AreStoredInOpenings, LeftInOpenings, WholeInOp
 use Rattle.jrests.specs.Openings.{AreUpwards, IsOpeningOf}
 use Rattle.jrests.specs.Shares.{taken_from, Share, shares, output_to}
 use Rattle.jrests.specs.declared.opening.Opening.{Opening}
-use Rattle.jrests.proofs.MixLemmas.{AreAdded, AreNewUp, IsSeenIn, News, fine_in, image_fine, mixed}
+use Rattle.jrests.proofs.MixLemmas.{AreAdded, AreNewUp, News, fine_in, image_fine, mixed}
 use Rattle.jrests.proofs.RunLemmas.{run}
 use Rattle.jrests.proofs.OpenedLemmas.{fine_glimpses, form_glimpse, opened}
 use Rattle.jlog.proofs.IntactLemmas.{intact_is_counted, all_is_intact}
@@ -43,14 +42,14 @@ use Rattle.jrests.proofs.ShareLemmas.{AllRoomy, all_behind, all_first, kept_are_
 
 -- ---- none of the first forms is cut, and a cut of each of the others is seen
 
-AllSure : Endian → ℕ → List Share → ℕ → Type 0
+unfoldable pub AllSure : Endian → ℕ → List Share → ℕ → Type 0
 AllSure e size [] k = Unit {0}
 AllSure e size (s ∷ more) k = Sure e size s.0.place k s.1 × AllSure e size more (k - length (output_to e size s))
 
 cuts_sure : (e : Endian) (size place k : ℕ) (forms : List (List ℕ)) → CutsSeen e forms → Sure e size place k forms
 cuts_sure e size place k forms seen = record { first = []; rest = forms; both = refl; uncut = omega arith; seen = seen }
 
-all_seen_sure : (e : Endian) (size k : ℕ) (row : List Opening) (forms : List (List ℕ)) → CutsSeen e forms → AllSure e size (shares size row forms) k
+pub all_seen_sure : (e : Endian) (size k : ℕ) (row : List Opening) (forms : List (List ℕ)) → CutsSeen e forms → AllSure e size (shares size row forms) k
 unfolding AllSure
 all_seen_sure e size k [] forms seen = tt
 all_seen_sure e size k (o ∷ row) forms seen =
@@ -134,7 +133,7 @@ or_false : (b : Bool) → (b || false) ≡ b
 or_false true = refl
 or_false false = refl
 
-sure_stands : (e : Endian) (size blocks k : ℕ) (base image : List ℕ) (row : List Opening) (forms : List (List ℕ)) → AreStoredInOpenings e size blocks base row forms
+pub sure_stands : (e : Endian) (size blocks k : ℕ) (base image : List ℕ) (row : List Opening) (forms : List (List ℕ)) → AreStoredInOpenings e size blocks base row forms
     → AllSure e size (shares size row forms) k → IsLeftOfShares e size blocks base (shares size row forms) k image
     → ExpandsInRow e size base image (take (whole_in_shares e size (shares size row forms) k) forms)
 sure_stands e size blocks k base image row forms stored sure left =

@@ -1,14 +1,11 @@
 -- The steps of accepted operations survive in openings, whatever forms their nodes are put in.
-use Rattle.std.proofs.Common.{◌≡◌, ℕ, zero, suc, ◌+◌, ◌*◌, ◌≤◌, List, [], ◌∷◌, ◌++◌, length, take, filter_map, refl, sym, ap, subst, ◌∙◌, arith, length-append}
+use Rattle.std.proofs.Common.{◌≡◌, ℕ, zero, suc, ◌+◌, ◌*◌, ◌≤◌, List, [], ◌∷◌, length, take, sym, subst, ◌∙◌, arith, length-append}
 use Rattle.std.specs.Prelude.{IsTrue, flat_map, nat_le, nat_lt, ◌&&◌}
-use Rattle.std.specs.List.{AllByRecursion}
 use Rattle.std.proofs.lemmas.Bool.{and_parts, leb-true}
 use Rattle.std.proofs.lemmas.List.{take_all}
-use Rattle.flashbase.specs.Ranges.{AreBytes}
 use Rattle.jnode.specs.declared.node.NodeRef.{NodeRef}
 use Rattle.jnode.specs.declared.order.Endian.{Endian}
 use Rattle.jscan.specs.Image.{is_block_size, greatest_image}
-use Rattle.jscan.specs.Pages.{IsPage}
 use Rattle.jmount.specs.Tree.{State, is_directory}
 use Rattle.jmount.specs.StateOf.{state_of}
 use Rattle.jsteps.specs.Steps.{bytes, after}
@@ -16,12 +13,12 @@ use Rattle.jsteps.specs.Refusals.{steps_of_first}
 use Rattle.jsteps.specs.Laws.{GoesOn}
 use Rattle.jsteps.specs.declared.step.Step.{Step}
 use Rattle.jsteps.proofs.GoesOnLemmas.{planned_goes_on}
-use Rattle.jexpand.specs.Expanded.{expanded_nodes, unpacked_bytes}
+use Rattle.jexpand.specs.Expanded.{expanded_nodes}
 use Rattle.jview.specs.Through.{MountsThroughAs}
 use Rattle.jlog.specs.Places.{is_writable_flash}
 use Rattle.jlog.specs.Headline.{is_flash_of}
 use Rattle.jlog.specs.HeadlineThrough.{state_through, IsBaseThrough, index_through, nodes_through}
-use Rattle.jlog.specs.Through.{form_node, form_content}
+use Rattle.jlog.specs.Through.{form_content}
 use Rattle.jlog.proofs.HeadlineLemmas.{planned_loggable}
 use Rattle.jlog.proofs.HeadlineThroughLemmas.{all_fit_through}
 use Rattle.jlog.proofs.LeftLemmas.{storable_forms}
@@ -60,13 +57,13 @@ fewer_contents f (suc m) (x ∷ xs) = omega (arith, length-append (f x) (flat_ma
 -- ---- an image that has what the base has, and the first forms
 
 -- the base, and forms on it
-record Goes (page : ℕ) (e : Endian) (size blocks : ℕ) (base : List ℕ) (row : List Opening) (steps : List Step) (forms : List (List ℕ)) : Type 0 where
-  is_base : IsBaseThrough e size blocks base
-  on : AreFormsInOpenings e size base row steps forms
-  go : GoesOn page (expanded_nodes e size base) steps
-  carry : AllCarry e size (nodes_through e size base steps) forms
+pub record Goes (page : ℕ) (e : Endian) (size blocks : ℕ) (base : List ℕ) (row : List Opening) (steps : List Step) (forms : List (List ℕ)) : Type 0 where
+  pub is_base : IsBaseThrough e size blocks base
+  pub on : AreFormsInOpenings e size base row steps forms
+  pub go : GoesOn page (expanded_nodes e size base) steps
+  pub carry : AllCarry e size (nodes_through e size base steps) forms
 
-mounts_after : (page : ℕ) (e : Endian) (size blocks m : ℕ) (base image : List ℕ) (row : List Opening) (steps : List Step) (forms : List (List ℕ)) → Goes page e size blocks base row steps forms
+pub mounts_after : (page : ℕ) (e : Endian) (size blocks m : ℕ) (base image : List ℕ) (row : List Opening) (steps : List Step) (forms : List (List ℕ)) → Goes page e size blocks base row steps forms
     → length image ≤ blocks * size → ExpandsInRow e size base image (take m forms)
     → MountsThroughAs e size image (after bytes (state_through e size base) (take m steps))
 mounts_after page e size blocks m base image row steps forms it within has =
@@ -89,7 +86,7 @@ mounts_after page e size blocks m base image row steps forms it within has =
       same = state;
     }
 
-stored : (page : ℕ) (e : Endian) (size blocks : ℕ) (base : List ℕ) (row : List Opening) (steps : List Step) (forms : List (List ℕ)) → Goes page e size blocks base row steps forms
+pub stored : (page : ℕ) (e : Endian) (size blocks : ℕ) (base : List ℕ) (row : List Opening) (steps : List Step) (forms : List (List ℕ)) → Goes page e size blocks base row steps forms
     → AreOpeningsOf e size blocks base row → AreStoredInOpenings e size blocks base row forms
 stored page e size blocks base row steps forms it opens =
     let limits = limits_of size blocks base it.is_base.flash in

@@ -12,7 +12,7 @@ use Rattle.jscan.specs.Extents.{extents}
 use Rattle.jscan.specs.Tiling.{Tile, bytes_of, tiling}
 use Rattle.jscan.specs.declared.extent.Extent.{Extent}
 use Rattle.jscan.specs.declared.extent.ExtentKind.{ExtentKind}
-use Rattle.jscan.specs.declared.extent.ExtentKind.TheVariants.{Tiled, Erased, OtherOrder, Dirt}
+use Rattle.jscan.specs.declared.extent.ExtentKind.TheVariants.{Tiled, Erased}
 use Rattle.jscan.specs.declared.tiles.TileKind.TheVariants.{Node}
 
 abbrev pub is_damaged : Seen → Bool

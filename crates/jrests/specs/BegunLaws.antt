@@ -1,8 +1,7 @@
 -- Laws of rests and openings. Each is a statement: it holds since a public function's contract
 -- names it.
-use Rattle.std.specs.Prelude.{◌≡◌, ◌↔◌, ℕ, ◌+◌, ◌-◌, ◌*◌, ◌%◌, ◌<◌, ◌≤◌, Option, Some, List, ◌++◌, length, take, drop, Contains}
+use Rattle.std.specs.Prelude.{◌≡◌, ◌↔◌, ℕ, ◌%◌, Some, List, ◌++◌, length, take, drop}
 use Rattle.jnode.specs.declared.order.Endian.{Endian}
-use Rattle.jscan.specs.Image.{block_of}
 use Rattle.jscan.specs.Tiling.{tiling, tiling_from}
 use Rattle.jrests.specs.Begun.{IsRest, rest_of}
 use Rattle.jrests.specs.Openings.{openings, rests, AreOpeningsOf}

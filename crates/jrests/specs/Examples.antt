@@ -1,5 +1,5 @@
 -- Worked blocks and rows.
-use Rattle.std.specs.Prelude.{ℕ, List, [], ◌∷◌, ◌++◌, ◌-◌, length, take}
+use Rattle.std.specs.Prelude.{ℕ, List, [], ◌∷◌, ◌++◌, take}
 use Rattle.flashbase.specs.Bytes.{erased}
 use Rattle.jnode.specs.Vectors.{little_marker, entry_a, obsolete_a, no_length, hidden_entry}
 use Rattle.jrests.specs.declared.opening.Opening.{Opening}

@@ -1,5 +1,5 @@
 -- A log that is written to a row of openings: what goes to each, and where it lies.
-use Rattle.std.specs.Prelude.{◌≡◌, ℕ, suc, ◌+◌, ◌-◌, ◌*◌, ◌≤◌, ◌==◌, nat_le, Bool, List, [], ◌∷◌, ◌++◌, length, map, take, drop, flat_map, if◌then◌else◌}
+use Rattle.std.specs.Prelude.{ℕ, suc, ◌+◌, ◌*◌, ◌==◌, nat_le, Bool, List, [], ◌∷◌, length, map, take, drop, flat_map, if◌then◌else◌}
 use Rattle.jnode.specs.declared.order.Endian.{Endian}
 use Rattle.jlog.specs.Places.{place_after, end_after, places}
 use Rattle.jlog.specs.Output.{output}

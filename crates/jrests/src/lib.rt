@@ -20,7 +20,6 @@
 //! `specs/Survives.antt` what survives.
 #![tactic(auto)]
 
-mod block;
 pub mod examples;
 pub mod laws;
 mod opening;

@@ -7,9 +7,9 @@ ghost use Rattle.jscan.specs.Image.{is_block_size, greatest_image, block_of};
 ghost use Rattle.jrests.specs.Begun.{is_damaged, clear_last, rest_of};
 ghost use Rattle.jrests.specs.Openings.{opening_at, opening_in, openings, rests};
 
-use crate::block::{block_part, is_blank_block};
 use flashbase::Part;
 use jnode::{Order, Seen};
+use jrow::{block_part, is_blank_block};
 use jscan::{ExtentKind, Extents, Geometry};
 use std::alloc::{AllocError, Global};
 

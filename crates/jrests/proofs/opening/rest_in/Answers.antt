@@ -1,9 +1,7 @@
-use Rattle.std.proofs.Common.{◌≡◌, ◌%◌, ◌∙◌, ℕ, length, sym, ap, arith}
-use Rattle.jscan.specs.Extents.{extents}
+use Rattle.std.proofs.Common.{◌≡◌, ◌%◌, ◌∙◌, ℕ, length, ap, arith}
 use Rattle.jscan.proofs.PartLemmas.{block_length}
 use Rattle.jexpand.proofs.SightedLemmas.{size_words}
 use Rattle.jlog.proofs.ImageLemmas.{block_size}
-use Rattle.jrests.specs.Begun.{clear_last, rest_of}
 use Rattle.jrests.proofs.opening.rest_in.Goals as goal
 
 pub clear_last-requires-clause-words : goal.clear_last-requires-clause-words

@@ -1,4 +1,4 @@
-use Rattle.std.proofs.Common.{◌≡◌, ◌≤◌, ◌∙◌, ◌++◌, [], ℕ, List, Option, sym, ap, ap₂, arith}
+use Rattle.std.proofs.Common.{◌≤◌, ◌∙◌, ◌++◌, [], ℕ, List, Option, sym, ap₂, arith}
 use Rattle.std.specs.List.{cons_option}
 use Rattle.jscan.specs.Image.{greatest_image, block_of}
 use Rattle.jscan.proofs.StreamCounts.{readable_some}

@@ -1,0 +1,4 @@
+pub mod AfterLemmas
+pub mod DoneLemmas
+pub mod ExistLemmas
+pub mod FrontLemmas

@@ -1,0 +1,5 @@
+pub mod After
+pub mod AfterLaws
+pub mod FrontLaws
+pub mod Done
+pub mod Exist
