@@ -1,6 +1,7 @@
 pub mod CoverLemmas
 pub mod ImageLemmas
 pub mod KeptLemmas
+pub mod MissedLemmas
 pub mod NameLemmas
 pub mod ObjectLemmas
 pub mod PartLemmas

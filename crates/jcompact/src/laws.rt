@@ -25,3 +25,11 @@ pub fn nothing_is_left_over()
 pub fn all_still_matter()
     ensures { law.AllStillMatter }
 {}
+
+/// And each would be missed. Without an entry its name leads nowhere. In the place of an inode node,
+/// another one of its object, version and range would make another object: of these alone no more
+/// nodes can be told that have no effect.
+pub fn each_is_missed()
+    ensures names { law.EachEntryIsMissed }
+    ensures objects { law.EachInodeIsMissed }
+{}
