@@ -1,3 +1,4 @@
+pub mod CompactedLemmas
 pub mod CoverLemmas
 pub mod ImageLemmas
 pub mod KeptLemmas

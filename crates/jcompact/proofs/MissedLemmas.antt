@@ -1,6 +1,6 @@
 -- Each node that matters would be missed.
-use Rattle.std.proofs.Common.{◌≡◌, ◌≢◌, ℕ, suc, ◌+◌, ◌-◌, ◌<◌, ◌≤◌, Bool, true, false, List, [], ◌∷◌, ◌++◌, length, map, get_or, replicate, Option, Some, None, refl, ap, sym, subst, ◌∙◌, arith, inl, inr, ⊎_elim}
-use Rattle.std.specs.Prelude.{◌⊎◌, ◌&&◌, ◌||◌, ◌==◌, nat_lt, nat_le, not, filter, option_map, is_some, slice_index, Contains, if◌then◌else◌}
+use Rattle.std.proofs.Common.{◌≡◌, ◌≢◌, ℕ, suc, ◌+◌, ◌-◌, ◌<◌, ◌≤◌, Bool, true, false, List, ◌∷◌, ◌++◌, length, map, get_or, replicate, Option, Some, None, refl, ap, sym, subst, ◌∙◌, arith, inl, inr, ⊎_elim}
+use Rattle.std.specs.Prelude.{◌⊎◌, ◌&&◌, ◌||◌, ◌==◌, nat_lt, nat_le, not, filter, option_map, slice_index, Contains, if◌then◌else◌}
 use Rattle.std.specs.List.{AllPairs, list_any}
 use Rattle.std.proofs.lemmas.Bool.{true≢false, false≢true, eqb-true, eqb-false, eq-eqb, ltb-true, ltb-false, lt-ltb, leb-true}
 use Rattle.std.proofs.lemmas.Option.{same_Some}
@@ -17,7 +17,7 @@ use Rattle.jnode.specs.declared.node.InodeNode.{InodeNode}
 use Rattle.jnode.specs.declared.node.NodeRef.TheVariants.{Entry, Inode}
 use Rattle.jfrag.specs.declared.piece.Piece.{Piece}
 use Rattle.jfrag.specs.Pieces.{body_len, byte_of, covers}
-use Rattle.jfrag.specs.Overlays.{Visible, byte_at, visible}
+use Rattle.jfrag.specs.Overlays.{byte_at, visible}
 use Rattle.jfrag.proofs.OverlaysLemmas.{content_is_visible}
 use Rattle.jname.specs.Live.{Key, is_at, key_of, live}
 use Rattle.jname.proofs.ContentsByNameLemmas.{by_test}
@@ -31,7 +31,7 @@ use Rattle.jmount.proofs.ObjectsLemmas.{in_versions, of_versions}
 use Rattle.jmount.proofs.StateLemmas.{one_field, versions-AreVersions}
 use Rattle.jcompact.specs.Laws.{HasRangeOf}
 use Rattle.jcompact.specs.Matters.{Placed, counts_above, has_byte, is_above, is_folder, is_newest, is_object, latest_size, matters, shows, shows_at, size_if}
-use Rattle.jcompact.proofs.NameLemmas.{live_entry, newest_live, own_key, NewestOf}
+use Rattle.jcompact.proofs.NameLemmas.{live_entry, newest_live, own_key}
 use Rattle.jcompact.proofs.ObjectLemmas.{at_inode, inode_at, inodes_apart}
 use Rattle.jcompact.proofs.StillLemmas.{some_number}
 use Rattle.jcompact.proofs.TopLemmas.{above_cases, any_from, any_of, both, left_or, none_any, none_of, not_true, right_or}
@@ -359,12 +359,14 @@ module _ (front back : List Placed) (addr : ℕ) (node : InodeNode) (apart : Non
       (λ (less : node.version < o.version). absurd (omega (arith, less, version)))
       (λ (tie : (o.version ≡ node.version) × (addr < a)). let less : addr < a = tie.1 in absurd (omega (arith, less, at)))
       (above_cases (a, Inode o) placed tests.1))
-      (λ elsewhere.
-      (o, record { addr_of = a; there = elsewhere; number = number },
-      ⊎_elim
-      (λ (less : node.version < o.version). less)
-      (λ (tie : (o.version ≡ node.version) × (addr < a)). absurd (own_version a o elsewhere number tie.0))
-      (above_cases (a, Inode o) placed tests.1)))
+      (λ elsewhere. (
+        o,
+        record { addr_of = a; there = elsewhere; number = number },
+        ⊎_elim
+            (λ (less : node.version < o.version). less)
+            (λ (tie : (o.version ≡ node.version) × (addr < a)). absurd (own_version a o elsewhere number tie.0))
+            (above_cases (a, Inode o) placed tests.1),
+      ))
       (cases_between front back placed (a, Inode o) c)
 
   -- ---- the two nodes that would make another object

@@ -9,7 +9,7 @@ use Rattle.jmount.specs.Clash.{NoneClash}
 use Rattle.jmount.specs.Collected.{without_addresses}
 use Rattle.jmount.specs.Find.{find, walk}
 use Rattle.jmount.specs.StateOf.{state_of}
-use Rattle.jmount.specs.Tree.{dangling, is_there, named, object}
+use Rattle.jmount.specs.Tree.{State, dangling, is_there, named, object}
 use Rattle.jcompact.specs.Matters.{Placed, AreWhatMatters, NamesLeadTo}
 
 -- An object that names lead to has the same attributes, size and bytes.
@@ -53,14 +53,18 @@ AllStillMatter = (ns kept : List Placed) → NoneClash (without_addresses ns)
 
 -- ---- each node would be missed
 
+-- the file system that nodes make, wherever they lie
+abbrev pub state_placed : List Placed → State
+state_placed ns = state_of (without_addresses ns)
+
 -- Each entry that matters gives its name an object, and without it the name leads nowhere.
 abbrev pub EachEntryIsMissed : Type 0
 EachEntryIsMissed = (ns front back : List Placed) (addr : ℕ) (entry : Dirent)
     → NoneClash (without_addresses ns) → AllPairs (λ m n. m.0 < n.0) ns
     → AreWhatMatters ns (front ++ (addr, Entry entry) ∷ back)
-    → (named (state_of (without_addresses (front ++ (addr, Entry entry) ∷ back))) entry.pino entry.name
+    → (named (state_placed (front ++ (addr, Entry entry) ∷ back)) entry.pino entry.name
     ≡ Some entry.ino)
-    × (named (state_of (without_addresses (front ++ back))) entry.pino entry.name ≡ None)
+    × (named (state_placed (front ++ back)) entry.pino entry.name ≡ None)
 
 -- an inode node of the same object, version and range, whatever else it says
 pub record HasRangeOf (node other : InodeNode) : Type 0 where
@@ -77,5 +81,5 @@ EachInodeIsMissed = (ns front back : List Placed) (addr : ℕ) (node : InodeNode
     → NoneClash (without_addresses ns) → AllPairs (λ m n. m.0 < n.0) ns
     → AreWhatMatters ns (front ++ (addr, Inode node) ∷ back)
     → (other : InodeNode) × HasRangeOf node other
-    × (object (state_of (without_addresses (front ++ (addr, Inode other) ∷ back))) node.ino
-    ≢ object (state_of (without_addresses (front ++ (addr, Inode node) ∷ back))) node.ino)
+    × (object (state_placed (front ++ (addr, Inode other) ∷ back)) node.ino
+    ≢ object (state_placed (front ++ (addr, Inode node) ∷ back)) node.ino)

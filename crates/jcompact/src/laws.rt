@@ -1,5 +1,6 @@
 //! Laws of what matters. Each function's contract is a law, and its body is empty.
 
+ghost use Rattle.jcompact.specs.Compacted as compacted;
 ghost use Rattle.jcompact.specs.Laws as law;
 
 /// Of the nodes that matter an object that names lead to is the same: attributes, size and bytes.
@@ -32,4 +33,12 @@ pub fn all_still_matter()
 pub fn each_is_missed()
     ensures names { law.EachEntryIsMissed }
     ensures objects { law.EachInodeIsMissed }
+{}
+
+/// An image that has just the nodes of another that matter shows the same tree. No name of it
+/// dangles, and names lead to each of its objects.
+pub fn compact_shows_the_tree()
+    ensures paths { compacted.CompactKeepsPaths }
+    ensures objects { compacted.CompactKeepsObjects }
+    ensures rest { compacted.CompactHasNoRest }
 {}
