@@ -1,3 +1,6 @@
-//! Tests of `jcompact`: which objects no names lead to. Which nodes matter has worked rows there.
+//! Tests of `jcompact`: which nodes of an image matter, and which objects no names lead to. What
+//! is wanted was written down by hand, from the rule.
 
+mod growth;
+mod kept;
 mod reached;

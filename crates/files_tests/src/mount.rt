@@ -10,7 +10,7 @@ mod calls;
 mod directories;
 mod facts;
 mod growth;
-mod images;
+pub(crate) mod images;
 mod mounts;
 mod refusals;
 mod shapes;

@@ -1,6 +1,8 @@
+pub mod CompactedLemmas
 pub mod CoverLemmas
 pub mod ImageLemmas
 pub mod KeptLemmas
+pub mod MissedLemmas
 pub mod NameLemmas
 pub mod ObjectLemmas
 pub mod PartLemmas

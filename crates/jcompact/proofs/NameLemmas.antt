@@ -37,7 +37,7 @@ entry_at xs entry c =
 pub at_entry : (xs : List Placed) (addr : ℕ) (entry : Dirent) → Contains xs (addr, Entry entry) → Contains (entries (without_addresses xs)) entry
 at_entry xs addr entry c = Contains-filter_map entry_in (without_addresses xs) (Entry entry) entry (Contains-map (λ (n : Placed). n.1) xs (addr, Entry entry) c) refl
 
-own_key : (entry : Dirent) → is_at (key_of entry) entry ≡ true
+pub own_key : (entry : Dirent) → is_at (key_of entry) entry ≡ true
 own_key entry = both (entry.pino == entry.pino) (bytes_eq entry.name entry.name) (eq-eqb _ _ refl) ((bytes_eq-Decides entry.name entry.name).1 refl)
 
 of_key : (key : Key) (entry : Dirent) → is_at key entry ≡ true → key_of entry ≡ key
@@ -120,7 +120,7 @@ some_entry xs key j is = by (newest (λ (e : Dirent). e.version) (filter (is_at 
         let in_x = Contains-filter_from (is_at key) (entries (without_addresses xs)) x (newest_is_newest (filter (is_at key) (entries (without_addresses xs))) (λ (d : Dirent). d.version) x e).0 in
         (x, in_x.0, in_x.1)
 
-live_entry : (xs : List Placed) (key : Key) (j : ℕ) → live (entries (without_addresses xs)) key ≡ Some j → (addr : ℕ) × (entry : Dirent) × NewestOf xs key addr entry
+pub live_entry : (xs : List Placed) (key : Key) (j : ℕ) → live (entries (without_addresses xs)) key ≡ Some j → (addr : ℕ) × (entry : Dirent) × NewestOf xs key addr entry
 live_entry xs key j is =
     let some = some_entry xs key j is in
     let at = entry_at xs some.0 some.1 in
@@ -141,7 +141,7 @@ pub record LiveThere (ns : List Placed) (reached : ℕ → Bool) (key : Key) (j 
   pub object_is : is_object ns j ≡ true
 
 module _ (ns kept : List Placed) (reached : ℕ → Bool) (apart : NoneClash (without_addresses ns)) (is : kept ≡ filter (matters ns reached) ns) where
-  kept_apart : NoneClash (without_addresses kept)
+  pub kept_apart : NoneClash (without_addresses kept)
   kept_apart a b in_a in_b clash = apart a b (from a in_a) (from b in_b) clash
     where
       from : (x : NodeRef) → Contains (without_addresses kept) x → Contains (without_addresses ns) x

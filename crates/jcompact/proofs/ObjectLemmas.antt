@@ -41,7 +41,7 @@ inode_at xs node c =
 pub at_inode : (xs : List Placed) (addr : ℕ) (node : InodeNode) → Contains xs (addr, Inode node) → Contains (inodes (without_addresses xs)) node
 at_inode xs addr node c = Contains-filter_map inode_in (without_addresses xs) (Inode node) node (Contains-map (λ (n : Placed). n.1) xs (addr, Inode node) c) refl
 
-inodes_apart : (xs : List Placed) → NoneClash (without_addresses xs) → NoInodesClash (inodes (without_addresses xs))
+pub inodes_apart : (xs : List Placed) → NoneClash (without_addresses xs) → NoInodesClash (inodes (without_addresses xs))
 inodes_apart xs apart node c other d clash =
     let at = inode_at xs node c in
     let by = inode_at xs other d in

@@ -19,12 +19,12 @@ use Rattle.jcompact.proofs.ObjectLemmas.{kept_from, object_kept, size_kept}
 use Rattle.jcompact.proofs.NameLemmas.{newest_live, fewer_newest}
 use Rattle.jcompact.proofs.PathLemmas.{there_is, stepped, walk_same}
 
-some_number : (n : ℕ) (b : Bool) → not b ≡ true → cond b None (Some n) ≡ Some n
+pub some_number : (n : ℕ) (b : Bool) → not b ≡ true → cond b None (Some n) ≡ Some n
 some_number n true h = absurd (false≢true h)
 some_number n false h = refl
 
 module _ (ns kept : List Placed) (reached : ℕ → Bool) (apart : NoneClash (without_addresses ns)) (says : SaysReached ns reached) (is : kept ≡ filter (matters ns reached) ns) where
-  says_still : SaysReached kept reached
+  pub says_still : SaysReached kept reached
   says_still i = (
     λ h. let way = (says i).0 h in (way.0, walk_same ns kept reached apart says is way.0 ∙ way.1),
     λ way. (says i).1 (way.0, sym (walk_same ns kept reached apart says is way.0) ∙ way.1),
@@ -77,7 +77,7 @@ module _ (ns kept : List Placed) (reached : ℕ → Bool) (apart : NoneClash (wi
       (either_true (is_newest ns n) (shows ns (latest_size ns node.ino) n) parts.1) in
       both (reached node.ino) (is_newest kept n || shows kept (latest_size kept node.ino) n) parts.0 counts
 
-  still : (n : Placed) → Contains kept n → matters kept reached n ≡ true
+  pub still : (n : Placed) → Contains kept n → matters kept reached n ≡ true
   still (addr, Entry entry) c = entry_still addr entry c
   still (addr, Inode node) c = inode_still addr node c
 

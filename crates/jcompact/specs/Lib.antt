@@ -1,3 +1,4 @@
+pub mod Compacted
 pub mod Examples
 pub mod Laws
 pub mod Matters

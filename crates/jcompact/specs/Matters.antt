@@ -100,7 +100,7 @@ matters ns reached (addr, Inode node) = reached node.ino
 --   code: jcompact::keeping::kept, jcompact::image::kept_in
 --   laws: jcompact::laws::objects_are_kept, jcompact::laws::paths_are_kept,
 --   jcompact::laws::nothing_is_left_over, jcompact::laws::all_still_matter,
---   jcompact::examples::names_kept, jcompact::examples::bytes_kept
+--   jcompact::laws::each_is_missed, jcompact::examples::names_kept, jcompact::examples::bytes_kept
 -- these are the nodes that matter, in the order in which they stand
 abbrev pub AreWhatMatters : List Placed → List Placed → Type 0
 AreWhatMatters ns kept =

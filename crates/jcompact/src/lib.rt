@@ -10,8 +10,9 @@
 //! nodes that are at hand; `unreached` finds the objects that no names lead to.
 //!
 //! `specs/Matters.antt` has the definition that contracts cite, `examples` its worked rows, `laws`
-//! what follows from it. `specs/Taking.antt` says what is known while nodes are taken one by one,
-//! from the highest version down.
+//! what follows from it. `specs/Compacted.antt` says what an image of just these nodes is.
+//! `specs/Taking.antt` says what is known while nodes are taken one by one, from the highest version
+//! down.
 #![tactic(auto)]
 
 mod covering;
