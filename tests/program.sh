@@ -529,6 +529,23 @@ run build --blocks 1 listing built; want 1 "" "$(unread folder)"; unmade built
 lines listing 'file 0644 /a larger'
 run build --blocks 1 listing built; want 1 "" "jffs2_image: L2 TooLarge"; unmade built
 
+# Files that are together longer than a flash can be: they are refused by their lengths, before one of them is read. One that
+# several lines name counts once.
+truncate -s 134217728 half other_half
+truncate -s 134217729 longer_half
+lines listing 'file 0644 /a half' 'file 0644 /b longer_half'
+(ulimit -v 65536; "$program" build --blocks 1 listing built > out 2> err); got=$?; line="build of two halves"
+want 1 "" "jffs2_image: L2 TooLarge"; unmade built
+run append --blocks 2 made_little listing built; want 1 "" "jffs2_image: L2 TooLarge"; unmade built
+run cuts --blocks 1 listing; want 1 "" "jffs2_image: L2 TooLarge"
+lines listing 'file 0644 /a half' 'part /a 0 half' 'file 0644 /b half' 'file 0644 /c other_half' 'file 0644 /d none'
+run build --blocks 1 listing built; want 1 "" "$(unopened none)"; unmade built
+mkdir halves
+for i in 1 2 3 4 5 6 7 8; do truncate -s 100000000 "halves/$i"; done
+(ulimit -v 524288; "$program" pack halves built > out 2> err); got=$?; line="pack of 800,000,000 bytes"
+want 1 "" "jffs2_image: L2 TooLarge"; unmade built
+rm -r halves half other_half longer_half
+
 # A tree: names with escapes, owners, times, links
 lines listing 'time 1000000000' 'mkdir 0755 /etc' 'create 0644 /etc/hostname' 'write /etc/hostname 0 626F780a' \
     'symlink /name etc/hostname' 'owner 1000 100' 'mkdir 0750 /home' 'create 0755 /home/start\x20here' \

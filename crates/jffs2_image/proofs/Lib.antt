@@ -21,3 +21,4 @@ mod FirstLemmas
 mod KeepingLemmas
 mod FinishLemmas
 mod ReplacingLemmas
+pub mod LengthLemmas

@@ -69,7 +69,7 @@ pub told_of_part : (told : List ℕ → Option (List ℕ)) (lines : List Line) (
     → IsToldOf kept fault f → (TellsName fault → kept ≡ name) → (fault ≡ file.TooLarge → IsTooLong (told name)) → IsNamedByLine lines name → IsPartUnread told lines f
 told_of_part told lines name kept (file.NotOpened reason) f is same long named = subst (IsPartUnread told lines) (sym is.1) (subst (IsNamedByLine lines) (sym (is.2 ∙ same tt)) named)
 told_of_part told lines name kept (file.NotRead reason) f is same long named = subst (IsPartUnread told lines) (sym is.1) (subst (IsNamedByLine lines) (sym (is.2 ∙ same tt)) named)
-told_of_part told lines name kept file.TooLarge f is same long named = subst (IsPartUnread told lines) (sym is) (name, named, long refl)
+told_of_part told lines name kept file.TooLarge f is same long named = subst (IsPartUnread told lines) (sym is) (inr (name, named, long refl))
 told_of_part told lines name kept file.OutOfMemory f is same long named = subst (IsPartUnread told lines) (sym is) tt
 
 -- the reason that is told

@@ -1,5 +1,5 @@
 -- What a command that writes an image does.
-use Rattle.std.specs.Prelude.{◌≡◌, ◌≢◌, ◌⊎◌, ◌<◌, ◌++◌, ℕ, List, [], ◌∷◌, Any, IfSome, length, take, slice_get, option_map, Option, Some, None, Result, Ok, Err, IsOk}
+use Rattle.std.specs.Prelude.{◌≡◌, ◌≢◌, ◌⊎◌, ◌<◌, ◌≤◌, ◌++◌, ℕ, List, [], ◌∷◌, All, AllPairs, Any, IfSome, length, sum_by, take, slice_get, option_map, Option, Some, None, Result, Ok, Err, IsOk}
 use Rattle.std.specs.Io.KnownBytes.{Appends, Keeps}
 use Rattle.flashbase.specs.Device.{PutsPart, next_count}
 use Rattle.flashbase.specs.Sinks.{SinkChange}
@@ -92,12 +92,38 @@ IsUnreadFile name told (program.Image fault) = ⊥
 abbrev pub IsNamedByLine : List Line → List ℕ → Type 0
 IsNamedByLine lines name = Any (λ line. file_of line.action ≡ Some name) lines
 
--- a file that a line names can't be read, or there is no memory for it
+-- a file has so many bytes, where the host tells them
+abbrev pub IsOfLength : Option (List ℕ) → ℕ → Type 0
+IsOfLength told n = IfSome told (λ bytes. length bytes ≡ n)
+
+-- these files are named by lines, have these lengths, and none of them is another one
+pub record AreNamedOnce (told : List ℕ → Option (List ℕ)) (lines : List Line)
+    (files : List (List ℕ × ℕ)) : Type 0 where
+  pub apart : AllPairs (λ a b. a.0 ≢ b.0) files
+  pub named : All (λ file. IsNamedByLine lines file.0) files
+  pub lengths : All (λ file. IsOfLength (told file.0) file.1) files
+
+-- some that lines name are together longer than the greatest image
+abbrev pub AreTogetherTooLong : (List ℕ → Option (List ℕ)) → List Line → Type 0
+AreTogetherTooLong told lines =
+    (files : List (List ℕ × ℕ)) × AreNamedOnce told lines files
+    × (greatest_image < sum_by (λ file. file.1) files)
+
+-- all that lines name are together no longer
+abbrev pub FitTogether : (List ℕ → Option (List ℕ)) → List Line → Type 0
+FitTogether told lines =
+    (files : List (List ℕ × ℕ)) × AreNamedOnce told lines files
+    × ((name : List ℕ) → IsNamedByLine lines name → Any (λ file. file.0 ≡ name) files)
+    × (sum_by (λ file. file.1) files ≤ greatest_image)
+
+-- A file that a line names can't be read, or there is no memory for it. It is too long, or some are
+-- together: each counts once, however many lines name it.
 abbrev pub IsPartUnread : (List ℕ → Option (List ℕ)) → List Line → ProgramFault → Type 0
 IsPartUnread told lines (program.File file) = IsNamedByLine lines file.name.now
 IsPartUnread told lines (program.NotRead file) = IsNamedByLine lines file.name.now
 IsPartUnread told lines (program.Load load.TooLarge) =
-    (name : List ℕ) × IsNamedByLine lines name × IsTooLong (told name)
+    AreTogetherTooLong told lines
+    ⊎ ((name : List ℕ) × IsNamedByLine lines name × IsTooLong (told name))
 IsPartUnread told lines (program.Load load.OutOfMemory) = Unit {0}
 IsPartUnread told lines program.OutOfMemory = Unit {0}
 IsPartUnread told lines (program.Load load.Device) = ⊥

@@ -1,6 +1,6 @@
 //! Files of the host: those that are read, and the one that is made.
 ghost use Rattle.std.specs.Prelude.{◌≡◌, ◌++◌, ℕ, List, [], ◌∷◌, Option, IfOk, IfErr, IfSome, IsOk, IsSome, OnOk, None, Some, true};
-ghost use Rattle.std.specs.Fs.{new_options, with_create, with_truncate, with_write};
+ghost use Rattle.std.specs.Fs.{IsFile, file_type, metadata_len, new_options, with_create, with_truncate, with_write};
 ghost use Rattle.std.specs.Io.KnownBytes.{Appends};
 ghost use Rattle.jreport.specs.declared.reason.Reason.{Reason};
 ghost use Rattle.flashbase.specs.Bytes.{erased};
@@ -8,6 +8,7 @@ ghost use Rattle.flashbase.specs.Device.{CountsErr};
 ghost use Rattle.jffs2_image.specs.Filling.{HoldsFilled, HoldsFilledInPart, fill_of};
 ghost use Rattle.jffs2_image.specs.Reasons.{output_length, reason_of_last};
 ghost use Rattle.jffs2_image.specs.Host.{AreAllLoaded, CountsNotMade, GivesFile, HoldsBy, MakesBy};
+ghost use Rattle.jffs2_image.specs.Writes.{IsOfLength};
 
 use crate::filling::{Filling, fill_output};
 use crate::kept::KeptFiles;
@@ -20,7 +21,7 @@ use jbuild::HostFiles;
 use jreport::Reason;
 use std::cell::Cell;
 use std::fs;
-use std::fs::OpenOptions;
+use std::fs::{Metadata, OpenOptions};
 use std::io::Write;
 use std::rt::Files;
 
@@ -50,6 +51,11 @@ pub trait Loader {
         ensures counting { IfOk result (λ opened. Self.Opened.failures opened ≡ failures self.old) }
         ensures count { CountsErr (failures self.old) (failures self.new) result }
         ensures stays { (other : List ℕ) → told self.new other ≡ told self.old other };
+
+    /// The length of the file of a name, by what the host tells of it before it is read; 0 if that
+    /// is nothing.
+    fn length(&self, name: &str) -> u64
+        ensures { IsOfLength (told self.now name.now) result };
 
     /// Whether two names mean one file that is there, also by way of links, by what the host tells.
     fn is_one_file(&self, first: &str, second: &str) -> bool;
@@ -120,6 +126,15 @@ pub trait Maker {
         ensures { result ≡ last_reason self.now };
 }
 
+/// The length of what was found, if it is a regular file. What else can be read, as a pipe, tells
+/// none.
+fn known_length(found: &Metadata) -> u64
+    ensures regular { IsFile (file_type found.now) → result ≡ metadata_len found.now }
+    ensures other { (IsFile (file_type found.now) → ⊥) → result ≡ 0 }
+{
+    if found.is_file() { found.len() } else { 0 }
+}
+
 /// Reads files of the system.
 #[derive(Drop)]
 pub struct FileLoader<'r, R: Files + AllocGlobal> {
@@ -167,6 +182,13 @@ impl<'r, R: Files + AllocGlobal> Loader for FileLoader<'r, R> {
                 self.failures = self.failures.wrapping_add(1);
                 Err(Reason::of(&error))
             }
+        }
+    }
+
+    fn length(&self, name: &str) -> u64 {
+        match fs::metadata(self.rt, name) {
+            Ok(found) => known_length(&found),
+            Err(_) => 0,
         }
     }
 

@@ -1,7 +1,8 @@
 //! A folder of the system whose regular files are read when they are found.
 
-ghost use Rattle.std.specs.Prelude.{◌≡◌, ℕ, List, false, option_map, string_bytes, IfOk, IsFalse, IsSome, IsTrue, None, OnOk, bytes_eq};
+ghost use Rattle.std.specs.Prelude.{◌≡◌, ◌+◌, ◌<◌, ℕ, List, false, option_map, string_bytes, IfOk, IsFalse, IsSome, IsTrue, None, OnOk, bytes_eq};
 ghost use Rattle.jffs2_image.specs.Keeping.{files_of_keeper, kept_files, kept_of, looked_size};
+ghost use Rattle.jscan.specs.Image.{greatest_image};
 ghost use Rattle.jfolder.specs.Known.{nothing};
 ghost use Rattle.jhost.specs.ReadFolders.{last_kind};
 ghost use Rattle.jreport.specs.Reasons.{reason_of_kind};
@@ -13,16 +14,19 @@ use crate::refusing::Refusing;
 use jfolder::{FolderFault, HostFolder, Looked, Names};
 use jhost::ReadFolder;
 use jreport::Reason;
+use jscan::GREATEST_IMAGE;
 use std::alloc::{AllocError, Global};
 use std::io::Eprint;
 use std::rt::{Clock, Files};
 
-/// Reads files and keeps them.
+/// Reads files and keeps them, as far as their sizes are together no more than the greatest image.
 #[derive(Drop)]
 pub struct Keeper<'r, R: Files + AllocGlobal> {
     alloc: Global,
     loader: FileLoader<'r, R>,
     files: KeptFiles,
+    /// How many bytes may still be kept, by the sizes of the files.
+    left: u64,
 }
 
 impl<'r, R: Files + AllocGlobal> Keeper<'r, R> {
@@ -30,23 +34,31 @@ impl<'r, R: Files + AllocGlobal> Keeper<'r, R> {
     pub fn new(alloc: Global, loader: FileLoader<'r, R>) -> Self
         ensures none { (name : List ℕ) → kept_of result.files name ≡ None }
         ensures loader { result.loader ≡ loader.entry }
+        ensures left { result.left ≡ greatest_image }
     {
         Keeper {
             alloc,
             loader,
             files: KeptFiles::new(alloc),
+            left: GREATEST_IMAGE as u64,
         }
     }
 
     /// Whether the file of a name was read and is kept. It is not asked for more than its size,
-    /// where it has one.
+    /// where it has one. It is not even opened if it has no room beside those that are kept.
     fn keep(&mut self, name: String, size: u64) -> bool
         ensures kept { IsTrue result → IsSome (kept_of self.new.files (string_bytes name)) }
         ensures none { IsFalse result → (n : List ℕ)
             → kept_of self.new.files n ≡ kept_of self.old.files n }
         ensures others { (n : List ℕ) → bytes_eq (string_bytes name) n ≡ false
             → kept_of self.new.files n ≡ kept_of self.old.files n }
+        ensures long { self.old.left < size → IsFalse result × (self.new ≡ self.old) }
+        ensures left { IsTrue result → self.new.left + size ≡ self.old.left }
+        ensures same { IsFalse result → self.new.left ≡ self.old.left }
     {
+        if self.left < size {
+            return false;
+        }
         let Ok(file) = self.loader.open(name.as_str()) else {
             return false;
         };
@@ -54,12 +66,16 @@ impl<'r, R: Files + AllocGlobal> Keeper<'r, R> {
         let mut first = FirstBytes::new(file, most);
         let read = self.files.read(self.alloc, name, &mut first);
         self.loader.close(first.into_source());
-        read.is_ok()
+        if read.is_err() {
+            return false;
+        }
+        self.left -= size;
+        true
     }
 }
 
 /// A folder of the system. With a keeper each file that can be opened is read at once, so that it
-/// is not opened again.
+/// is not opened again, unless it has no room beside the others.
 #[derive(Drop)]
 pub struct KeepingFolder<'r, R: Files + AllocGlobal + Clock + Eprint> {
     folder: ReadFolder<'r, R>,

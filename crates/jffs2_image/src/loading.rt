@@ -1,8 +1,8 @@
 //! Files of the host that are read whole, and what is told of one that is not.
-ghost use Rattle.std.specs.Prelude.{◌≡◌, ◌≤◌, ℕ, List, Option, Err, IfErr, IfOk, OnOk, length, string_bytes};
+ghost use Rattle.std.specs.Prelude.{◌≡◌, ◌≤◌, ℕ, List, Option, Err, IfErr, IfOk, IsFalse, IsTrue, OnOk, length, string_bytes};
 ghost use Rattle.jscan.specs.Image.{greatest_image};
 ghost use Rattle.jffs2_image.specs.Host.{AreOf, AreRead, CountsFile, GivesFile, HasReason, IsReadFault, IsToldOf, ReadsFile, ReadsFilePart, TellsName, TellsReason, file_fault};
-ghost use Rattle.jffs2_image.specs.Writes.{IsPartUnread, IsTooLong, IsUnreadFile};
+ghost use Rattle.jffs2_image.specs.Writes.{AreTogetherTooLong, FitTogether, IsPartUnread, IsTooLong, IsUnreadFile};
 
 use crate::host::Loader;
 use flashbase::{LoadFault, load};
@@ -156,8 +156,38 @@ fn keep_name(
     }
 }
 
+/// Whether the files that lines name are together no longer than the greatest image, by what the
+/// host tells of them. One that is named again counts once.
+fn fit_together<L: Loader>(
+    alloc: Global,
+    loader: &L,
+    lines: &[Line<'_>],
+) -> Result<bool, AllocError>
+    ensures fit { IfOk result (λ fit. IsTrue fit → FitTogether (L.told loader.now) lines.now) }
+    ensures long { IfOk result
+        (λ fit. IsFalse fit → AreTogetherTooLong (L.told loader.now) lines.now) }
+{
+    // Their names alone are kept, so each has no bytes.
+    let mut counted = HostFiles::new(alloc);
+    let mut left = GREATEST_IMAGE as u64;
+    for line in lines {
+        if let Some(file) = line.action.file() {
+            if !counted.has(file) {
+                let length = loader.length(file);
+                if left < length {
+                    return Ok(false);
+                }
+                left -= length;
+                counted.insert(file.to_string(alloc)?, &[])?;
+            }
+        }
+    }
+    Ok(true)
+}
+
 /// The files that a listing names, each of which is read once; one that was read before is not read
-/// again. The name of one that can't be opened, or that failed, is kept in `unread`.
+/// again. None is read if they are together longer than the greatest image. The name of one that
+/// can't be opened, or that failed, is kept in `unread`.
 pub fn load_parts<'a, L: Loader>(
     alloc: Global,
     loader: &mut L,
@@ -166,11 +196,15 @@ pub fn load_parts<'a, L: Loader>(
 ) -> Result<HostFiles, ProgramFault<'a>>
     ensures unread { IfErr result (λ fault. IsPartUnread (L.told loader.old) lines.now fault) }
     ensures parts { IfOk result (λ parts. AreRead (L.told loader.old) lines.now parts) }
+    ensures together { OnOk result (FitTogether (L.told loader.old) lines.now) }
     ensures read { OnOk result (L.failures loader.new ≡ L.failures loader.old) }
     ensures fault { IfErr result
         (λ fault. IsReadFault (L.failures loader.old) (L.failures loader.new) fault) }
     ensures reason { IfErr result (TellsReason (L.last_reason loader.new)) }
 {
+    if !fit_together(alloc, loader, lines)? {
+        return Err(ProgramFault::Load(LoadFault::TooLarge));
+    }
     let mut parts = loader.read_before();
     for line in lines {
         if let Some(file) = line.action.file() {
