@@ -2,8 +2,9 @@
 """`build` and `compress` beside mkfs.jffs2, which compresses by default:
 python3 bench/compress.py FOLDER [RUNS] [CRATES]
 
-Makes three folders: 62 files of 1 MiB of text, 62 of 1 MiB of machine code, and 16,000 files of 1
-to 2,000 bytes of both. Of each it runs `build` on its listing and `compress` on what that made, and
+Makes seven folders: 62 files of 1 MiB of text, 62 of 1 MiB of machine code, 16,000 files of 1 to
+2,000 bytes of both, and 16 files of 1 MiB each of two letters at random, of four letters, of zeros
+that are written out, and of 259 random bytes over and over. Of each it runs `build` on its listing and `compress` on what that made, and
 mkfs.jffs2 (mtd-utils) on the folder, in little order and blocks of 64 KiB, one after the other, so
 that other work on the machine meets both. It prints the least processor time over the runs of
 `build` and `compress` together and of mkfs.jffs2, the ratio, the lengths of both images, their
@@ -12,6 +13,7 @@ is the one that `rt run` built here, or in CRATES; where CRATES is a file, that 
 """
 import glob
 import os
+import random
 import shutil
 import subprocess
 import sys
@@ -22,6 +24,7 @@ FOLDER = os.path.abspath(sys.argv[1])
 RUNS = int(sys.argv[2]) if len(sys.argv) > 2 else 3
 PROGRAM = program_of(sys.argv, 3)
 MEBIBYTE = 1 << 20
+MADE = ("two", "four", "zeros", "period")
 
 
 def bytes_of(pattern, size):
@@ -46,12 +49,28 @@ def write(folder, name, data):
         file.write(data)
 
 
+def made_content(kind):
+    """A MiB of a kind of content that is made."""
+    chance = random.Random(1)
+    if kind == "zeros":
+        # (a hole would be no data, and a block of zeros is written as any other)
+        return bytes(MEBIBYTE)
+    if kind == "period":
+        return (chance.randbytes(259) * (MEBIBYTE // 259 + 1))[:MEBIBYTE]
+    return bytes(chance.choices({"two": b"ab", "four": b"acgt"}[kind], k=MEBIBYTE))
+
+
 def folder_of(kind):
-    """One of the three folders."""
+    """One of the seven folders."""
     made = os.path.join(FOLDER, kind)
     if os.path.isdir(made):
         return made
     os.makedirs(made + ".new")
+    if kind in MADE:
+        for number in range(16):
+            write(made + ".new", f"file{number}", made_content(kind))
+        os.rename(made + ".new", made)
+        return made
     texts = bytes_of("/usr/share/**/*.[a-z][a-z]*", 64 * MEBIBYTE)
     codes = bytes_of("/usr/bin/*", 64 * MEBIBYTE)
     if kind == "small":
@@ -103,7 +122,7 @@ def main():
     if not shutil.which("mkfs.jffs2"):
         sys.exit("mkfs.jffs2 is missing: apt-get install mtd-utils")
     os.makedirs(FOLDER, exist_ok=True)
-    for kind in ("texts", "codes", "small"):
+    for kind in ("texts", "codes", "small", *MADE):
         compare(kind)
 
 
