@@ -1,0 +1,17 @@
+//! Tests of the edge, over a host in memory whose calls are known and fail where a test wants it.
+#![tactic(auto)]
+
+#[cfg(test)]
+mod calls;
+#[cfg(test)]
+mod checks;
+#[cfg(test)]
+mod damage;
+pub mod happened;
+#[cfg(test)]
+mod host;
+#[cfg(test)]
+mod info;
+pub mod plan;
+#[cfg(test)]
+mod shown;
