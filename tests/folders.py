@@ -243,6 +243,18 @@ def queues():
     verdict("a socket is", sockets == [(b"s", b"1711", b"0", b"/d/s\\x20x")], done)
 
 
+def more_names_than_16_bits_count():
+    """Each name of a directory of 65,600 is listed."""
+    os.makedirs("many")
+    for i in range(65600):
+        os.mkfifo(f"many/{i}")
+    done = run("listing", "--quiet", "many")
+    names = {line.rsplit(b"/", 1)[1] for line in done.out.splitlines() if line.startswith(b"fifo ")}
+    wanted = {b"%d" % i for i in range(65600)}
+    verdict("a directory of 65,600 names is listed whole", done.status == 0 and done.err == b"" and names == wanted, done)
+    shutil.rmtree("many")
+
+
 def devices():
     """Devices are listed with their numbers, built in both orders, and left out by `extract`."""
     if not IS_ROOT:
@@ -704,6 +716,7 @@ GROUPS = (
     packed,
     what_a_listing_cannot_say,
     queues,
+    more_names_than_16_bits_count,
     devices,
     any_name,
     owners_and_times,
