@@ -1,5 +1,5 @@
 -- What is told of a file that was not read whole.
-use Rattle.std.proofs.Common.{◌≡◌, ◌∙◌, ℕ, List, Option, Some, None, Err, refl, sym, subst}
+use Rattle.std.proofs.Common.{◌≡◌, ◌∙◌, ℕ, List, Option, Some, None, Err, refl, sym, subst, inr}
 use Rattle.std.specs.Prelude.{◌<◌, length, IfSome}
 use Rattle.flashbase.specs.Device.{CountsLoad}
 use Rattle.flashbase.specs.declared.source.LoadFault.{LoadFault}
