@@ -46,11 +46,11 @@ no_bytes e size (o ∷ row) = omega (arith, no_bytes e size row)
 
 -- ---- one form, and the first opening takes it or not
 
-taken_one : (size : ℕ) (o : Opening) (x : List ℕ) (xs : List (List ℕ)) → takes size o x ≡ true
+pub taken_one : (size : ℕ) (o : Opening) (x : List ℕ) (xs : List (List ℕ)) → takes size o x ≡ true
     → taken_from size o.place (x ∷ xs) ≡ suc (taken_from size (end_after size o.place (length x)) xs)
 taken_one size o x xs inside = cond-true (takes size o x) (suc (taken_from size (end_after size o.place (length x)) xs)) 0 inside
 
-taken_no : (size : ℕ) (o : Opening) (x : List ℕ) (xs : List (List ℕ)) → takes size o x ≡ false → taken_from size o.place (x ∷ xs) ≡ 0
+pub taken_no : (size : ℕ) (o : Opening) (x : List ℕ) (xs : List (List ℕ)) → takes size o x ≡ false → taken_from size o.place (x ∷ xs) ≡ 0
 taken_no size o x xs outside = cond-false (takes size o x) (suc (taken_from size (end_after size o.place (length x)) xs)) 0 outside
 
 after_taken : (size : ℕ) (o : Opening) (row : List Opening) (x : List ℕ) → takes size o x ≡ true → row_after size (o ∷ row) x ≡ moved_opening size o x ∷ row

@@ -13,3 +13,6 @@
 #![tactic(auto)]
 
 pub mod laws;
+mod placing;
+
+pub use crate::placing::{Stretch, StretchesOnFlash, len_with_stretches, put_with_stretches};
