@@ -1,6 +1,6 @@
 -- Laws of bytes that went out to openings, as they lie on the flash. Each is a statement: it holds
 -- since a public function's contract names it.
-use Rattle.std.specs.Prelude.{◌≡◌, ℕ, ◌*◌, ◌%◌, ◌<◌, ◌≤◌, IsTrue, List, length, take}
+use Rattle.std.specs.Prelude.{◌≡◌, ℕ, ◌*◌, ◌<◌, ◌≤◌, IsTrue, List, [], ◌++◌, length, map, take}
 use Rattle.std.specs.List.{AllByRecursion}
 use Rattle.jnode.specs.declared.order.Endian.{Endian}
 use Rattle.jscan.specs.Image.{is_block_size}
@@ -9,12 +9,12 @@ use Rattle.jlog.specs.Output.{output}
 use Rattle.jrow.specs.RowLeft.{with_row}
 use Rattle.jrow.specs.Written.{HoldSame}
 use Rattle.jrests.specs.Left.{IsLeftOfShares}
-use Rattle.jrests.specs.Openings.{AreOpeningsOf}
+use Rattle.jrests.specs.Openings.{AreUpwards, AreOpeningsOf}
 use Rattle.jrests.specs.Shares.{Share, shares}
 use Rattle.jrests.specs.declared.opening.Opening.{Opening}
-use Rattle.jopenings.specs.After.{output_to_all, fronts}
+use Rattle.jopenings.specs.After.{row_after_all, output_to_all, fronts}
 use Rattle.jopenings.specs.Exist.{flash_left}
-use Rattle.jopenings.specs.Stretches.{AreStretches, stretches_of, flash_with, length_with, image_with}
+use Rattle.jopenings.specs.Stretches.{AreStretches, stretches_of, longer, flash_with, image_with}
 use Rattle.jopenings.specs.declared.placing.Stretch.{Stretch}
 
 -- ---- what a stop leaves
@@ -57,6 +57,21 @@ SharesAreStretches = (e : Endian) (size blocks : ℕ) (base : List ℕ) (row : L
     (forms : List (List ℕ)) → IsTrue (is_block_size size)
     → AreOpeningsOf e size blocks base row → AllByRecursion (FitsBlock size) forms
     → AreStretches size 0 blocks (stretches_of e size (shares size row forms))
+
+-- To the openings of a row nothing went out at first,
+abbrev pub StretchesBegin : Type 0
+StretchesBegin = (e : Endian) (size : ℕ) (row : List Opening)
+    → stretches_of e size (shares size row [])
+    ≡ map (λ o. record { block = o.block; place = o.place; len = 0 }) row
+
+-- and more forms make each stretch longer by what goes out for them to its block: to what is left
+-- of the row after the first ones.
+abbrev pub StretchesGoOn : Type 0
+StretchesGoOn = (e : Endian) (size blocks : ℕ) (row : List Opening) (forms more : List (List ℕ))
+    → AreUpwards 0 blocks row
+    → stretches_of e size (shares size row (forms ++ more))
+    ≡ longer (stretches_of e size (shares size (row_after_all size row forms) more))
+    (stretches_of e size (shares size row forms))
 
 -- ---- blank blocks
 

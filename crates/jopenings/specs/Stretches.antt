@@ -27,6 +27,20 @@ stretch_of e size share = record {
 abbrev pub stretches_of : Endian → ℕ → List Share → List Stretch
 stretches_of e size shares = map (stretch_of e size) shares
 
+-- ---- more bytes
+
+-- how many bytes went out to a block
+abbrev pub len_in : List Stretch → ℕ → ℕ
+len_in [] b = 0
+len_in (s ∷ stretches) b = if s.block == b then s.len else len_in stretches b
+
+-- a stretch that more went out to, and stretches
+abbrev pub longer_by : List Stretch → Stretch → Stretch
+longer_by more s = record s { len = s.len + len_in more s.block }
+
+abbrev pub longer : List Stretch → List Stretch → List Stretch
+longer more stretches = map (longer_by more) stretches
+
 -- ---- the flash
 
 -- the block of a stretch with these bytes from its place on, and erased behind them

@@ -5,7 +5,7 @@ ghost use Rattle.jopenings.specs.AfterLaws.{AllRowsGoOn, BytesAreCounted, Earlie
 ghost use Rattle.jopenings.specs.Done.{OpeningsBegin, DoneSurvivesInOpenings, DoneGoesOnInOpenings};
 ghost use Rattle.jopenings.specs.Exist.{SomeAreLeftInOpenings};
 ghost use Rattle.jopenings.specs.FrontLaws.{FrontsHoldSame, FrontsPlaceSame};
-ghost use Rattle.jopenings.specs.StretchLaws.{FlashWithSharesIsLeft, FlashWithIsWhole, SameIsLeftOfShares, ImageWithSharesIsLeft, SharesAreStretches, FrontsWriteSame};
+ghost use Rattle.jopenings.specs.StretchLaws.{FlashWithSharesIsLeft, FlashWithIsWhole, SameIsLeftOfShares, ImageWithSharesIsLeft, SharesAreStretches, StretchesBegin, StretchesGoOn, FrontsWriteSame};
 
 /// More nodes go on in what is left of a row, as if it had begun there.
 pub fn row_goes_on()
@@ -50,9 +50,12 @@ pub fn image_with_shares_is_left()
     ensures left { ImageWithSharesIsLeft }
 {}
 
-/// What goes out to a row of openings lies in stretches, upwards, each within its block.
+/// What goes out to a row of openings lies in stretches, upwards, each within its block. None has
+/// bytes at first, and more nodes make them longer.
 pub fn shares_are_stretches()
-    ensures { SharesAreStretches }
+    ensures within { SharesAreStretches }
+    ensures begin { StretchesBegin }
+    ensures go_on { StretchesGoOn }
 {}
 
 /// What goes out to openings of blank blocks makes the same flash as what goes out to these blocks

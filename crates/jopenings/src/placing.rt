@@ -1,13 +1,13 @@
 //! An image with bytes in its openings, put to a sink.
 
-ghost use Rattle.std.specs.Prelude.{◌≡◌, ℕ, ◌*◌, ◌<◌, ◌≤◌, ◌+◌, ◌-◌, ◌^◌, ◌++◌, true, IfErr, length, min, take};
+ghost use Rattle.std.specs.Prelude.{◌≡◌, ℕ, ◌*◌, ◌<◌, ◌≤◌, ◌+◌, ◌-◌, ◌^◌, ◌++◌, true, IfErr, length, take};
 ghost use Rattle.std.specs.Io.KnownBytes.{Appends};
-ghost use Rattle.flashbase.specs.Bytes.{erased};
 ghost use Rattle.flashbase.specs.Sinks.{PutsTo};
 ghost use Rattle.jscan.specs.Image.{is_block_size, greatest_image};
 ghost use Rattle.jopenings.specs.Stretches.{AreStretches, block_behind, block_with, flash_with, end_in, length_with};
 
-use flashbase::{Part, PutFault, Sink, put_all};
+use crate::pieces::put_part;
+use flashbase::{Part, PutFault, Sink};
 use jrow::block_part;
 use jscan::Geometry;
 
@@ -28,64 +28,6 @@ pub struct StretchesOnFlash<'a> {
     pub geometry: Geometry,
     pub blocks: u32,
     pub stretches: &'a [Stretch],
-}
-
-/// Erased bytes go out in pieces of this many.
-const PIECE: usize = 256;
-
-/// Puts bytes behind `before` others. A fault counts those too.
-fn put_behind<S: Sink>(sink: &mut S, before: usize, bytes: &[u8]) -> Result<(), PutFault>
-    requires { before + length bytes.now < 2 ^ 64 }
-    ensures puts { PutsTo S.Sink sink.old sink.new bytes.now result }
-    ensures part { IfErr result (λ fault. (before ≤ fault.taken)
-        × (fault.taken < before + length bytes.now)
-        × Appends (S.Sink.taken sink.old) (S.Sink.taken sink.new)
-        (take (fault.taken - before) bytes.now)) }
-{
-    match put_all(sink, bytes) {
-        Ok(()) => Ok(()),
-        Err(PutFault { taken }) => Err(PutFault {
-            taken: before + taken,
-        }),
-    }
-}
-
-/// Puts erased bytes behind `before` others. A fault counts those too.
-fn put_clear<S: Sink>(sink: &mut S, before: usize, count: usize) -> Result<(), PutFault>
-    requires { before + count < 2 ^ 64 }
-    ensures puts { PutsTo S.Sink sink.old sink.new (erased count) result }
-    ensures part { IfErr result (λ fault. (before ≤ fault.taken) × (fault.taken < before + count)
-        × Appends (S.Sink.taken sink.old) (S.Sink.taken sink.new)
-        (erased (fault.taken - before))) }
-{
-    let piece = [0xFFu8; PIECE];
-    let mut done = 0;
-    while done < count {
-        let n = (count - done).min(PIECE);
-        put_behind(sink, before + done, &piece[..n])?;
-        done += n;
-    }
-    Ok(())
-}
-
-/// Puts the first `len` bytes of a part behind `before` others. A fault counts those too.
-fn put_part<S: Sink>(
-    sink: &mut S,
-    before: usize,
-    part: &Part<'_>,
-    len: usize,
-) -> Result<(), PutFault>
-    requires within { len ≤ length part.now }
-    requires small { before + len < 2 ^ 64 }
-    ensures puts { PutsTo S.Sink sink.old sink.new (take len part.now) result }
-    ensures part { IfErr result (λ fault. (before ≤ fault.taken) × (fault.taken < before + len)
-        × Appends (S.Sink.taken sink.old) (S.Sink.taken sink.new)
-        (take (fault.taken - before) part.now)) }
-{
-    let present = part.present();
-    let held = present.len().min(len);
-    put_behind(sink, before, &present[..held])?;
-    put_clear(sink, before + held, len - held)
 }
 
 /// A block: what lies in front of the bytes that went out to it, and what from there on.
@@ -115,14 +57,7 @@ fn put_halves<S: Sink>(
     put_part(sink, before + held, &block.behind, len - held)
 }
 
-/// Stretches, and what went out to them.
-#[derive(Clone, Copy)]
-struct Written<'a> {
-    stretches: &'a [Stretch],
-    bytes: &'a [u8],
-}
-
-/// The block of the first stretch.
+/// The block of a stretch, with what went out to it.
 fn halves_of<'a>(
     geometry: Geometry,
     image: &'a [u8],
@@ -142,14 +77,21 @@ fn halves_of<'a>(
     }
 }
 
-/// What goes to a block, and what to those behind it.
+/// Stretches, and what went out to them.
+#[derive(Clone, Copy)]
+struct Written<'a> {
+    stretches: &'a [Stretch],
+    bytes: &'a [u8],
+}
+
+/// A block, and what is left for those behind it.
 #[derive(Drop)]
 struct Step<'a> {
     block: Halves<'a>,
     later: Written<'a>,
 }
 
-/// A block of the flash, and what is left for those behind it.
+/// A block of the flash, of which no stretch is left for those in front of it.
 fn step_to<'a>(
     flash: &StretchesOnFlash<'_>,
     image: &'a [u8],
@@ -202,7 +144,8 @@ fn end_in(geometry: Geometry, stretch: &Stretch, count: usize) -> usize
     stretch.block as usize * geometry.block as usize + stretch.place as usize + count
 }
 
-/// How long an image is with these bytes in its openings.
+/// How many bytes an image has with these in its openings: as many as it had, or up to the last of
+/// these.
 pub fn len_with_stretches(flash: &StretchesOnFlash<'_>, image: &[u8], bytes: &[u8]) -> usize
     requires small { flash.now.blocks * flash.now.geometry.block ≤ greatest_image }
     requires stretches { AreStretches flash.now.geometry.block 0 flash.now.blocks
@@ -220,7 +163,8 @@ pub fn len_with_stretches(flash: &StretchesOnFlash<'_>, image: &[u8], bytes: &[u
     len
 }
 
-/// Puts the first `len` bytes of an image with these bytes in its openings, block by block.
+/// Puts the first `len` bytes of the flash of an image after these bytes went out to its stretches,
+/// one after the other. It is put block by block, in time linear in all of these.
 pub fn put_with_stretches<S: Sink>(
     sink: &mut S,
     flash: &StretchesOnFlash<'_>,

@@ -5,7 +5,7 @@ use Rattle.flashbase.specs.Bytes.{erased}
 use Rattle.flashbase.specs.Device.{PutsPart}
 use Rattle.jlog.proofs.PutLemmas.{erased_more, erased_failed}
 use Rattle.jrow.proofs.BehindLemmas.{goes_on, clear_stopped}
-use Rattle.jopenings.proofs.placing.put_clear.Goals as goal
+use Rattle.jopenings.proofs.pieces.put_clear.Goals as goal
 
 pub returns-in_err-put_behind-clause-puts : goal.returns-in_err-put_behind-clause-puts
 returns-in_err-put_behind-clause-puts g c =

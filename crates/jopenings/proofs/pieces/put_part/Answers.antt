@@ -6,7 +6,7 @@ use Rattle.flashbase.specs.Device.{Puts}
 use Rattle.flashbase.proofs.DeviceLemmas.{first_failed, then_puts}
 use Rattle.jrow.proofs.BehindLemmas.{goes_on, present_stopped, missing_stopped}
 use Rattle.jrow.proofs.PlacingLemmas.{part_parts}
-use Rattle.jopenings.proofs.placing.put_part.Goals as goal
+use Rattle.jopenings.proofs.pieces.put_part.Goals as goal
 
 pub returns-in_err-put_behind-clause-puts : goal.returns-in_err-put_behind-clause-puts
 returns-in_err-put_behind-clause-puts g c =
