@@ -83,3 +83,11 @@ FrontsWriteSame = (e : Endian) (size blocks : ℕ) (base row : List ℕ) (forms 
     → let ss = shares size (fronts row) forms in
     flash_with size blocks base (stretches_of e size ss) (output_to_all e size ss)
     ≡ with_row size blocks base row (output e size 0 forms)
+
+-- And where what goes out stops at some byte, so it may in the row.
+abbrev pub FrontsStopSame : Type 0
+FrontsStopSame = (e : Endian) (size blocks k : ℕ) (base row : List ℕ) (forms : List (List ℕ))
+    → IsTrue (is_block_size size) → AllByRecursion (FitsBlock size) forms
+    → let ss = shares size (fronts row) forms in
+    (n : ℕ) × (flash_with size blocks base (stretches_of e size ss) (take k (output_to_all e size ss))
+    ≡ with_row size blocks base row (take n (output e size 0 forms)))
