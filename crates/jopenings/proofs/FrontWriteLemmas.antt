@@ -20,13 +20,13 @@ use Rattle.jlog.proofs.ByteLemmas.{block_byte, past_cut}
 use Rattle.jlog.proofs.IntactLemmas.{first_out, output_is_long}
 use Rattle.jlog.proofs.OutputLemmas.{output_over}
 use Rattle.jlog.proofs.RoomLemmas.{end_is_within}
-use Rattle.jrow.specs.RowLeft.{index_in, block_with as block_with_row}
+use Rattle.jrow.specs.RowLeft.{index_in, block_with}
 use Rattle.jrow.proofs.BlockLemmas.{same_for_each}
 use Rattle.jrow.proofs.MovedLemmas.{log_is_moved}
 use Rattle.jrests.specs.Shares.{taken_from, Share, shares}
 use Rattle.jrests.proofs.ShareLemmas.{taken_fits, all_first, all_behind}
 use Rattle.jopenings.specs.After.{takes, output_to_all, fronts}
-use Rattle.jopenings.specs.Stretches.{stretch_of, stretches_of, block_behind, block_with}
+use Rattle.jopenings.specs.Stretches.{share_stretch, stretches_of, block_behind, block_in}
 use Rattle.jopenings.specs.StretchLaws.{FrontsWriteSame, FrontsStopSame}
 use Rattle.jopenings.proofs.AfterLemmas.{taken_one, taken_no}
 use Rattle.jopenings.proofs.ExistLemmas.{behind_byte}
@@ -137,8 +137,8 @@ later_same e size j forms some words fits =
     ∙ (ap (λ (n : ℕ). get_or all n 0xFF) there ∙ sym (block_byte size all (j + 1) i small))))
 
 block_same : (e : Endian) (size b : ℕ) (base row : List ℕ) (forms : List (List ℕ)) → 0 < size → size % 4 ≡ 0 → AllFit size forms
-    → block_with size base (stretches_of e size (shares size (fronts row) forms)) (output_to_all e size (shares size (fronts row) forms)) b
-    ≡ block_with_row size base row (output e size 0 forms) b
+    → block_in size base (stretches_of e size (shares size (fronts row) forms)) (output_to_all e size (shares size (fronts row) forms)) b
+    ≡ block_with size base row (output e size 0 forms) b
 block_same e size b base [] forms some words fits = refl
 block_same e size b base (c ∷ cs) forms some words fits =
     let n : ℕ = taken_from size 0 forms in
@@ -148,15 +148,15 @@ block_same e size b base (c ∷ cs) forms some words fits =
     let others : List ℕ = output_to_all e size rest in
     let all : List ℕ = output e size 0 forms in
     let block : List ℕ = block_of size base b in
-    ap₂ (λ (l m : List ℕ). cond (c == b) (block_behind size base (stretch_of e size share) l) (block_with size base (stretches_of e size rest) m b))
+    ap₂ (λ (l m : List ℕ). cond (c == b) (block_behind size base (share_stretch e size share) l) (block_in size base (stretches_of e size rest) m b))
     (take-append_seam out others) (drop-append_seam out others)
     ∙ elim (cases_Bool (c == b)) [
       | inl same ↦
-          cond-true (c == b) (block_behind size base (stretch_of e size share) out) (block_with size base (stretches_of e size rest) others b) same
+          cond-true (c == b) (block_behind size base (share_stretch e size share) out) (block_in size base (stretches_of e size rest) others b) same
           ∙ (first_same e size (block_of size base c) forms some words fits
           ∙ sym (ap (λ (o : Option ℕ). unwrap_or (option_map (block_of size all) o) block) (cond-true (c == b) (Some 0) (option_map (λ index. index + 1) (index_in cs b)) same)))
       | inr other ↦
-          cond-false (c == b) (block_behind size base (stretch_of e size share) out) (block_with size base (stretches_of e size rest) others b) other
+          cond-false (c == b) (block_behind size base (share_stretch e size share) out) (block_in size base (stretches_of e size rest) others b) other
           ∙ (block_same e size b base cs (drop n forms) some words (all_behind (FitsBlock size) n forms fits)
           ∙ (by (index_in cs b)
           ∙ sym (ap (λ (o : Option ℕ). unwrap_or (option_map (block_of size all) o) block) (cond-false (c == b) (Some 0) (option_map (λ index. index + 1) (index_in cs b)) other))))
@@ -170,7 +170,7 @@ block_same e size b base (c ∷ cs) forms some words fits =
 pub fronts_write_same : FrontsWriteSame
 fronts_write_same e size blocks base row forms size_is fits =
     let ss : List Share = shares size (fronts row) forms in
-    same_for_each (block_with size base (stretches_of e size ss) (output_to_all e size ss)) (block_with_row size base row (output e size 0 forms)) (below blocks)
+    same_for_each (block_in size base (stretches_of e size ss) (output_to_all e size ss)) (block_with size base row (output e size 0 forms)) (below blocks)
     (λ b. block_same e size b base row forms (omega (arith, readable_some size size_is)) (readable_words size size_is) fits)
 
 -- ---- up to some byte
@@ -219,7 +219,7 @@ row_later size b base written later (Some j) same = same j
 
 -- nothing went out yet: the blocks are erased
 none_same : (e : Endian) (size b : ℕ) (base row : List ℕ) (forms : List (List ℕ))
-    → block_with size base (stretches_of e size (shares size (fronts row) forms)) [] b ≡ block_with_row size base row [] b
+    → block_in size base (stretches_of e size (shares size (fronts row) forms)) [] b ≡ block_with size base row [] b
 none_same e size b base [] forms = refl
 none_same e size b base (c ∷ cs) forms =
     let n : ℕ = taken_from size 0 forms in
@@ -230,14 +230,14 @@ none_same e size b base (c ∷ cs) forms =
     let block : List ℕ = block_of size base b in
     let none : take len empty ≡ [] = take_all len empty (omega arith) in
     let gone : drop len empty ≡ [] = drop_of_length-le empty (omega arith) in
-    ap₂ (λ (l m : List ℕ). cond (c == b) (block_behind size base (stretch_of e size share) l) (block_with size base (stretches_of e size rest) m b)) none gone
+    ap₂ (λ (l m : List ℕ). cond (c == b) (block_behind size base (share_stretch e size share) l) (block_in size base (stretches_of e size rest) m b)) none gone
     ∙ elim (cases_Bool (c == b)) [
       | inl same ↦
-          cond-true (c == b) (block_behind size base (stretch_of e size share) []) (block_with size base (stretches_of e size rest) [] b) same
+          cond-true (c == b) (block_behind size base (share_stretch e size share) []) (block_in size base (stretches_of e size rest) [] b) same
           ∙ (front_same size (block_of size base c) [] [] (λ i small. refl)
           ∙ sym (ap (λ (o : Option ℕ). unwrap_or (option_map (block_of size []) o) block) (cond-true (c == b) (Some 0) (option_map (λ index. index + 1) (index_in cs b)) same)))
       | inr other ↦
-          cond-false (c == b) (block_behind size base (stretch_of e size share) []) (block_with size base (stretches_of e size rest) [] b) other
+          cond-false (c == b) (block_behind size base (share_stretch e size share) []) (block_in size base (stretches_of e size rest) [] b) other
           ∙ (none_same e size b base cs (drop n forms)
           ∙ (row_later size b base [] [] (index_in cs b) (λ j. same_bytes size j (j + 1) [] [] (λ i small. refl))
           ∙ sym (ap (λ (o : Option ℕ). unwrap_or (option_map (block_of size []) o) block) (cond-false (c == b) (Some 0) (option_map (λ index. index + 1) (index_in cs b)) other))))
@@ -246,12 +246,12 @@ none_same e size b base (c ∷ cs) forms =
 -- one block and those behind it, from what is known of each
 joined_same : (e : Endian) (size c b k : ℕ) (base cs : List ℕ) (forms : List (List ℕ)) (written later : List ℕ)
     → block_of size (front_of (block_of size base c) 0 ++ take k (output e size 0 (take (taken_from size 0 forms) forms))) 0 ≡ block_of size written 0
-    → block_with size base (stretches_of e size (shares size (fronts cs) (drop (taken_from size 0 forms) forms)))
+    → block_in size base (stretches_of e size (shares size (fronts cs) (drop (taken_from size 0 forms) forms)))
     (take (k - length (output e size 0 (take (taken_from size 0 forms) forms))) (output_to_all e size (shares size (fronts cs) (drop (taken_from size 0 forms) forms)))) b
-    ≡ block_with_row size base cs later b
+    ≡ block_with size base cs later b
     → ((j : ℕ) → block_of size later j ≡ block_of size written (j + 1))
-    → block_with size base (stretches_of e size (shares size (fronts (c ∷ cs)) forms)) (take k (output_to_all e size (shares size (fronts (c ∷ cs)) forms))) b
-    ≡ block_with_row size base (c ∷ cs) written b
+    → block_in size base (stretches_of e size (shares size (fronts (c ∷ cs)) forms)) (take k (output_to_all e size (shares size (fronts (c ∷ cs)) forms))) b
+    ≡ block_with size base (c ∷ cs) written b
 joined_same e size c b k base cs forms written later here there shifts =
     let n : ℕ = taken_from size 0 forms in
     let share : Share = (at_place c 0, take n forms) in
@@ -259,9 +259,9 @@ joined_same e size c b k base cs forms written later here there shifts =
     let out : List ℕ = output e size 0 (take n forms) in
     let others : List ℕ = output_to_all e size rest in
     let block : List ℕ = block_of size base b in
-    let mine : List ℕ = block_behind size base (stretch_of e size share) (take k out) in
-    let theirs : List ℕ = block_with size base (stretches_of e size rest) (take (k - length out) others) b in
-    ap₂ (λ (l m : List ℕ). cond (c == b) (block_behind size base (stretch_of e size share) l) (block_with size base (stretches_of e size rest) m b))
+    let mine : List ℕ = block_behind size base (share_stretch e size share) (take k out) in
+    let theirs : List ℕ = block_in size base (stretches_of e size rest) (take (k - length out) others) b in
+    ap₂ (λ (l m : List ℕ). cond (c == b) (block_behind size base (share_stretch e size share) l) (block_in size base (stretches_of e size rest) m b))
     (cut_first k out others) (cut_others k out others)
     ∙ elim (cases_Bool (c == b)) [
       | inl same ↦
@@ -276,8 +276,8 @@ joined_same e size c b k base cs forms written later here there shifts =
     ]
 
 stop_same : (e : Endian) (size k : ℕ) (base row : List ℕ) (forms : List (List ℕ)) → 0 < size → size % 4 ≡ 0 → AllFit size forms
-    → (n : ℕ) × ((b : ℕ) → block_with size base (stretches_of e size (shares size (fronts row) forms)) (take k (output_to_all e size (shares size (fronts row) forms))) b
-    ≡ block_with_row size base row (take n (output e size 0 forms)) b)
+    → (n : ℕ) × ((b : ℕ) → block_in size base (stretches_of e size (shares size (fronts row) forms)) (take k (output_to_all e size (shares size (fronts row) forms))) b
+    ≡ block_with size base row (take n (output e size 0 forms)) b)
 stop_same e size k base [] forms some words fits = (0, λ b. refl)
 stop_same e size k base (c ∷ cs) forms some words fits =
     let m : ℕ = taken_from size 0 forms in
@@ -312,20 +312,18 @@ stop_same e size k base (c ∷ cs) forms some words fits =
           let here : block_of size (front_of block 0 ++ take k out) 0 ≡ block_of size (take k all) 0 =
           front_same size block (take k out) (take k all) (λ i small. cut_same k i out all (λ less. sym (it.here i (omega (arith, small))))) in
           let shifts : (j : ℕ) → block_of size [] j ≡ block_of size (take k all) (j + 1) =
-          λ j. same_bytes size j (j + 1) [] (take k all) (λ i small. sym (past_cut all k ((j + 1) * size + i) (omega (arith, within, short)))) in
-          (
+          λ j. same_bytes size j (j + 1) [] (take k all) (λ i small. sym (past_cut all k ((j + 1) * size + i) (omega (arith, within, short)))) in (
             k,
             λ b.
                 joined_same e size c b k base cs forms (take k all) [] here
-                (ap (λ (p : ℕ). block_with size base (stretches_of e size (shares size (fronts cs) (drop m forms))) (take p others) b) none ∙ none_same e size b base cs (drop m forms)) shifts,
+                (ap (λ (p : ℕ). block_in size base (stretches_of e size (shares size (fronts cs) (drop m forms))) (take p others) b) none ∙ none_same e size b base cs (drop m forms)) shifts,
           )
     ]
 
 pub fronts_stop_same : FrontsStopSame
 fronts_stop_same e size blocks k base row forms size_is fits =
     let ss : List Share = shares size (fronts row) forms in
-    let it = stop_same e size k base row forms (omega (arith, readable_some size size_is)) (readable_words size size_is) fits in
-    (
+    let it = stop_same e size k base row forms (omega (arith, readable_some size size_is)) (readable_words size size_is) fits in (
       it.0,
-      same_for_each (block_with size base (stretches_of e size ss) (take k (output_to_all e size ss))) (block_with_row size base row (take it.0 (output e size 0 forms))) (below blocks) it.1,
+      same_for_each (block_in size base (stretches_of e size ss) (take k (output_to_all e size ss))) (block_with size base row (take it.0 (output e size 0 forms))) (below blocks) it.1,
     )
