@@ -1,6 +1,6 @@
 -- An image with bytes in its openings, block by block.
-use Rattle.std.proofs.Common.{◌≡◌, ℕ, zero, suc, ◌+◌, ◌-◌, ◌*◌, ◌<◌, ◌≤◌, false, cond, List, [], ◌∷◌, ◌++◌, length, take, drop, get_or, min, refl, sym, ap, ap₂, subst, ◌∙◌, arith, Option, append_assoc, length-append, length-take, take-append-drop}
-use Rattle.std.specs.Prelude.{◌==◌, max}
+use Rattle.std.proofs.Common.{◌≡◌, ℕ, zero, suc, ◌+◌, ◌-◌, ◌*◌, ◌<◌, ◌≤◌, false, List, [], ◌∷◌, ◌++◌, length, take, drop, get_or, min, refl, sym, ap, ap₂, subst, ◌∙◌, arith, Option, append_assoc, length-append, length-take, take-append-drop}
+use Rattle.std.specs.Prelude.{◌==◌}
 use Rattle.std.specs.Io.KnownBytes.{Appends}
 use Rattle.std.proofs.KnownBytes.{Appends-trans}
 use Rattle.std.proofs.lemmas.Bool.{cond-false}
@@ -10,7 +10,7 @@ use Rattle.jscan.specs.Image.{block_of}
 use Rattle.jlog.specs.Left.{front_of}
 use Rattle.jrow.proofs.BehindLemmas.{StopsBehind}
 use Rattle.jrow.proofs.WithRowLemmas.{not_same}
-use Rattle.jopenings.specs.Stretches.{AreStretches, block_in, end_in, end_of_last}
+use Rattle.jopenings.specs.Stretches.{AreStretches, block_in}
 use Rattle.jopenings.specs.declared.placing.Stretch.{Stretch}
 use Rattle.jopenings.proofs.StretchLemmas.{cut_first, cut_others}
 

@@ -1,6 +1,6 @@
 -- What went out to openings, as it lies on the flash.
-use Rattle.std.proofs.Common.{◌≡◌, ℕ, zero, suc, ◌+◌, ◌-◌, ◌*◌, ◌/◌, ◌%◌, ◌<◌, ◌≤◌, Bool, true, false, cond, List, [], ◌∷◌, ◌++◌, length, map, take, drop, get_or, refl, sym, ap, ap₂, subst, ◌∙◌, arith, inl, inr, Some, Contains, length-take, length-drop}
-use Rattle.std.specs.Prelude.{IsTrue, ◌==◌, min, max, flat_map}
+use Rattle.std.proofs.Common.{◌≡◌, ℕ, ◌+◌, ◌-◌, ◌*◌, ◌/◌, ◌%◌, ◌<◌, ◌≤◌, false, cond, List, [], ◌∷◌, ◌++◌, length, take, drop, get_or, refl, sym, ap, ap₂, subst, ◌∙◌, arith, inl, inr, length-take, length-drop}
+use Rattle.std.specs.Prelude.{◌==◌, min}
 use Rattle.std.specs.List.{AllByRecursion}
 use Rattle.std.proofs.Math.ListN.{drop_of_length-le}
 use Rattle.std.proofs.Math.Nat.{mul-le-mul_right}
@@ -10,7 +10,7 @@ use Rattle.std.proofs.lemmas.List.{ext_get_or, get_or-take, get_or_past, take-ap
 use Rattle.flashbase.specs.Lists.{below}
 use Rattle.flashbase.proofs.ListLemmas.{length-below, get_or-below}
 use Rattle.jnode.specs.declared.order.Endian.{Endian}
-use Rattle.jscan.specs.Image.{is_block_size, block_of}
+use Rattle.jscan.specs.Image.{block_of}
 use Rattle.jscan.proofs.PartLemmas.{block_length}
 use Rattle.jscan.proofs.StreamCounts.{readable_some, readable_words}
 use Rattle.jlog.specs.Left.{IsLeft, front_of}
@@ -29,8 +29,8 @@ use Rattle.jrests.specs.Shares.{taken_from, Share, shares, output_to}
 use Rattle.jrests.specs.declared.opening.Opening.{Opening}
 use Rattle.jrests.proofs.ShareLemmas.{taken_fits, all_first, all_behind}
 use Rattle.jopenings.specs.After.{output_to_all}
-use Rattle.jopenings.specs.Exist.{block_after, block_left, flash_left}
-use Rattle.jopenings.specs.Stretches.{AreStretches, share_stretch, stretches_of, block_behind, block_in, flash_with, end_in, end_of_last, length_after, image_with}
+use Rattle.jopenings.specs.Exist.{block_after, block_left}
+use Rattle.jopenings.specs.Stretches.{AreStretches, share_stretch, stretches_of, block_behind, block_in, flash_with, end_in, end_of_last, length_after}
 use Rattle.jopenings.specs.StretchLaws.{FlashWithSharesIsLeft, FlashWithIsWhole, SameIsLeftOfShares, ImageWithSharesIsLeft, SharesAreStretches}
 use Rattle.jopenings.specs.declared.placing.Stretch.{Stretch}
 use Rattle.jopenings.proofs.ExistLemmas.{opening_within, opening_aligned, front_byte, behind_byte, some_are_left}

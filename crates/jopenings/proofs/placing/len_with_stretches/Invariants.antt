@@ -1,4 +1,4 @@
-use Rattle.std.proofs.Common.{◌≡◌, drop, length}
+use Rattle.std.proofs.Common.{◌≡◌, drop}
 use Rattle.std.specs.Prelude.{max}
 use Rattle.jopenings.specs.Stretches.{end_of_last, length_after}
 use Rattle.jopenings.proofs.placing.len_with_stretches.Given as goal

@@ -1,4 +1,4 @@
-use Rattle.std.proofs.Common.{◌≡◌, ◌∙◌, ℕ, List, [], ◌++◌, refl, sym, ap, ap₂, arith, append-nil}
+use Rattle.std.proofs.Common.{◌≡◌, ◌∙◌, ℕ, List, ◌++◌, sym, ap₂, append-nil}
 use Rattle.jscan.specs.Image.{block_of}
 use Rattle.jopenings.specs.Stretches.{block_in}
 use Rattle.jopenings.specs.declared.placing.Stretch.{Stretch}
