@@ -1,0 +1,3 @@
+pub mod FreeLemmas
+pub mod OutLemmas
+pub mod RowLemmas

@@ -35,11 +35,13 @@ pub(crate) struct Spot {
 pub(crate) fn begin_of(openings: &[Opening], passed: usize) -> Cursor
     ensures { left_at openings.now result ≡ drop passed openings.now }
 {
-    let place = match openings.get(passed) {
-        Some(opening) => opening.place,
-        None => 0,
-    };
-    Cursor { passed, place }
+    match openings.get(passed) {
+        Some(opening) => Cursor {
+            passed,
+            place: opening.place,
+        },
+        None => Cursor { passed, place: 0 },
+    }
 }
 
 /// Where the next node, of `len` bytes, goes: into the first opening, from the cursor on, whose
