@@ -1,3 +1,10 @@
+pub mod AcceptLemmas
+pub mod BeginLemmas
+pub mod FormLemmas
 pub mod FreeLemmas
 pub mod OutLemmas
+pub mod Parts
+pub mod PutLemmas
 pub mod RowLemmas
+pub mod RunLemmas
+pub mod SurviveLemmas
