@@ -26,6 +26,7 @@ use Rattle.jupdate.specs.Writing.{LogIn, IsPutIn, IsPutPartIn}
 -- where it goes on, while it is not broken
 pub record IsGoingIn (size blocks : ℕ) (row : List Opening) (x : Indexed) : Type 0 where
   pub openings : AllByRecursion (IsOpen size blocks) row
+  pub few : length row ≤ blocks
   pub consistent : IsConsistent x
 
 -- a session: its log, and whether an operation was written in part

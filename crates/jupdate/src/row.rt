@@ -1,6 +1,6 @@
 //! Where nodes go in a row of openings.
 
-ghost use Rattle.std.specs.Prelude.{◌≡◌, ◌≤◌, ◌+◌, drop, IsTrue};
+ghost use Rattle.std.specs.Prelude.{◌≡◌, ◌≤◌, ◌+◌, drop, length, IsTrue};
 ghost use Rattle.std.specs.List.{AllByRecursion};
 ghost use Rattle.flashbase.specs.Bytes.{pad4_of};
 ghost use Rattle.jnode.specs.Writing.{totlen_most};
@@ -33,7 +33,8 @@ pub(crate) struct Spot {
 
 /// The beginning of an opening, or the end of the row.
 pub(crate) fn begin_of(openings: &[Opening], passed: usize) -> Cursor
-    ensures { left_at openings.now result ≡ drop passed openings.now }
+    ensures left { left_at openings.now result ≡ drop passed openings.now }
+    ensures passed { result.passed ≡ passed }
 {
     match openings.get(passed) {
         Some(opening) => Cursor {
@@ -83,6 +84,7 @@ pub(crate) fn behind(spot: Spot, len: u32) -> Cursor
 pub(crate) fn free_in(flash: Blocks, openings: &[Opening], cursor: Cursor) -> u64
     requires flash { IsTrue (is_writable_flash flash.size flash.count) }
     requires openings { AllByRecursion (IsOpen flash.size flash.count) (left_at openings.now cursor) }
+    requires few { length (left_at openings.now cursor) ≤ flash.count }
     ensures { result ≡ free_in flash.size (left_at openings.now cursor) }
 {
     let mut sum = 0;
