@@ -8,3 +8,4 @@ pub mod PutLemmas
 pub mod RowLemmas
 pub mod RunLemmas
 pub mod SurviveLemmas
+pub mod TurnLemmas
