@@ -1,13 +1,14 @@
 -- A form that is put into the block of an opening, or a beginning of it.
-use Rattle.std.proofs.Common.{◌≡◌, ℕ, ◌+◌, ◌-◌, ◌*◌, ◌%◌, ◌<◌, ◌≤◌, leb, List, [], ◌∷◌, ◌++◌, length, map, take, refl, sym, ap, ◌∙◌, subst, arith, length-append, append-nil, Option}
-use Rattle.std.specs.Prelude.{filter}
+use Rattle.std.proofs.Common.{◌≡◌, ℕ, ◌+◌, ◌-◌, ◌*◌, ◌%◌, ◌<◌, ◌≤◌, leb, true, false, List, [], ◌∷◌, ◌++◌, length, map, take, refl, sym, ap, ◌∙◌, subst, arith, length-append, append-nil, Option, Result, Ok, Err}
+use Rattle.std.specs.Prelude.{filter, is_err}
 use Rattle.std.specs.Io.KnownBytes.{Appends}
 use Rattle.std.proofs.KnownBytes.{Appends-trans}
 use Rattle.std.proofs.Math.Seq.{take-append-add}
 use Rattle.std.proofs.lemmas.Bool.{cond-true, cond-false, le-leb, lt-leb}
 use Rattle.std.proofs.lemmas.List.{take-append-le}
 use Rattle.flashbase.specs.Bytes.{erased}
-use Rattle.flashbase.specs.Device.{PutsPart}
+use Rattle.flashbase.specs.Device.{Puts, PutsPart, next_count}
+use Rattle.flashbase.specs.declared.sink.PutFault.{PutFault}
 use Rattle.jnode.specs.declared.order.Endian.{Endian}
 use Rattle.jsteps.specs.Nodes.{Indexed, advanced}
 use Rattle.jsteps.specs.declared.step.Step.{Step}
@@ -16,20 +17,18 @@ use Rattle.jlog.specs.Places.{places}
 use Rattle.jlog.specs.Running.{shown_place}
 use Rattle.jlog.specs.declared.report.Place.{Place}
 use Rattle.jlog.proofs.StepLemmas.{clamped}
+use Rattle.jpacked.proofs.Parts.{change_by}
 use Rattle.jpacked.proofs.PutLemmas.{Spot}
 use Rattle.jrests.specs.Shares.{share_places, output_to}
 use Rattle.jrests.specs.declared.opening.Opening.{Opening}
 use Rattle.jopenings.specs.After.{row_after}
-use Rattle.jupdate.specs.Writing.{share_places_out}
+use Rattle.jupdate.specs.Writing.{IsFormPart, PutsForm, share_places_out}
 use Rattle.jupdate.proofs.OutLemmas.{on_flash, within_by}
 use Rattle.jupdate.proofs.Parts.{PutBy, PartBy}
 use Rattle.jupdate.proofs.RowLemmas.{GoesTo}
 
--- the sink took the first t bytes of what goes out for it, and its place is told if it is whole
-pub record FormPart (e : Endian) (size : ℕ) (o : Opening) (form : List ℕ) (t : ℕ) (old new : Option (List ℕ)) (before after : List Place) : Type 0 where
-  pub within : t ≤ length (output_to e size (o, form ∷ []))
-  pub bytes : Appends old new (take t (output_to e size (o, form ∷ [])))
-  pub places : after ≡ before ++ map shown_place (share_places_out size (o, form ∷ []) t)
+abbrev pub FormPart : Endian → ℕ → Opening → List ℕ → ℕ → Option (List ℕ) → Option (List ℕ) → List Place → List Place → Type 0
+FormPart e size o form t old new before after = IsFormPart e size o form t before after old new
 
 not_whole : (e : Endian) (size : ℕ) (o : Opening) (form node : List ℕ) (at pad t : ℕ) (p : List Place) → Spot e size o.place form node at pad → o.place + t < at + length node
     → p ≡ p ++ map shown_place (share_places_out size (o, form ∷ []) t)
@@ -119,6 +118,33 @@ form_put e size o form node at pad a b d f p spot first second third =
       subst (Appends a f) (sym spot.out) (Appends-trans a b f _ _ first (Appends-trans b d f _ _ second third)),
       ap (λ (l : List (ℕ × ℕ)). p ++ map shown_place (map (on_flash b') l)) (sym spot.place),
     )
+
+-- ---- what putting it answers
+
+pub form_broke : (e : Endian) (size : ℕ) (o : Opening) (form : List ℕ) (a b : Option (List ℕ)) (f n : ℕ) (p q : List Place) (r : Result (Unit {0}) PutFault) → is_err r ≡ true
+    → ((t : ℕ) × FormPart e size o form t a b p q) → n ≡ next_count f → PutsForm e size o form p q (change_by a b f n) r
+form_broke e size o form a b f n p q (Ok u) bad part count = cc
+form_broke e size o form a b f n p q (Err g) bad part count = (part, count)
+
+pub form_end : (e : Endian) (size : ℕ) (o : Opening) (form node : List ℕ) (at pad : ℕ) (a b c d : Option (List ℕ)) (f k n : ℕ) (p q : List Place) (r : Result (Unit {0}) PutFault) → Spot e size o.place form node at pad
+    → Appends a b (gap e size o.place at) → Appends b c node → q ≡ p ++ shown_place (o.block * size + at, length node) ∷ [] → k ≡ f → Puts c d k n (erased pad) r
+    → PutsForm e size o form p q (change_by a d f n) r
+form_end e size o form node at pad a b c d f k n p q (Ok u) spot first second shown count (bytes, still) =
+    let all = form_put e size o form node at pad a b c d p spot first second bytes in
+    (all.0, shown ∙ all.1, still ∙ count)
+form_end e size o form node at pad a b c d f k n p q (Err g) spot first second shown count (part, broke) =
+    let began = pad_failed e size o form node at pad a b c d p spot first second part in
+    ((began.0, subst (FormPart e size o form began.0 a d p) (sym shown) began.1), broke ∙ ap next_count count)
+
+pub form_failed : (e : Endian) (size : ℕ) (o : Opening) (form : List ℕ) (a b : Option (List ℕ)) (f n : ℕ) (p q : List Place) (r : Result (Unit {0}) PutFault) → is_err r ≡ true
+    → PutsForm e size o form p q (change_by a b f n) r → ((t : ℕ) × FormPart e size o form t a b p q) × (n ≡ next_count f)
+form_failed e size o form a b f n p q (Ok u) bad did = cc
+form_failed e size o form a b f n p q (Err g) bad did = did
+
+pub form_whole : (e : Endian) (size : ℕ) (o : Opening) (form : List ℕ) (a b : Option (List ℕ)) (f n : ℕ) (p q : List Place) (r : Result (Unit {0}) PutFault) → is_err r ≡ false
+    → PutsForm e size o form p q (change_by a b f n) r → Appends a b (output_to e size (o, form ∷ [])) × (q ≡ p ++ map shown_place (share_places size (o, form ∷ []))) × (n ≡ f)
+form_whole e size o form a b f n p q (Ok u) good did = did
+form_whole e size o form a b f n p q (Err g) good did = cc
 
 -- ---- the same in a row
 

@@ -1,6 +1,6 @@
 -- What is left of a row of openings, and where the next form goes in it.
 use Rattle.std.proofs.Common.{◌≡◌, ℕ, zero, suc, ◌+◌, ◌-◌, ◌*◌, ◌%◌, ◌<◌, ◌≤◌, cond, Bool, true, false, List, [], ◌∷◌, ◌++◌, length, take, drop, get_or, refl, sym, ap, ap₂, subst, ◌∙◌, arith, inl, inr, Option, Some, None, append-nil, take-append-drop, length-append}
-use Rattle.std.specs.Prelude.{IsTrue, ◌==◌, ◌&&◌, nat_le, slice_get}
+use Rattle.std.specs.Prelude.{IsTrue, IsSome, ◌==◌, ◌&&◌, nat_le, slice_get}
 use Rattle.std.specs.List.{AllByRecursion}
 use Rattle.std.proofs.Math.Seq.{drop-cons, take-suc}
 use Rattle.std.proofs.lemmas.Bool.{and_from, and_parts, cases_Bool, cond-true, cond-false, leb-true, true≢false}
@@ -14,7 +14,7 @@ use Rattle.jrests.specs.Shares.{Share, shares, share_places, fit_in, places_in, 
 use Rattle.jrests.specs.declared.opening.Opening.{Opening}
 use Rattle.jopenings.specs.After.{takes, moved_opening, row_after, row_after_all, output_to_all}
 use Rattle.jopenings.proofs.AfterLemmas.{none_fit, no_places, left_taken, left_missed, shares_missed, shares_taken, some_stay, room_goes_on}
-use Rattle.jupdate.specs.Rows.{IsOpen, gone_on, left_at, reached, IsSpot}
+use Rattle.jupdate.specs.Rows.{IsOpen, gone_on, left_at, reached, IsSpot, FindsSpot}
 use Rattle.jupdate.specs.Writing.{share_places_out, places_out}
 use Rattle.jupdate.specs.declared.row.Cursor.{Cursor}
 use Rattle.jupdate.specs.declared.row.Spot.{Spot}
@@ -308,3 +308,34 @@ fit_reached size row x fits = by (reached size row (length x)) refl
     by : (r : List Opening) → reached size row (length x) ≡ r → Reached size row (length x)
     by [] is = absurd (true≢false (sym fits ∙ goes_nowhere size row x is))
     by (o ∷ rest) is = record { opening = o; rest = rest; is = is }
+
+-- so a spot is found for it
+pub spot_found : (size : ℕ) (row openings : List Opening) (from : Cursor) (x : List ℕ) (len : ℕ) (r : Option Spot) → row ≡ openings → len ≡ length x → IsTrue (fit_in size (left_at openings from) (x ∷ []))
+    → FindsSpot size row from len r → IsSome r
+spot_found size row openings from x len (Some spot) same long fits found = refl
+spot_found size row openings from x len None same long fits found =
+    let at : Reached size (left_at openings from) (length x) = fit_reached size (left_at openings from) x fits in
+    let none : reached size (left_at openings from) (length x) ≡ [] =
+    subst (λ (n : ℕ). reached size (left_at openings from) n ≡ []) long (subst (λ (r : List Opening). reached size (left_at r from) len ≡ []) same found) in
+    let both : [] ≡ at.opening ∷ at.rest = sym none ∙ at.is in
+    cc
+
+-- ---- the spot that was found
+
+pub spot_at : (size : ℕ) (row openings : List Opening) (from : Cursor) (len : ℕ) (r : Option Spot) (spot : Spot) → row ≡ openings → r ≡ Some spot → FindsSpot size row from len r → IsSpot size openings from len spot
+spot_at size row openings from len r spot same is found = subst (λ (l : List Opening). IsSpot size l from len spot) same (subst (FindsSpot size row from len) is found)
+
+abbrev pub opening_of : Spot → Opening
+opening_of spot = record { block = spot.block; place = spot.cursor.place }
+
+pub spot_goes : (e : Endian) (size : ℕ) (row : List Opening) (from : Cursor) (len : ℕ) (spot : Spot) (x : List ℕ) → (at : IsSpot size row from len spot) → len ≡ length x
+    → GoesTo e size (left_at row from) x (opening_of spot) at.rest
+spot_goes e size row from len spot x at long =
+    let same : at.opening ≡ opening_of spot =
+    sym (ap₂ (λ (b p : ℕ). (let o : Opening = record { block = b; place = p } in o)) at.block (goes_on_at (drop spot.cursor.passed row) spot.cursor.place at.opening at.rest at.left)) in
+    subst (λ (o : Opening). GoesTo e size (left_at row from) x o at.rest) same
+    (goes_to e size (left_at row from) x at.opening at.rest (subst (λ (n : ℕ). reached size (left_at row from) n ≡ at.opening ∷ at.rest) long at.first))
+
+pub spot_within : (size blocks : ℕ) (row : List Opening) (from : Cursor) (len : ℕ) (spot : Spot) → IsSpot size row from len spot → AllByRecursion (IsOpen size blocks) (left_at row from) → spot.block < blocks
+spot_within size blocks row from len spot at all =
+    subst (λ (b : ℕ). b < blocks) (sym at.block) (reached_open size blocks len (left_at row from) at.opening at.rest all at.first).within
