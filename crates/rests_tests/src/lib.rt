@@ -1,7 +1,8 @@
-//! Tests of `jrests`: where the blank blocks of an image and its begun ones may be written.
+//! Tests of `jrests` and `jopenings`: where the blank blocks of an image and its begun ones may be
+//! written, and how an image is put with what was written there.
 //!
-//! `images` has how an image is written down. `found` has which openings are found, and `growth`
-//! memory that is refused.
+//! `images` has how an image is written down. `found` has which openings are found, `growth` memory
+//! that is refused, and `placed` what is put, beside a plain model of it.
 #![tactic(auto)]
 
 #[cfg(test)]
@@ -12,3 +13,5 @@ mod found;
 mod growth;
 #[cfg(test)]
 mod images;
+#[cfg(test)]
+mod placed;
