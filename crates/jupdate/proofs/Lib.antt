@@ -7,5 +7,6 @@ pub mod Parts
 pub mod PutLemmas
 pub mod RowLemmas
 pub mod RunLemmas
+pub mod StretchLemmas
 pub mod SurviveLemmas
 pub mod TurnLemmas

@@ -1,6 +1,6 @@
 -- What is left of a row of openings, and where the next form goes in it.
-use Rattle.std.proofs.Common.{◌≡◌, ℕ, zero, suc, ◌+◌, ◌-◌, ◌*◌, ◌%◌, ◌<◌, ◌≤◌, cond, Bool, true, false, List, [], ◌∷◌, ◌++◌, length, take, drop, get_or, refl, sym, ap, ap₂, subst, ◌∙◌, arith, inl, inr, Option, Some, None, append-nil, take-append-drop, length-append}
-use Rattle.std.specs.Prelude.{IsTrue, IsSome, ◌==◌, ◌&&◌, nat_le, slice_get}
+use Rattle.std.proofs.Common.{◌≡◌, ℕ, suc, ◌+◌, ◌-◌, ◌*◌, ◌%◌, ◌<◌, ◌≤◌, cond, Bool, true, false, List, [], ◌∷◌, ◌++◌, length, take, drop, get_or, refl, sym, ap, ap₂, subst, ◌∙◌, arith, inl, inr, Option, Some, None, append-nil, take-append-drop, length-append}
+use Rattle.std.specs.Prelude.{IsTrue, IsSome, ◌==◌, ◌&&◌, nat_le}
 use Rattle.std.specs.List.{AllByRecursion}
 use Rattle.std.proofs.Math.Seq.{drop-cons, take-suc}
 use Rattle.std.proofs.lemmas.Bool.{and_from, and_parts, cases_Bool, cond-true, cond-false, leb-true, true≢false}
@@ -18,21 +18,6 @@ use Rattle.jupdate.specs.Rows.{IsOpen, gone_on, left_at, reached, IsSpot, FindsS
 use Rattle.jupdate.specs.Writing.{share_places_out, places_out}
 use Rattle.jupdate.specs.declared.row.Cursor.{Cursor}
 use Rattle.jupdate.specs.declared.row.Spot.{Spot}
-
--- ---- the beginning of an opening
-
-pub begin_some : (row : List Opening) (i : ℕ) (o : Opening) → slice_get row i ≡ Some o → gone_on (drop i row) o.place ≡ drop i row
-begin_some [] i o is = cc
-begin_some (x ∷ row) zero o is =
-    let same : o ≡ x = cc in
-    ap (λ (y : Opening). (let moved : Opening = record { block = x.block; place = y.place } in moved) ∷ row) same
-begin_some (x ∷ row) (suc i) o is = begin_some row i o is
-
-pub begin_none : (row : List Opening) (i : ℕ) → slice_get row i ≡ None → gone_on (drop i row) 0 ≡ drop i row
-begin_none [] zero is = refl
-begin_none [] (suc i) is = refl
-begin_none (x ∷ row) zero is = cc
-begin_none (x ∷ row) (suc i) is = begin_none row i is
 
 -- ---- the next opening
 
@@ -94,8 +79,8 @@ reached_next size len o rest outside = cond-false (nat_le (place_after size o.pl
 -- it is the next one
 pub spot_here : (size : ℕ) (row : List Opening) (from next : Cursor) (len at : ℕ) (o : Opening) → next.passed < length row → o ≡ get_or row next.passed o
     → reached size (left_at row from) len ≡ reached size (left_at row next) len → place_within size 1 next.place len ≡ Some at
-    → IsSpot size row from len (record { cursor = next; block = o.block; at = at })
-spot_here size row from next len at o below is same found =
+    → (left_at row from ≡ drop from.passed row → left_at row next ≡ drop next.passed row) → IsSpot size row from len (record { cursor = next; block = o.block; at = at })
+spot_here size row from next len at o below is same found begins =
     let it = found_at size next.place len at found in
     let rest : List Opening = drop (suc next.passed) row in
     let left : left_at row next ≡ gone o next.place ∷ rest =
@@ -105,6 +90,7 @@ spot_here size row from next len at o below is same found =
       rest = rest;
       first = same ∙ (ap (λ (r : List Opening). reached size r len) left ∙ reached_here size len (gone o next.place) rest it.1);
       left = left;
+      begins = begins;
       block = refl;
       at = it.0;
       inside = subst (λ (a : ℕ). a + len ≤ size) (sym it.0) (leb-true _ _ it.1);

@@ -1,5 +1,5 @@
 -- What contracts see of a session in a row of openings.
-use Rattle.std.specs.Prelude.{◌≡◌, ℕ, ◌+◌, Bool, IsFalse, List, [], ◌∷◌, ◌++◌, take, length, IfOk, IsOk, Option, is_some, Result, Ok, Err}
+use Rattle.std.specs.Prelude.{◌≡◌, ℕ, ◌+◌, Bool, IsFalse, List, [], ◌∷◌, ◌++◌, map, take, drop, length, IfOk, IsOk, Option, is_some, Result, Ok, Err}
 use Rattle.byteorder.specs.declared.ByteOrder.{Ghosts as OfByteOrder}
 use Rattle.flashbase.specs.Ranges.{AreBytes}
 use Rattle.flashbase.specs.Sinks.{SinkChange, change_of}
@@ -24,9 +24,12 @@ use Rattle.jlog.specs.declared.report.Applied.{Applied}
 use Rattle.jlog.specs.declared.report.Place.{Place}
 use Rattle.jlog.specs.declared.start.Flash.{Flash}
 use Rattle.jrests.specs.declared.opening.Opening.{Opening}
+use Rattle.jrests.specs.Shares.{shares}
 use Rattle.jopenings.specs.Done.{GoesOnInOpenings, SurvivesAfterInOpenings}
+use Rattle.jopenings.specs.Stretches.{longer, stretches_of}
+use Rattle.jopenings.specs.declared.placing.Stretch.{Stretch}
 use Rattle.jpacked.specs.View.{stop_by}
-use Rattle.jupdate.specs.Rows.{left_at}
+use Rattle.jupdate.specs.Rows.{begins_of, ends_of, unwritten}
 use Rattle.jupdate.specs.SessionIn.{StateIn, AppliesIn, RunsIn}
 use Rattle.jupdate.specs.Writing.{log_in}
 use Rattle.jupdate.specs.declared.session.OpeningSession.{OpeningSession}
@@ -45,6 +48,21 @@ HoldsAfterIn on from o to sink (Err fault.Broken) did held = held ≡ on.held
 HoldsAfterIn on from o to sink (Err fault.ReadOnly) did held = ⊥
 HoldsAfterIn on from o to sink (Err fault.Geometry) did held = ⊥
 
+-- What it leaves of what went out to each opening: what did before, and what goes out for its forms.
+abbrev pub GrowsIn : {T : Type 0} (on : FlashAs) (from : StateIn) (o : Op) (to : StateIn)
+    (sink : SinkChange) (result : Result T SessionFault) → AppliesIn on from o to sink result
+    → List Stretch → List Stretch → Type 0
+GrowsIn on from o to sink (Ok _) did old new = new
+    ≡ longer (stretches_of on.flash.order on.flash.size
+    (shares on.flash.size from.log.row did.2.1)) old
+GrowsIn on from o to sink (Err (fault.Refused f)) did old new = new ≡ old
+GrowsIn on from o to sink (Err (fault.Full wanted left)) did old new = new ≡ old
+GrowsIn on from o to sink (Err fault.Sink) did old new = Unit {0}
+GrowsIn on from o to sink (Err fault.OutOfMemory) did old new = IsFalse to.broken → new ≡ old
+GrowsIn on from o to sink (Err fault.Broken) did old new = new ≡ old
+GrowsIn on from o to sink (Err fault.ReadOnly) did old new = ⊥
+GrowsIn on from o to sink (Err fault.Geometry) did old new = ⊥
+
 module _ {E : Type 0} {S : Type 0} {order : OfOrder E} {numbers : OfByteOrder E}
     {sinks : OfSink S} where
   -- how the flash is divided: so many bytes a block, and so many blocks
@@ -58,13 +76,17 @@ module _ {E : Type 0} {S : Type 0} {order : OfOrder E} {numbers : OfByteOrder E}
   abbrev pub page_of : OpeningSession E S order numbers sinks → Page
   page_of session = session.page
 
-  -- the row of openings that was given
-  abbrev pub openings_of : OpeningSession E S order numbers sinks → List Opening
-  openings_of session = session.log.openings.items
+  -- what went out to each opening of the row that was given
+  abbrev pub stretches_in : OpeningSession E S order numbers sinks → List Stretch
+  stretches_in session = session.log.stretches.items
 
-  -- what is left of it: where writing goes on
+  -- where these openings began
+  abbrev pub openings_of : OpeningSession E S order numbers sinks → List Opening
+  openings_of session = begins_of (stretches_in session)
+
+  -- what is left of them: where writing goes on
   abbrev pub left_of : OpeningSession E S order numbers sinks → List Opening
-  left_of session = left_at session.log.openings.items session.log.cursor
+  left_of session = drop session.log.passed (ends_of (stretches_in session))
 
   -- what operations are planned on
   abbrev pub index_of_log : OpeningSession E S order numbers sinks → Indexed
@@ -108,7 +130,8 @@ module _ {E : Type 0} {S : Type 0} {order : OfOrder E} {numbers : OfByteOrder E}
   -- ---- what was done
 
   -- A session that began in a row of openings of this base did these operations since, in whatever
-  -- calls. These forms went out for their nodes, and the session goes on in the row that is left.
+  -- calls. These forms went out for their nodes, to these stretches of the flash, and the session
+  -- goes on in the row that is left.
   pub record HasDone (base : List ℕ) (row : List Opening)
       (session : OpeningSession E S order numbers sinks) (done : List Op)
       (before : List (List ℕ)) : Type 0 where
@@ -116,6 +139,9 @@ module _ {E : Type 0} {S : Type 0} {order : OfOrder E} {numbers : OfByteOrder E}
     pub goes_on : GoesOnInOpenings (flash_of_log session) base row done before (left_of session)
         (index_of_log session)
     pub held : held_of session ≡ held_by order.order (block_size_of session) base before
+    pub stretches : stretches_in session
+        ≡ stretches_of order.order (block_size_of session)
+        (shares (block_size_of session) row before)
 
   -- It is on this flash, plans on the file system of this mount, goes on in this row of openings,
   -- and puts what it writes to this sink.
@@ -127,7 +153,7 @@ module _ {E : Type 0} {S : Type 0} {order : OfOrder E} {numbers : OfByteOrder E}
     pub index : index_of_log session ≡ indexed mount
     pub held : held_of session
         ≡ length (unpacked_bytes order.order flash.geometry.block mount.image)
-    pub openings : openings_of session ≡ row
+    pub stretches : stretches_in session ≡ map unwritten row
     pub left : left_of session ≡ row
     pub whole : IsFalse (is_broken session)
     pub sink : sink_of session ≡ given
@@ -163,14 +189,24 @@ module _ {E : Type 0} {S : Type 0} {order : OfOrder E} {numbers : OfByteOrder E}
 
   -- Applying an operation to the one leaves the other, and the places of its nodes are added to
   -- those before; and so much content is held then.
-  abbrev pub AppliesTo : {T : Type 0} → OpeningSession E S order numbers sinks → Op
+  abbrev pub TakesTo : {T : Type 0} → OpeningSession E S order numbers sinks → Op
       → OpeningSession E S order numbers sinks → List Place → List Place → Result T SessionFault
       → Type 0
-  AppliesTo old o new before after result =
+  TakesTo old o new before after result =
       (did : AppliesIn (packed_flash_of old) (state_with old before) o (state_with new after)
       (change_of sinks (sink_of old) (sink_of new)) result)
       × HoldsAfterIn (packed_flash_of old) (state_with old before) o (state_with new after)
       (change_of sinks (sink_of old) (sink_of new)) result did (held_of new)
+
+  -- And so much went out to each opening then.
+  abbrev pub AppliesTo : {T : Type 0} → OpeningSession E S order numbers sinks → Op
+      → OpeningSession E S order numbers sinks → List Place → List Place → Result T SessionFault
+      → Type 0
+  AppliesTo old o new before after result =
+      (took : TakesTo old o new before after result)
+      × GrowsIn (packed_flash_of old) (state_with old before) o (state_with new after)
+      (change_of sinks (sink_of old) (sink_of new)) result took.0 (stretches_in old)
+      (stretches_in new)
 
   -- Running operations on the one leaves the other: so many were accepted, in these forms, their
   -- nodes have these places, and this stopped it.

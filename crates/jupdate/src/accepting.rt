@@ -8,7 +8,8 @@ ghost use Rattle.jlog.specs.Places.{is_writable_flash};
 ghost use Rattle.jlog.specs.Running.{CanWriteIn};
 ghost use Rattle.jview.specs.Through.{greatest_contents};
 ghost use Rattle.jupdate.specs.Accepting.{flash_of_room, AreFittingIn, ChoosesNoneIn, IsChosenIn, DeclinesIn};
-ghost use Rattle.jupdate.specs.Rows.{left_at};
+ghost use Rattle.jopenings.specs.Stretches.{AreStretches};
+ghost use Rattle.jupdate.specs.Rows.{ends_of, left_at};
 ghost use Rattle.jupdate.specs.SessionIn.{IsGoingIn};
 ghost use Rattle.jupdate.specs.Writing.{log_in};
 
@@ -16,8 +17,8 @@ use crate::room::has_room;
 use crate::row::{Cursor, free_in};
 use jlog::{Blocks, SessionFault};
 use jnode::Order;
+use jopenings::Stretch;
 use jpacked::{Chosen, Packing, choose_by, needed, plan};
-use jrests::Opening;
 use jscan::Page;
 use jsteps::{Index, Op, Step};
 use std::alloc::Global;
@@ -44,37 +45,38 @@ fn choose_fitting<E: Order>(
     alloc: Global,
     index: &Index,
     room: &Room,
-    openings: &[Opening],
+    stretches: &[Stretch],
     steps: &[Step<'_>],
     packing: &mut Option<Packing>,
 ) -> Result<Chosen, SessionFault>
     requires flash { IsTrue (is_writable_flash room.now.flash.size room.now.flash.count) }
+    requires stretches { AreStretches room.now.flash.size 0 room.now.flash.count stretches.now }
     requires going { IsGoingIn room.now.flash.size room.now.flash.count
-        (left_at openings.now room.now.cursor) index.now }
+        (left_at (ends_of stretches.now) room.now.cursor) index.now }
     requires steps { CanWriteIn room.now.flash.size E.order index.now steps.now }
     requires few { length steps.now ≤ most_steps }
     requires held { room.now.held ≤ greatest_contents }
     ensures fitting { IfOk result (λ chosen. AreFittingIn
         (flash_of_room E.order (is_some packing.old) room.now)
-        (log_in (left_at openings.now room.now.cursor) index.now []) steps.now
+        (log_in (left_at (ends_of stretches.now) room.now.cursor) index.now []) steps.now
         chosen.streams.items chosen.held) }
     ensures packs { is_some packing.new ≡ is_some packing.old }
     ensures none { IfErr result (ChoosesNoneIn
         (flash_of_room E.order (is_some packing.old) room.now)
-        (log_in (left_at openings.now room.now.cursor) index.now []) steps.now) }
+        (log_in (left_at (ends_of stretches.now) room.now.cursor) index.now []) steps.now) }
 {
     let chosen = choose_by::<E>(alloc, index, steps, room.held, packing)?;
     if !has_room::<E>(
         index,
         room.flash,
-        openings,
+        stretches,
         room.cursor,
         steps,
         &chosen.streams,
     ) {
         return Err(SessionFault::Full {
             needed: needed::<E>(index, steps, &chosen.streams),
-            free: free_in(room.flash, openings, room.cursor),
+            free: free_in(room.flash, stretches, room.cursor),
         });
     }
     Ok(chosen)
@@ -86,27 +88,28 @@ pub(crate) fn accept<'o, E: Order>(
     alloc: Global,
     index: &Index,
     room: &Room,
-    openings: &[Opening],
+    stretches: &[Stretch],
     op: &'o Op<'_>,
     packing: &mut Option<Packing>,
 ) -> Result<Taken<'o>, SessionFault>
     requires flash { IsTrue (is_writable_flash room.now.flash.size room.now.flash.count) }
     requires holds { page_size room.now.page + 80 ≤ room.now.flash.size }
+    requires stretches { AreStretches room.now.flash.size 0 room.now.flash.count stretches.now }
     requires going { IsGoingIn room.now.flash.size room.now.flash.count
-        (left_at openings.now room.now.cursor) index.now }
+        (left_at (ends_of stretches.now) room.now.cursor) index.now }
     requires held { room.now.held ≤ greatest_contents }
     requires known { OpFits op.now }
     ensures accepted { IfOk result (λ taken. IsChosenIn
         (flash_of_room E.order (is_some packing.old) room.now)
-        (log_in (left_at openings.now room.now.cursor) index.now []) op.now
+        (log_in (left_at (ends_of stretches.now) room.now.cursor) index.now []) op.now
         taken.steps.items taken.chosen.streams.items taken.chosen.held) }
     ensures packs { is_some packing.new ≡ is_some packing.old }
     ensures declined { IfErr result (DeclinesIn
         (flash_of_room E.order (is_some packing.old) room.now)
-        (log_in (left_at openings.now room.now.cursor) index.now []) op.now) }
+        (log_in (left_at (ends_of stretches.now) room.now.cursor) index.now []) op.now) }
 {
     let steps = plan(alloc, index, room.page, op)?;
-    match choose_fitting::<E>(alloc, index, room, openings, &steps, packing) {
+    match choose_fitting::<E>(alloc, index, room, stretches, &steps, packing) {
         Ok(chosen) => Ok(Taken { steps, chosen }),
         Err(fault) => Err(fault),
     }

@@ -5,11 +5,12 @@ ghost use Rattle.std.specs.List.{AllByRecursion};
 ghost use Rattle.flashbase.specs.Bytes.{pad4_of};
 ghost use Rattle.jnode.specs.Writing.{totlen_most};
 ghost use Rattle.jlog.specs.Places.{is_writable_flash};
-ghost use Rattle.jupdate.specs.Rows.{IsOpen, FindsSpot, free_in, left_at};
+ghost use Rattle.jopenings.specs.Stretches.{AreStretches};
+ghost use Rattle.jupdate.specs.Rows.{IsOpen, FindsSpot, ends_of, free_in, left_at};
 
 use flashbase::pad4;
 use jlog::{Blocks, free, place_of};
-use jrests::Opening;
+use jopenings::Stretch;
 
 /// Where a log goes on in a row of openings.
 #[derive(Clone, Copy)]
@@ -31,15 +32,17 @@ pub(crate) struct Spot {
     pub at: u32,
 }
 
-/// The beginning of an opening, or the end of the row.
-pub(crate) fn begin_of(openings: &[Opening], passed: usize) -> Cursor
-    ensures left { left_at openings.now result ≡ drop passed openings.now }
+/// Where an opening goes on; or the end of the row.
+pub(crate) fn begin_of(flash: Blocks, stretches: &[Stretch], passed: usize) -> Cursor
+    requires flash { IsTrue (is_writable_flash flash.size flash.count) }
+    requires stretches { AreStretches flash.size 0 flash.count stretches.now }
+    ensures left { left_at (ends_of stretches.now) result ≡ drop passed (ends_of stretches.now) }
     ensures passed { result.passed ≡ passed }
 {
-    match openings.get(passed) {
-        Some(opening) => Cursor {
+    match stretches.get(passed) {
+        Some(stretch) => Cursor {
             passed,
-            place: opening.place,
+            place: stretch.place + stretch.len,
         },
         None => Cursor { passed, place: 0 },
     }
@@ -47,22 +50,24 @@ pub(crate) fn begin_of(openings: &[Opening], passed: usize) -> Cursor
 
 /// Where the next node, of `len` bytes, goes: into the first opening, from the cursor on, whose
 /// block it does not cross.
-pub(crate) fn find(flash: Blocks, openings: &[Opening], cursor: Cursor, len: u32) -> Option<Spot>
+pub(crate) fn find(flash: Blocks, stretches: &[Stretch], cursor: Cursor, len: u32) -> Option<Spot>
     requires flash { IsTrue (is_writable_flash flash.size flash.count) }
-    requires openings { AllByRecursion (IsOpen flash.size flash.count) (left_at openings.now cursor) }
+    requires stretches { AreStretches flash.size 0 flash.count stretches.now }
+    requires openings { AllByRecursion (IsOpen flash.size flash.count)
+        (left_at (ends_of stretches.now) cursor) }
     requires len { len ≤ totlen_most }
-    ensures { FindsSpot flash.size openings.now cursor len result }
+    ensures { FindsSpot flash.size (ends_of stretches.now) cursor len result }
 {
     let mut next = cursor;
-    while next.passed < openings.len() {
+    while next.passed < stretches.len() {
         if let Some(at) = place_of(flash.size, 1, next.place, len) {
             return Some(Spot {
                 cursor: next,
-                block: openings[next.passed].block,
+                block: stretches[next.passed].block,
                 at,
             });
         }
-        next = begin_of(openings, next.passed + 1);
+        next = begin_of(flash, stretches, next.passed + 1);
     }
     None
 }
@@ -81,17 +86,19 @@ pub(crate) fn behind(spot: Spot, len: u32) -> Cursor
 }
 
 /// The bytes that are left, less a marker for each block that is not begun.
-pub(crate) fn free_in(flash: Blocks, openings: &[Opening], cursor: Cursor) -> u64
+pub(crate) fn free_in(flash: Blocks, stretches: &[Stretch], cursor: Cursor) -> u64
     requires flash { IsTrue (is_writable_flash flash.size flash.count) }
-    requires openings { AllByRecursion (IsOpen flash.size flash.count) (left_at openings.now cursor) }
-    requires few { length (left_at openings.now cursor) ≤ flash.count }
-    ensures { result ≡ free_in flash.size (left_at openings.now cursor) }
+    requires stretches { AreStretches flash.size 0 flash.count stretches.now }
+    requires openings { AllByRecursion (IsOpen flash.size flash.count)
+        (left_at (ends_of stretches.now) cursor) }
+    requires few { length (left_at (ends_of stretches.now) cursor) ≤ flash.count }
+    ensures { result ≡ free_in flash.size (left_at (ends_of stretches.now) cursor) }
 {
     let mut sum = 0;
     let mut next = cursor;
-    while next.passed < openings.len() {
+    while next.passed < stretches.len() {
         sum += free(flash.size, 1, next.place);
-        next = begin_of(openings, next.passed + 1);
+        next = begin_of(flash, stretches, next.passed + 1);
     }
     sum
 }

@@ -1,18 +1,19 @@
 //! A log that is written into openings, operation by operation.
 
-ghost use Rattle.std.specs.Prelude.{◌≡◌, ◌≢◌, ◌<◌, ◌≤◌, ◌+◌, ℕ, slice_index, is_some, IsTrue, IsFalse, Err, IfOk, IfErr, IsOk};
+ghost use Rattle.std.specs.Prelude.{◌≡◌, ◌≢◌, ◌<◌, ◌≤◌, ◌+◌, ℕ, drop, map, slice_index, is_some, IsTrue, IsFalse, Err, IfOk, IfErr, IsOk};
 ghost use Rattle.std.specs.List.{AllByRecursion};
 ghost use Rattle.jsteps.specs.Nodes.{indexed};
 ghost use Rattle.jsteps.specs.Laws.{IsConsistent};
 ghost use Rattle.jscan.specs.Pages.{page_size};
 ghost use Rattle.jlog.specs.Places.{is_writable_flash};
 ghost use Rattle.jlog.specs.Resuming.{resumes};
-ghost use Rattle.jrests.specs.Openings.{AreOpeningsOf};
+ghost use Rattle.jrests.specs.Openings.{AreOpeningsOf, AreUpwards};
 ghost use Rattle.jview.specs.Through.{greatest_contents, IsMountThroughOf};
 ghost use Rattle.jlog.specs.declared.fault.SessionFault.TheVariants.{OutOfMemory};
 ghost use Rattle.jpacked.specs.Forms.{is_packed};
-ghost use Rattle.jupdate.specs.OneProof.{one_going};
-ghost use Rattle.jupdate.specs.Rows.{left_at};
+ghost use Rattle.jopenings.specs.Stretches.{AreStretches};
+ghost use Rattle.jupdate.specs.OneProof.{one_going, one_row};
+ghost use Rattle.jupdate.specs.Rows.{ends_of, unwritten};
 ghost use Rattle.jupdate.specs.SessionIn.{IsGoingIn};
 
 use crate::accepting::{Room, Taken, accept};
@@ -22,6 +23,7 @@ use flashbase::Sink;
 use jlog::{Applied, Blocks, Flash, Place, RunReport, SessionFault, Stop};
 use jmount::Mounted;
 use jnode::Order;
+use jopenings::Stretch;
 use jpacked::{NodeForms, Packing, contents_len, index_and_buffer, start_at};
 use jrests::Opening;
 use jscan::Page;
@@ -48,7 +50,8 @@ pub struct OpeningSession<E: Order, S: Sink> {
     ghost flash: { IsTrue (is_writable_flash block blocks) },
     ghost holds: { page_size page + 80 ≤ block },
     ghost going: { IsFalse broken
-        → IsGoingIn block blocks (left_at log.openings.items log.cursor) log.index } by { one_going broken block blocks (left_at log.openings.items log.cursor) log.index },
+        → IsGoingIn block blocks (drop log.passed (ends_of log.stretches.items)) log.index } by { one_going broken block blocks (drop log.passed (ends_of log.stretches.items)) log.index },
+    ghost stretches: { AreStretches block 0 blocks log.stretches.items } by { one_row block 0 blocks log.stretches.items },
     ghost few: { held ≤ greatest_contents },
 }
 
@@ -59,10 +62,25 @@ fn known_bytes(bytes: &[u8])
     let _known = bytes.len();
 }
 
+/// Stretches of openings to which nothing went out.
+fn none_written(alloc: Global, row: &[Opening]) -> Result<Vec<Stretch>, AllocError>
+    ensures { IfOk result (λ stretches. stretches.items ≡ map unwritten row.now) }
+{
+    let mut stretches = Vec::with_capacity(alloc, row.len())?;
+    for opening in row {
+        stretches.push(Stretch {
+            block: opening.block,
+            place: opening.place,
+            len: 0,
+        })?;
+    }
+    Ok(stretches)
+}
+
 impl<E: Order, S: Sink> OpeningSession<E, S> {
     ghost use Rattle.std.specs.Prelude.{List, [], ◌∷◌};
     ghost use Rattle.jpacked.specs.View.{base_of_mount};
-    ghost use Rattle.jupdate.specs.View.{block_size_of, blocks_of, page_of, openings_of, left_of, index_of_log, held_of, is_broken, packs_of, sink_of, IsBegunIn, IsSessionOf, AppliesTo, HasApplied, HasRun};
+    ghost use Rattle.jupdate.specs.View.{block_size_of, blocks_of, page_of, openings_of, stretches_in, left_of, index_of_log, held_of, is_broken, packs_of, sink_of, IsBegunIn, IsSessionOf, AppliesTo, HasApplied, HasRun};
     ghost use Rattle.jlog.specs.declared.report.Place.{Place};
 
     /// Goes on from an image mounted through its compression, on a flash, in a row of its openings:
@@ -116,6 +134,7 @@ impl<E: Order, S: Sink> OpeningSession<E, S> {
         requires holds { page_size flash.page + 80 ≤ flash.geometry.block }
         requires going { IsGoingIn flash.geometry.block flash.blocks row.items
             (indexed mounted.now) }
+        requires row { AreUpwards 0 flash.blocks row.items }
         ensures begun { IfOk result (IsSessionOf mounted.now flash row.items sink) }
         ensures packs { IfOk result (λ session. packs_of session ≡ is_packed forms) }
         ensures back { IfErr result (λ refused. refused.1 ≡ sink) }
@@ -124,14 +143,17 @@ impl<E: Order, S: Sink> OpeningSession<E, S> {
             Ok(parts) => parts,
             Err(error) => return Err((error, sink)),
         };
-        let cursor = begin_of(&row, 0);
+        let stretches = match none_written(alloc, &row) {
+            Ok(stretches) => stretches,
+            Err(error) => return Err((error, sink)),
+        };
         Ok(OpeningSession {
             block: flash.geometry.block,
             blocks: flash.blocks,
             page: flash.page,
             log: Log {
-                openings: row,
-                cursor,
+                stretches,
+                passed: 0,
                 index,
                 buffer,
                 sink,
@@ -150,6 +172,17 @@ impl<E: Order, S: Sink> OpeningSession<E, S> {
         self.held
     }
 
+    /// What went out to each opening of the row that was given, in its order: of the bytes that the
+    /// sink got, the first ones lie in the first stretch, as many as it has, and the others in those
+    /// after it. It tells so while the session is not broken; bytes of an operation that was written
+    /// in part lie behind them.
+    pub fn stretches(&self) -> &[Stretch]
+        ensures same { result.now ≡ stretches_in self.now }
+        ensures within { AreStretches (block_size_of self.now) 0 (blocks_of self.now) result.now }
+    {
+        &self.log.stretches
+    }
+
     /// Goes on with another sink, and gives back the one that it had. Nothing is put.
     pub fn replace_sink(&mut self, sink: S) -> S
         ensures back { result ≡ sink_of self.old }
@@ -157,7 +190,7 @@ impl<E: Order, S: Sink> OpeningSession<E, S> {
         ensures block { block_size_of self.new ≡ block_size_of self.old }
         ensures blocks { blocks_of self.new ≡ blocks_of self.old }
         ensures page { page_of self.new ≡ page_of self.old }
-        ensures openings { openings_of self.new ≡ openings_of self.old }
+        ensures stretches { stretches_in self.new ≡ stretches_in self.old }
         ensures left { left_of self.new ≡ left_of self.old }
         ensures index { index_of_log self.new ≡ index_of_log self.old }
         ensures held { held_of self.new ≡ held_of self.old }
@@ -242,7 +275,8 @@ impl<E: Order, S: Sink> OpeningSession<E, S> {
         ensures blocks { self.new.blocks ≡ self.old.blocks }
         ensures page { self.new.page ≡ self.old.page }
         ensures packs { is_some self.new.packing ≡ is_some self.old.packing }
-        ensures openings { self.new.log.openings.items ≡ self.old.log.openings.items }
+        ensures openings { begins_of self.new.log.stretches.items
+            ≡ begins_of self.old.log.stretches.items }
         ensures applies { AppliesTo self.old op.now self.new places.old.items places.new.items
             result }
     {
@@ -257,14 +291,14 @@ impl<E: Order, S: Sink> OpeningSession<E, S> {
         let room = Room {
             flash,
             page: self.page,
-            cursor: self.log.cursor,
+            cursor: begin_of(flash, &self.log.stretches, self.log.passed),
             held: self.held,
         };
         let Taken { steps, chosen } = accept::<E>(
             alloc,
             &self.log.index,
             &room,
-            &self.log.openings,
+            &self.log.stretches,
             op,
             &mut self.packing,
         )?;

@@ -1,31 +1,33 @@
 //! Putting the forms of steps into a row of openings.
 
-ghost use Rattle.std.specs.Prelude.{◌≡◌, ◌≤◌, ◌<◌, ◌+◌, IsTrue, [], ◌∷◌, vec_len, vec_capacity, length};
+ghost use Rattle.std.specs.Prelude.{◌≡◌, ◌≤◌, ◌<◌, ◌+◌, IsTrue, IfOk, [], ◌∷◌, drop, vec_len, vec_capacity, length};
 ghost use Rattle.std.specs.List.{AllByRecursion};
 ghost use Rattle.flashbase.specs.Sinks.{change_of};
 ghost use Rattle.jlog.specs.Laws.{FitsBlock};
 ghost use Rattle.jlog.specs.Places.{is_writable_flash, place_after};
 ghost use Rattle.jlog.specs.Running.{CanWriteIn};
 ghost use Rattle.jsteps.specs.Nodes.{node_of, nodes_of};
-ghost use Rattle.jrests.specs.Shares.{fit_in};
+ghost use Rattle.jrests.specs.Shares.{shares, fit_in};
 ghost use Rattle.jpacked.specs.Forms.{AreMadeOf, IsMadeOf, form_with, step_forms};
-ghost use Rattle.jupdate.specs.Rows.{IsOpen, left_at};
+ghost use Rattle.jopenings.specs.Stretches.{AreStretches, longer, stretches_of};
+ghost use Rattle.jupdate.specs.Rows.{IsOpen, begins_of, ends_of};
 ghost use Rattle.jupdate.specs.Writing.{log_in, PutsForm, PutsIn};
 
-use crate::row::{Cursor, Spot, behind, find};
+use crate::row::{Spot, begin_of, behind, find};
 use flashbase::{PutFault, Sink, pad4, put_all};
 use jlog::{Blocks, Place, Stop, node_of, put_erased, put_gap};
 use jnode::Order;
+use jopenings::Stretch;
 use jpacked::{Stream, push_place, write_form};
-use jrests::Opening;
 use jsteps::{Index, Step, advance};
 
-/// A row of openings, where a log goes on in it, and its sink.
+/// What went out to a row of openings, where a log goes on in it, and its sink.
 #[derive(Drop)]
 pub(crate) struct Log<S: Sink> {
-    /// The row that was given.
-    pub openings: Vec<Opening>,
-    pub cursor: Cursor,
+    /// What went out to each opening of the row.
+    pub stretches: Vec<Stretch>,
+    /// How many openings were passed.
+    pub passed: usize,
     pub index: Index,
     /// The bytes of one node.
     pub buffer: Vec<u8>,
@@ -69,19 +71,26 @@ fn put_step<E: Order, S: Sink>(
     stream: &[u8],
 ) -> Result<(), Stop>
     requires flash { IsTrue (is_writable_flash flash.size flash.count) }
+    requires stretches { AreStretches flash.size 0 flash.count log.old.stretches.items }
     requires openings { AllByRecursion (IsOpen flash.size flash.count)
-        (left_at log.old.openings.items log.old.cursor) }
+        (drop log.old.passed (ends_of log.old.stretches.items)) }
     requires step { CanWriteIn flash.size E.order log.old.index (step.now ∷ []) }
     requires made { IsMadeOf E.order (node_of log.old.index step.now) stream.now }
-    requires space { IsTrue (fit_in flash.size (left_at log.old.openings.items log.old.cursor)
+    requires space { IsTrue (fit_in flash.size (drop log.old.passed (ends_of log.old.stretches.items))
         (form_with E.order (node_of log.old.index step.now) stream.now ∷ [])) }
     requires room { vec_len places.old + 1 ≤ vec_capacity places.old }
     ensures puts { PutsIn E.order flash.size
-        (log_in (left_at log.old.openings.items log.old.cursor) log.old.index places.old.items)
+        (log_in (drop log.old.passed (ends_of log.old.stretches.items)) log.old.index places.old.items)
         (step.now ∷ []) (form_with E.order (node_of log.old.index step.now) stream.now ∷ [])
-        (log_in (left_at log.new.openings.items log.new.cursor) log.new.index places.new.items)
+        (log_in (drop log.new.passed (ends_of log.new.stretches.items)) log.new.index places.new.items)
         (change_of S.Sink log.old.sink log.new.sink) result }
-    ensures openings { log.new.openings ≡ log.old.openings }
+    ensures within { AreStretches flash.size 0 flash.count log.new.stretches.items }
+    ensures begins { begins_of log.new.stretches.items ≡ begins_of log.old.stretches.items }
+    ensures stretches { IfOk result (λ _. log.new.stretches.items ≡ longer
+        (stretches_of E.order flash.size (shares flash.size
+        (drop log.old.passed (ends_of log.old.stretches.items))
+        (form_with E.order (node_of log.old.index step.now) stream.now ∷ [])))
+        log.old.stretches.items) }
     ensures len { vec_len places.new ≤ vec_len places.old + 1 }
     ensures capacity { vec_capacity places.old ≤ vec_capacity places.new }
 {
@@ -93,11 +102,14 @@ fn put_step<E: Order, S: Sink>(
         return Err(Stop::Unbegun);
     }
     let len = log.buffer.len() as u32;
-    let spot = find(flash, &log.openings, log.cursor, len).unwrap();
+    let cursor = begin_of(flash, &log.stretches, log.passed);
+    let spot = find(flash, &log.stretches, cursor, len).unwrap();
     if put_form::<E, S>(&mut log.sink, places, flash, spot, &log.buffer).is_err() {
         return Err(Stop::Sink);
     }
-    log.cursor = behind(spot, len);
+    let next = behind(spot, len);
+    log.stretches[next.passed].len += next.place - spot.cursor.place;
+    log.passed = next.passed;
     Ok(())
 }
 
@@ -110,19 +122,26 @@ pub(crate) fn put_steps<E: Order, S: Sink>(
     streams: &[Stream],
 ) -> Result<(), Stop>
     requires flash { IsTrue (is_writable_flash flash.size flash.count) }
+    requires stretches { AreStretches flash.size 0 flash.count log.old.stretches.items }
     requires openings { AllByRecursion (IsOpen flash.size flash.count)
-        (left_at log.old.openings.items log.old.cursor) }
+        (drop log.old.passed (ends_of log.old.stretches.items)) }
     requires steps { CanWriteIn flash.size E.order log.old.index steps.now }
     requires made { AreMadeOf E.order (nodes_of log.old.index steps.now) streams.now }
-    requires space { IsTrue (fit_in flash.size (left_at log.old.openings.items log.old.cursor)
+    requires space { IsTrue (fit_in flash.size (drop log.old.passed (ends_of log.old.stretches.items))
         (step_forms E.order log.old.index steps.now streams.now)) }
     requires room { vec_len places.old + length steps.now ≤ vec_capacity places.old }
     ensures puts { PutsIn E.order flash.size
-        (log_in (left_at log.old.openings.items log.old.cursor) log.old.index places.old.items)
+        (log_in (drop log.old.passed (ends_of log.old.stretches.items)) log.old.index places.old.items)
         steps.now (step_forms E.order log.old.index steps.now streams.now)
-        (log_in (left_at log.new.openings.items log.new.cursor) log.new.index places.new.items)
+        (log_in (drop log.new.passed (ends_of log.new.stretches.items)) log.new.index places.new.items)
         (change_of S.Sink log.old.sink log.new.sink) result }
-    ensures openings { log.new.openings ≡ log.old.openings }
+    ensures within { AreStretches flash.size 0 flash.count log.new.stretches.items }
+    ensures begins { begins_of log.new.stretches.items ≡ begins_of log.old.stretches.items }
+    ensures stretches { IfOk result (λ _. log.new.stretches.items ≡ longer
+        (stretches_of E.order flash.size (shares flash.size
+        (drop log.old.passed (ends_of log.old.stretches.items))
+        (step_forms E.order log.old.index steps.now streams.now)))
+        log.old.stretches.items) }
 {
     let mut i = 0;
     while i < steps.len() {

@@ -5,7 +5,7 @@ use Rattle.jsteps.proofs.FewLemmas.{sizes_are_pages}
 use Rattle.jlog.specs.Running.{CanWriteAll}
 use Rattle.jlog.proofs.Parts.{flash_by}
 use Rattle.jlog.proofs.RunLemmas.{can_plan}
-use Rattle.jupdate.specs.Rows.{left_at}
+use Rattle.jupdate.specs.Rows.{ends_of, left_at}
 use Rattle.jupdate.specs.Writing.{log_in}
 use Rattle.jupdate.proofs.AcceptLemmas.{declines}
 use Rattle.jupdate.proofs.accepting.accept.Goals as goal
@@ -22,5 +22,5 @@ choose_fitting-requires-clause-steps g c =
 pub returns-clause-declined : goal.returns-clause-declined
 returns-clause-declined g c =
     let r = c.args.room.now in
-    declines (is_some c.args.packing.now) r.held (flash_by (page_size r.page) g.E.Order.order r.flash.size r.flash.count) (log_in (left_at c.args.openings.now r.cursor) c.args.index.now []) c.args.op.now c.in_ok-steps.steps.items c.deref.result.now c.in-Err.fault
+    declines (is_some c.args.packing.now) r.held (flash_by (page_size r.page) g.E.Order.order r.flash.size r.flash.count) (log_in (left_at (ends_of c.args.stretches.now) r.cursor) c.args.index.now []) c.args.op.now c.in_ok-steps.steps.items c.deref.result.now c.in-Err.fault
     c.in_ok-steps.ensures.planned c.deref.ensures.value c.in-Err.ensures.none
