@@ -1,5 +1,6 @@
 pub mod AcceptLemmas
 pub mod BeginLemmas
+pub mod ExtendLemmas
 pub mod FormLemmas
 pub mod FreeLemmas
 pub mod OutLemmas
