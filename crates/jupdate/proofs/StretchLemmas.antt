@@ -1,6 +1,7 @@
 -- What went out to each opening of a row, and what one form adds to it.
 use Rattle.std.proofs.Common.{◌≡◌, ℕ, zero, suc, ◌+◌, ◌-◌, ◌*◌, ◌%◌, ◌<◌, ◌≤◌, cond, Bool, true, false, List, [], ◌∷◌, ◌++◌, length, map, take, drop, get_or, set, refl, sym, ap, ap₂, subst, ◌∙◌, arith, inl, inr, Option, Some, None, append-nil}
 use Rattle.std.specs.Prelude.{◌==◌, nat_le, slice_get}
+use Rattle.std.proofs.Math.Seq.{take-suc}
 use Rattle.std.proofs.lemmas.Bool.{cases_Bool, cond-true, cond-false, eqb-true, eq-eqb}
 use Rattle.std.proofs.lemmas.List.{length-map}
 use Rattle.jnode.specs.Writing.{filled}
@@ -212,3 +213,12 @@ longer_on e size blocks row forms more (s ∷ ss) up =
     let both : s.len + len_in (added e size row (forms ++ more)) s.block ≡ s.len + len_in (added e size row forms) s.block + len_in (added e size (row_after_all size row forms) more) s.block =
     omega (arith, bytes_go_on e size 0 blocks s.block row forms more up) in
     ap₂ (λ (k : ℕ) (l : List Stretch). (let t : Stretch = record { block = s.block; place = s.place; len = k } in t) ∷ l) both (longer_on e size blocks row forms more ss up)
+
+-- the first so many, and the next one
+pub longer_next : (e : Endian) (size blocks : ℕ) (row : List Opening) (forms : List (List ℕ)) (i : ℕ) (v f : List ℕ) (now : List Opening) (ss mid new : List Stretch) → AreUpwards 0 blocks row → i < length forms → f ≡ get_or forms i v
+    → now ≡ row_after_all size row (take i forms) → mid ≡ longer (added e size row (take i forms)) ss → new ≡ longer (added e size now (f ∷ [])) mid → new ≡ longer (added e size row (take (suc i) forms)) ss
+longer_next e size blocks row forms i v f now ss mid new up below has now_is mid_is new_is =
+    let also : take i forms ++ f ∷ [] ≡ take (suc i) forms = ap (λ (t : List ℕ). take i forms ++ t ∷ []) has ∙ sym (take-suc forms i v below) in
+    new_is
+    ∙ (ap₂ (λ (r : List Opening) (l : List Stretch). longer (added e size r (f ∷ [])) l) now_is mid_is
+    ∙ (sym (longer_on e size blocks row (take i forms) (f ∷ []) ss up) ∙ ap (λ (fs : List (List ℕ)). longer (added e size row fs) ss) also))

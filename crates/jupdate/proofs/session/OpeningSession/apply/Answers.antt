@@ -25,14 +25,14 @@ returns-in-Ok-clause-applies g c =
     let none : c.new-places.result.items ≡ [] = search rules in
     let places : List Place = c.apply_onto.new.places.items in
     let r : Result (Unit {0}) SessionFault = Ok (tt {0}) in
-    let took : TakesBy {T = Unit {0}} (is_some s.packing) s.held (page_size s.page) e s.block s.blocks (left_at s.log.openings.items s.log.cursor) s.log.index o s.broken (left_at t.log.openings.items t.log.cursor) t.log.index t.broken (g.S.Sink.taken s.log.sink) (g.S.Sink.taken t.log.sink)
+    let took : TakesBy {T = Unit {0}} (is_some s.packing) s.held (page_size s.page) e s.block s.blocks (drop s.log.passed (ends_of s.log.stretches.items)) s.log.index o s.broken (drop t.log.passed (ends_of t.log.stretches.items)) t.log.index t.broken (g.S.Sink.taken s.log.sink) (g.S.Sink.taken t.log.sink)
     (g.S.Sink.failures s.log.sink) (g.S.Sink.failures t.log.sink) [] places r t.held =
-    subst (λ (q : Result (Unit {0}) SessionFault). TakesBy {T = Unit {0}} (is_some s.packing) s.held (page_size s.page) e s.block s.blocks (left_at s.log.openings.items s.log.cursor) s.log.index o s.broken (left_at t.log.openings.items t.log.cursor) t.log.index t.broken (g.S.Sink.taken s.log.sink) (g.S.Sink.taken t.log.sink)
+    subst (λ (q : Result (Unit {0}) SessionFault). TakesBy {T = Unit {0}} (is_some s.packing) s.held (page_size s.page) e s.block s.blocks (drop s.log.passed (ends_of s.log.stretches.items)) s.log.index o s.broken (drop t.log.passed (ends_of t.log.stretches.items)) t.log.index t.broken (g.S.Sink.taken s.log.sink) (g.S.Sink.taken t.log.sink)
     (g.S.Sink.failures s.log.sink) (g.S.Sink.failures t.log.sink) [] places q t.held) c.in-Ok.is
-    (subst (λ (l : List Place). TakesBy {T = Unit {0}} (is_some s.packing) s.held (page_size s.page) e s.block s.blocks (left_at s.log.openings.items s.log.cursor) s.log.index o s.broken (left_at t.log.openings.items t.log.cursor) t.log.index t.broken (g.S.Sink.taken s.log.sink) (g.S.Sink.taken t.log.sink)
+    (subst (λ (l : List Place). TakesBy {T = Unit {0}} (is_some s.packing) s.held (page_size s.page) e s.block s.blocks (drop s.log.passed (ends_of s.log.stretches.items)) s.log.index o s.broken (drop t.log.passed (ends_of t.log.stretches.items)) t.log.index t.broken (g.S.Sink.taken s.log.sink) (g.S.Sink.taken t.log.sink)
     (g.S.Sink.failures s.log.sink) (g.S.Sink.failures t.log.sink) l places c.apply_onto.result t.held) none c.apply_onto.ensures.applies) in
-    let it = alone (Unit {0}) (is_some s.packing) s.held (page_size s.page) e s.block s.blocks (left_at s.log.openings.items s.log.cursor) s.log.index o s.broken (left_at t.log.openings.items t.log.cursor) t.log.index t.broken (g.S.Sink.taken s.log.sink) (g.S.Sink.taken t.log.sink)
-    (g.S.Sink.failures s.log.sink) (g.S.Sink.failures t.log.sink) places r t.held s.few (put_none e s.block (left_at s.log.openings.items s.log.cursor) s.log.index (g.S.Sink.taken s.log.sink) []) took in
+    let it = alone (Unit {0}) (is_some s.packing) s.held (page_size s.page) e s.block s.blocks (drop s.log.passed (ends_of s.log.stretches.items)) s.log.index o s.broken (drop t.log.passed (ends_of t.log.stretches.items)) t.log.index t.broken (g.S.Sink.taken s.log.sink) (g.S.Sink.taken t.log.sink)
+    (g.S.Sink.failures s.log.sink) (g.S.Sink.failures t.log.sink) places r t.held s.few (put_none e s.block (drop s.log.passed (ends_of s.log.stretches.items)) s.log.index (g.S.Sink.taken s.log.sink) []) took in
     record {
       places = places;
       told = refl;
@@ -41,13 +41,13 @@ returns-in-Ok-clause-applies g c =
         forms = it.0;
         runs = it.1;
         survives = λ whole base row done before has.
-            run_survives (is_some s.packing) s.held (page_size s.page) e s.block s.blocks (left_at s.log.openings.items s.log.cursor) s.log.index (o ∷ []) s.broken (accepted_by r) it.0 (left_at t.log.openings.items t.log.cursor) t.log.index t.broken (g.S.Sink.taken s.log.sink) (g.S.Sink.taken t.log.sink)
+            run_survives (is_some s.packing) s.held (page_size s.page) e s.block s.blocks (drop s.log.passed (ends_of s.log.stretches.items)) s.log.index (o ∷ []) s.broken (accepted_by r) it.0 (drop t.log.passed (ends_of t.log.stretches.items)) t.log.index t.broken (g.S.Sink.taken s.log.sink) (g.S.Sink.taken t.log.sink)
             (g.S.Sink.failures s.log.sink) (g.S.Sink.failures t.log.sink) places (stop_by r) base row done before (sizes_are_pages s.page) s.holds it.1 whole has.bytes
             (all_first OpFits (attempted (accepted_by r) t.broken) (o ∷ []) (c.known.ensures, tt)) has.goes_on has.held;
         done = λ whole base row done before has.
-            let on = moved s.page t.page e s.block t.block s.blocks t.blocks base row (done ++ take (accepted_by r) (o ∷ [])) (before ++ it.0) (left_at t.log.openings.items t.log.cursor) t.held t.log.index
+            let on = moved s.page t.page e s.block t.block s.blocks t.blocks base row (done ++ take (accepted_by r) (o ∷ [])) (before ++ it.0) (drop t.log.passed (ends_of t.log.stretches.items)) t.held t.log.index
             (sym c.apply_onto.ensures.page) (sym c.apply_onto.ensures.block) (sym c.apply_onto.ensures.blocks)
-            (run_goes_on (is_some s.packing) s.held t.held (page_size s.page) e s.block s.blocks (left_at s.log.openings.items s.log.cursor) s.log.index (o ∷ []) s.broken (accepted_by r) it.0 (left_at t.log.openings.items t.log.cursor) t.log.index t.broken (g.S.Sink.taken s.log.sink) (g.S.Sink.taken t.log.sink)
+            (run_goes_on (is_some s.packing) s.held t.held (page_size s.page) e s.block s.blocks (drop s.log.passed (ends_of s.log.stretches.items)) s.log.index (o ∷ []) s.broken (accepted_by r) it.0 (drop t.log.passed (ends_of t.log.stretches.items)) t.log.index t.broken (g.S.Sink.taken s.log.sink) (g.S.Sink.taken t.log.sink)
             (g.S.Sink.failures s.log.sink) (g.S.Sink.failures t.log.sink) places (stop_by r) base row done before it.1 whole (all_first OpFits (accepted_by r) (o ∷ []) (c.known.ensures, tt)) has.goes_on has.held it.2) in
             record { bytes = has.bytes; goes_on = on.0; held = on.1 };
       };
@@ -62,30 +62,30 @@ returns-in-Err-clause-applies g c =
     let none : c.new-places.result.items ≡ [] = search rules in
     let places : List Place = c.apply_onto.new.places.items in
     let r : Result (Unit {0}) SessionFault = Err c.in-Err.fault in
-    let took : TakesBy {T = Unit {0}} (is_some s.packing) s.held (page_size s.page) e s.block s.blocks (left_at s.log.openings.items s.log.cursor) s.log.index o s.broken (left_at t.log.openings.items t.log.cursor) t.log.index t.broken (g.S.Sink.taken s.log.sink) (g.S.Sink.taken t.log.sink)
+    let took : TakesBy {T = Unit {0}} (is_some s.packing) s.held (page_size s.page) e s.block s.blocks (drop s.log.passed (ends_of s.log.stretches.items)) s.log.index o s.broken (drop t.log.passed (ends_of t.log.stretches.items)) t.log.index t.broken (g.S.Sink.taken s.log.sink) (g.S.Sink.taken t.log.sink)
     (g.S.Sink.failures s.log.sink) (g.S.Sink.failures t.log.sink) [] places r t.held =
-    subst (λ (q : Result (Unit {0}) SessionFault). TakesBy {T = Unit {0}} (is_some s.packing) s.held (page_size s.page) e s.block s.blocks (left_at s.log.openings.items s.log.cursor) s.log.index o s.broken (left_at t.log.openings.items t.log.cursor) t.log.index t.broken (g.S.Sink.taken s.log.sink) (g.S.Sink.taken t.log.sink)
+    subst (λ (q : Result (Unit {0}) SessionFault). TakesBy {T = Unit {0}} (is_some s.packing) s.held (page_size s.page) e s.block s.blocks (drop s.log.passed (ends_of s.log.stretches.items)) s.log.index o s.broken (drop t.log.passed (ends_of t.log.stretches.items)) t.log.index t.broken (g.S.Sink.taken s.log.sink) (g.S.Sink.taken t.log.sink)
     (g.S.Sink.failures s.log.sink) (g.S.Sink.failures t.log.sink) [] places q t.held) c.in-Err.is
-    (subst (λ (l : List Place). TakesBy {T = Unit {0}} (is_some s.packing) s.held (page_size s.page) e s.block s.blocks (left_at s.log.openings.items s.log.cursor) s.log.index o s.broken (left_at t.log.openings.items t.log.cursor) t.log.index t.broken (g.S.Sink.taken s.log.sink) (g.S.Sink.taken t.log.sink)
+    (subst (λ (l : List Place). TakesBy {T = Unit {0}} (is_some s.packing) s.held (page_size s.page) e s.block s.blocks (drop s.log.passed (ends_of s.log.stretches.items)) s.log.index o s.broken (drop t.log.passed (ends_of t.log.stretches.items)) t.log.index t.broken (g.S.Sink.taken s.log.sink) (g.S.Sink.taken t.log.sink)
     (g.S.Sink.failures s.log.sink) (g.S.Sink.failures t.log.sink) l places c.apply_onto.result t.held) none c.apply_onto.ensures.applies) in
-    let it = alone (Unit {0}) (is_some s.packing) s.held (page_size s.page) e s.block s.blocks (left_at s.log.openings.items s.log.cursor) s.log.index o s.broken (left_at t.log.openings.items t.log.cursor) t.log.index t.broken (g.S.Sink.taken s.log.sink) (g.S.Sink.taken t.log.sink)
-    (g.S.Sink.failures s.log.sink) (g.S.Sink.failures t.log.sink) places r t.held s.few (put_none e s.block (left_at s.log.openings.items s.log.cursor) s.log.index (g.S.Sink.taken s.log.sink) []) took in
+    let it = alone (Unit {0}) (is_some s.packing) s.held (page_size s.page) e s.block s.blocks (drop s.log.passed (ends_of s.log.stretches.items)) s.log.index o s.broken (drop t.log.passed (ends_of t.log.stretches.items)) t.log.index t.broken (g.S.Sink.taken s.log.sink) (g.S.Sink.taken t.log.sink)
+    (g.S.Sink.failures s.log.sink) (g.S.Sink.failures t.log.sink) places r t.held s.few (put_none e s.block (drop s.log.passed (ends_of s.log.stretches.items)) s.log.index (g.S.Sink.taken s.log.sink) []) took in
     record {
       places = places;
       told = tt;
-      applies = fault_as (Unit {0}) Applied (is_some s.packing) s.held (page_size s.page) e s.block s.blocks (left_at s.log.openings.items s.log.cursor) s.log.index o s.broken (left_at t.log.openings.items t.log.cursor) t.log.index t.broken (g.S.Sink.taken s.log.sink) (g.S.Sink.taken t.log.sink)
+      applies = fault_as (Unit {0}) Applied (is_some s.packing) s.held (page_size s.page) e s.block s.blocks (drop s.log.passed (ends_of s.log.stretches.items)) s.log.index o s.broken (drop t.log.passed (ends_of t.log.stretches.items)) t.log.index t.broken (g.S.Sink.taken s.log.sink) (g.S.Sink.taken t.log.sink)
           (g.S.Sink.failures s.log.sink) (g.S.Sink.failures t.log.sink) [] places c.in-Err.fault t.held took;
       alone = record {
         forms = it.0;
         runs = it.1;
         survives = λ whole base row done before has.
-            run_survives (is_some s.packing) s.held (page_size s.page) e s.block s.blocks (left_at s.log.openings.items s.log.cursor) s.log.index (o ∷ []) s.broken (accepted_by r) it.0 (left_at t.log.openings.items t.log.cursor) t.log.index t.broken (g.S.Sink.taken s.log.sink) (g.S.Sink.taken t.log.sink)
+            run_survives (is_some s.packing) s.held (page_size s.page) e s.block s.blocks (drop s.log.passed (ends_of s.log.stretches.items)) s.log.index (o ∷ []) s.broken (accepted_by r) it.0 (drop t.log.passed (ends_of t.log.stretches.items)) t.log.index t.broken (g.S.Sink.taken s.log.sink) (g.S.Sink.taken t.log.sink)
             (g.S.Sink.failures s.log.sink) (g.S.Sink.failures t.log.sink) places (stop_by r) base row done before (sizes_are_pages s.page) s.holds it.1 whole has.bytes
             (all_first OpFits (attempted (accepted_by r) t.broken) (o ∷ []) (c.known.ensures, tt)) has.goes_on has.held;
         done = λ whole base row done before has.
-            let on = moved s.page t.page e s.block t.block s.blocks t.blocks base row (done ++ take (accepted_by r) (o ∷ [])) (before ++ it.0) (left_at t.log.openings.items t.log.cursor) t.held t.log.index
+            let on = moved s.page t.page e s.block t.block s.blocks t.blocks base row (done ++ take (accepted_by r) (o ∷ [])) (before ++ it.0) (drop t.log.passed (ends_of t.log.stretches.items)) t.held t.log.index
             (sym c.apply_onto.ensures.page) (sym c.apply_onto.ensures.block) (sym c.apply_onto.ensures.blocks)
-            (run_goes_on (is_some s.packing) s.held t.held (page_size s.page) e s.block s.blocks (left_at s.log.openings.items s.log.cursor) s.log.index (o ∷ []) s.broken (accepted_by r) it.0 (left_at t.log.openings.items t.log.cursor) t.log.index t.broken (g.S.Sink.taken s.log.sink) (g.S.Sink.taken t.log.sink)
+            (run_goes_on (is_some s.packing) s.held t.held (page_size s.page) e s.block s.blocks (drop s.log.passed (ends_of s.log.stretches.items)) s.log.index (o ∷ []) s.broken (accepted_by r) it.0 (drop t.log.passed (ends_of t.log.stretches.items)) t.log.index t.broken (g.S.Sink.taken s.log.sink) (g.S.Sink.taken t.log.sink)
             (g.S.Sink.failures s.log.sink) (g.S.Sink.failures t.log.sink) places (stop_by r) base row done before it.1 whole (all_first OpFits (accepted_by r) (o ∷ []) (c.known.ensures, tt)) has.goes_on has.held it.2) in
             record { bytes = has.bytes; goes_on = on.0; held = on.1 };
       };

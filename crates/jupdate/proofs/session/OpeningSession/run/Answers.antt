@@ -31,8 +31,8 @@ loop-accepted-init g c =
       openings = refl;
       broken = refl;
       forms = [];
-      run = subst (λ l. RunBy (is_some s.packing) s.held (page_size s.page) e s.block s.blocks (left_at s.log.openings.items s.log.cursor) s.log.index c.args.ops.now 0 [] (left_at s.log.openings.items s.log.cursor) s.log.index (g.S.Sink.taken s.log.sink) (g.S.Sink.taken s.log.sink) l) (sym none)
-          (none_run (is_some s.packing) s.held (page_size s.page) e s.block s.blocks (left_at s.log.openings.items s.log.cursor) s.log.index c.args.ops.now (g.S.Sink.taken s.log.sink) s.few (put_none e s.block (left_at s.log.openings.items s.log.cursor) s.log.index (g.S.Sink.taken s.log.sink) []));
+      run = subst (λ l. RunBy (is_some s.packing) s.held (page_size s.page) e s.block s.blocks (drop s.log.passed (ends_of s.log.stretches.items)) s.log.index c.args.ops.now 0 [] (drop s.log.passed (ends_of s.log.stretches.items)) s.log.index (g.S.Sink.taken s.log.sink) (g.S.Sink.taken s.log.sink) l) (sym none)
+          (none_run (is_some s.packing) s.held (page_size s.page) e s.block s.blocks (drop s.log.passed (ends_of s.log.stretches.items)) s.log.index c.args.ops.now (g.S.Sink.taken s.log.sink) s.few (put_none e s.block (drop s.log.passed (ends_of s.log.stretches.items)) s.log.index (g.S.Sink.taken s.log.sink) []));
       held = omega arith;
       none_failed = refl;
     }
@@ -49,7 +49,7 @@ loop-accepted-preserved g c =
     let below : n < length c.args.ops.now = search rules in
     let is : o ≡ get_or c.args.ops.now n o = search rules in
     let next : suc n ≡ n + 1 = omega arith in
-    let took = takes_same (is_some l.packing) (is_some s.packing) l.held (page_size l.page) (page_size s.page) e l.block s.block l.blocks s.blocks (left_at l.log.openings.items l.log.cursor) l.log.index o l.broken s.broken (left_at t.log.openings.items t.log.cursor) t.log.index t.broken
+    let took = takes_same (is_some l.packing) (is_some s.packing) l.held (page_size l.page) (page_size s.page) e l.block s.block l.blocks s.blocks (drop l.log.passed (ends_of l.log.stretches.items)) l.log.index o l.broken s.broken (drop t.log.passed (ends_of t.log.stretches.items)) t.log.index t.broken
     (g.S.Sink.taken l.log.sink) (g.S.Sink.taken t.log.sink) (g.S.Sink.failures l.log.sink) (g.S.Sink.failures s.log.sink) (g.S.Sink.failures t.log.sink) c.loop-accepted.places.items c.apply_onto.new.places.items
     c.apply_onto.result (Ok (tt {0})) t.held inv.packs (ap page_size inv.page) inv.block inv.blocks inv.broken inv.none_failed (search rules) c.apply_onto.ensures.applies in
     record {
@@ -62,8 +62,8 @@ loop-accepted-preserved g c =
       openings = c.apply_onto.ensures.openings ∙ inv.openings;
       broken = took.0.1 ∙ sym took.0.0;
       forms = inv.forms ++ took.0.2.1;
-      run = subst (λ (n : ℕ). RunBy (is_some s.packing) s.held (page_size s.page) e s.block s.blocks (left_at s.log.openings.items s.log.cursor) s.log.index c.args.ops.now n (inv.forms ++ took.0.2.1) (left_at t.log.openings.items t.log.cursor) t.log.index (g.S.Sink.taken s.log.sink) (g.S.Sink.taken t.log.sink) c.apply_onto.new.places.items) next
-          (run_more (tt {0}) (is_some s.packing) s.held l.held (page_size s.page) e s.block s.blocks (left_at s.log.openings.items s.log.cursor) s.log.index c.args.ops.now n o o inv.forms (left_at l.log.openings.items l.log.cursor) (left_at t.log.openings.items t.log.cursor) l.log.index t.log.index s.broken t.broken
+      run = subst (λ (n : ℕ). RunBy (is_some s.packing) s.held (page_size s.page) e s.block s.blocks (drop s.log.passed (ends_of s.log.stretches.items)) s.log.index c.args.ops.now n (inv.forms ++ took.0.2.1) (drop t.log.passed (ends_of t.log.stretches.items)) t.log.index (g.S.Sink.taken s.log.sink) (g.S.Sink.taken t.log.sink) c.apply_onto.new.places.items) next
+          (run_more (tt {0}) (is_some s.packing) s.held l.held (page_size s.page) e s.block s.blocks (drop s.log.passed (ends_of s.log.stretches.items)) s.log.index c.args.ops.now n o o inv.forms (drop l.log.passed (ends_of l.log.stretches.items)) (drop t.log.passed (ends_of t.log.stretches.items)) l.log.index t.log.index s.broken t.broken
           (g.S.Sink.taken s.log.sink) (g.S.Sink.taken l.log.sink) (g.S.Sink.taken t.log.sink) (g.S.Sink.failures s.log.sink) (g.S.Sink.failures t.log.sink) c.loop-accepted.places.items c.apply_onto.new.places.items
           below is inv.held inv.run took.0);
       held = omega (arith, took.1, inv.held, contents_on e inv.forms took.0.2.1);
@@ -79,19 +79,19 @@ returns-clause-runs g c =
     let ops = c.args.ops.now in
     let n = c.loop-accepted.accepted in
     let all : n ≡ length ops = search rules in
-    let did : RunsBy (is_some s.packing) s.held (page_size s.page) e s.block s.blocks (left_at s.log.openings.items s.log.cursor) s.log.index ops s.broken n inv.forms (left_at l.log.openings.items l.log.cursor) l.log.index l.broken (g.S.Sink.taken s.log.sink) (g.S.Sink.taken l.log.sink)
+    let did : RunsBy (is_some s.packing) s.held (page_size s.page) e s.block s.blocks (drop s.log.passed (ends_of s.log.stretches.items)) s.log.index ops s.broken n inv.forms (drop l.log.passed (ends_of l.log.stretches.items)) l.log.index l.broken (g.S.Sink.taken s.log.sink) (g.S.Sink.taken l.log.sink)
     (g.S.Sink.failures s.log.sink) (g.S.Sink.failures l.log.sink) c.loop-accepted.places.items None =
     (all, inv.broken, inv.run, inv.none_failed) in
     record {
       forms = inv.forms;
       runs = did;
       survives = λ whole base row done before has.
-          run_survives (is_some s.packing) s.held (page_size s.page) e s.block s.blocks (left_at s.log.openings.items s.log.cursor) s.log.index ops s.broken n inv.forms (left_at l.log.openings.items l.log.cursor) l.log.index l.broken (g.S.Sink.taken s.log.sink) (g.S.Sink.taken l.log.sink)
+          run_survives (is_some s.packing) s.held (page_size s.page) e s.block s.blocks (drop s.log.passed (ends_of s.log.stretches.items)) s.log.index ops s.broken n inv.forms (drop l.log.passed (ends_of l.log.stretches.items)) l.log.index l.broken (g.S.Sink.taken s.log.sink) (g.S.Sink.taken l.log.sink)
           (g.S.Sink.failures s.log.sink) (g.S.Sink.failures l.log.sink) c.loop-accepted.places.items None base row done before (sizes_are_pages s.page) s.holds did whole has.bytes
           (all_first OpFits (attempted n l.broken) ops (subst (AllByRecursion OpFits) (take_all n ops (omega (arith, all))) inv.known)) has.goes_on has.held;
       done = λ whole base row done before has.
-          let on = moved s.page l.page e s.block l.block s.blocks l.blocks base row (done ++ take n ops) (before ++ inv.forms) (left_at l.log.openings.items l.log.cursor) l.held l.log.index (sym inv.page) (sym inv.block) (sym inv.blocks)
-          (run_goes_on (is_some s.packing) s.held l.held (page_size s.page) e s.block s.blocks (left_at s.log.openings.items s.log.cursor) s.log.index ops s.broken n inv.forms (left_at l.log.openings.items l.log.cursor) l.log.index l.broken (g.S.Sink.taken s.log.sink) (g.S.Sink.taken l.log.sink)
+          let on = moved s.page l.page e s.block l.block s.blocks l.blocks base row (done ++ take n ops) (before ++ inv.forms) (drop l.log.passed (ends_of l.log.stretches.items)) l.held l.log.index (sym inv.page) (sym inv.block) (sym inv.blocks)
+          (run_goes_on (is_some s.packing) s.held l.held (page_size s.page) e s.block s.blocks (drop s.log.passed (ends_of s.log.stretches.items)) s.log.index ops s.broken n inv.forms (drop l.log.passed (ends_of l.log.stretches.items)) l.log.index l.broken (g.S.Sink.taken s.log.sink) (g.S.Sink.taken l.log.sink)
           (g.S.Sink.failures s.log.sink) (g.S.Sink.failures l.log.sink) c.loop-accepted.places.items None base row done before did whole inv.known has.goes_on has.held inv.held) in
           record { bytes = has.bytes; goes_on = on.0; held = on.1 };
     }
@@ -108,16 +108,16 @@ returns-in-Err-clause-runs g c =
     let o = c.index-ops-accepted.result in
     let below : n < length ops = search rules in
     let is : o ≡ get_or ops n o = search rules in
-    let took : TakesBy {T = Unit {0}} (is_some s.packing) (s.held + content_len e inv.forms) (page_size s.page) e s.block s.blocks (left_at l.log.openings.items l.log.cursor) l.log.index o s.broken (left_at t.log.openings.items t.log.cursor) t.log.index t.broken (g.S.Sink.taken l.log.sink) (g.S.Sink.taken t.log.sink)
+    let took : TakesBy {T = Unit {0}} (is_some s.packing) (s.held + content_len e inv.forms) (page_size s.page) e s.block s.blocks (drop l.log.passed (ends_of l.log.stretches.items)) l.log.index o s.broken (drop t.log.passed (ends_of t.log.stretches.items)) t.log.index t.broken (g.S.Sink.taken l.log.sink) (g.S.Sink.taken t.log.sink)
     (g.S.Sink.failures s.log.sink) (g.S.Sink.failures t.log.sink) c.loop-accepted.places.items c.apply_onto.new.places.items (Err c.in-Err.fault) t.held =
-    subst (λ (h : ℕ). TakesBy {T = Unit {0}} (is_some s.packing) h (page_size s.page) e s.block s.blocks (left_at l.log.openings.items l.log.cursor) l.log.index o s.broken (left_at t.log.openings.items t.log.cursor) t.log.index t.broken (g.S.Sink.taken l.log.sink) (g.S.Sink.taken t.log.sink)
+    subst (λ (h : ℕ). TakesBy {T = Unit {0}} (is_some s.packing) h (page_size s.page) e s.block s.blocks (drop l.log.passed (ends_of l.log.stretches.items)) l.log.index o s.broken (drop t.log.passed (ends_of t.log.stretches.items)) t.log.index t.broken (g.S.Sink.taken l.log.sink) (g.S.Sink.taken t.log.sink)
     (g.S.Sink.failures s.log.sink) (g.S.Sink.failures t.log.sink) c.loop-accepted.places.items c.apply_onto.new.places.items (Err c.in-Err.fault) t.held) inv.held
-    (takes_same (is_some l.packing) (is_some s.packing) l.held (page_size l.page) (page_size s.page) e l.block s.block l.blocks s.blocks (left_at l.log.openings.items l.log.cursor) l.log.index o l.broken s.broken (left_at t.log.openings.items t.log.cursor) t.log.index t.broken
+    (takes_same (is_some l.packing) (is_some s.packing) l.held (page_size l.page) (page_size s.page) e l.block s.block l.blocks s.blocks (drop l.log.passed (ends_of l.log.stretches.items)) l.log.index o l.broken s.broken (drop t.log.passed (ends_of t.log.stretches.items)) t.log.index t.broken
     (g.S.Sink.taken l.log.sink) (g.S.Sink.taken t.log.sink) (g.S.Sink.failures l.log.sink) (g.S.Sink.failures s.log.sink) (g.S.Sink.failures t.log.sink) c.loop-accepted.places.items c.apply_onto.new.places.items
     c.apply_onto.result (Err c.in-Err.fault) t.held inv.packs (ap page_size inv.page) inv.block inv.blocks inv.broken inv.none_failed c.in-Err.is c.apply_onto.ensures.applies) in
-    let did : RunsBy (is_some s.packing) s.held (page_size s.page) e s.block s.blocks (left_at s.log.openings.items s.log.cursor) s.log.index ops s.broken n inv.forms (left_at t.log.openings.items t.log.cursor) t.log.index t.broken (g.S.Sink.taken s.log.sink) (g.S.Sink.taken t.log.sink)
+    let did : RunsBy (is_some s.packing) s.held (page_size s.page) e s.block s.blocks (drop s.log.passed (ends_of s.log.stretches.items)) s.log.index ops s.broken n inv.forms (drop t.log.passed (ends_of t.log.stretches.items)) t.log.index t.broken (g.S.Sink.taken s.log.sink) (g.S.Sink.taken t.log.sink)
     (g.S.Sink.failures s.log.sink) (g.S.Sink.failures t.log.sink) c.apply_onto.new.places.items (Some c.in-Err.fault) = record {
-      mid = log_in (left_at l.log.openings.items l.log.cursor) l.log.index c.loop-accepted.places.items;
+      mid = log_in (drop l.log.passed (ends_of l.log.stretches.items)) l.log.index c.loop-accepted.places.items;
       between = g.S.Sink.taken l.log.sink;
       op = o;
       run = inv.run;
@@ -125,19 +125,19 @@ returns-in-Err-clause-runs g c =
       stop = took.0;
     } in
     let still : t.held ≡ s.held + content_len e inv.forms =
-    held_still (Unit {0}) (is_some s.packing) (s.held + content_len e inv.forms) (page_size s.page) e s.block s.blocks (left_at l.log.openings.items l.log.cursor) l.log.index o s.broken (left_at t.log.openings.items t.log.cursor) t.log.index t.broken (g.S.Sink.taken l.log.sink) (g.S.Sink.taken t.log.sink)
+    held_still (Unit {0}) (is_some s.packing) (s.held + content_len e inv.forms) (page_size s.page) e s.block s.blocks (drop l.log.passed (ends_of l.log.stretches.items)) l.log.index o s.broken (drop t.log.passed (ends_of t.log.stretches.items)) t.log.index t.broken (g.S.Sink.taken l.log.sink) (g.S.Sink.taken t.log.sink)
     (g.S.Sink.failures s.log.sink) (g.S.Sink.failures t.log.sink) c.loop-accepted.places.items c.apply_onto.new.places.items c.in-Err.fault t.held took in
     record {
       forms = inv.forms;
       runs = did;
       survives = λ whole base row done before has.
-          run_survives (is_some s.packing) s.held (page_size s.page) e s.block s.blocks (left_at s.log.openings.items s.log.cursor) s.log.index ops s.broken n inv.forms (left_at t.log.openings.items t.log.cursor) t.log.index t.broken (g.S.Sink.taken s.log.sink) (g.S.Sink.taken t.log.sink)
+          run_survives (is_some s.packing) s.held (page_size s.page) e s.block s.blocks (drop s.log.passed (ends_of s.log.stretches.items)) s.log.index ops s.broken n inv.forms (drop t.log.passed (ends_of t.log.stretches.items)) t.log.index t.broken (g.S.Sink.taken s.log.sink) (g.S.Sink.taken t.log.sink)
           (g.S.Sink.failures s.log.sink) (g.S.Sink.failures t.log.sink) c.apply_onto.new.places.items (Some c.in-Err.fault) base row done before (sizes_are_pages s.page) s.holds did whole has.bytes
           (attempted_known ops n o t.broken below inv.known (subst OpFits is c.known.ensures)) has.goes_on has.held;
       done = λ whole base row done before has.
-          let on = moved s.page t.page e s.block t.block s.blocks t.blocks base row (done ++ take n ops) (before ++ inv.forms) (left_at t.log.openings.items t.log.cursor) t.held t.log.index
+          let on = moved s.page t.page e s.block t.block s.blocks t.blocks base row (done ++ take n ops) (before ++ inv.forms) (drop t.log.passed (ends_of t.log.stretches.items)) t.held t.log.index
           (sym (c.apply_onto.ensures.page ∙ inv.page)) (sym (c.apply_onto.ensures.block ∙ inv.block)) (sym (c.apply_onto.ensures.blocks ∙ inv.blocks))
-          (run_goes_on (is_some s.packing) s.held t.held (page_size s.page) e s.block s.blocks (left_at s.log.openings.items s.log.cursor) s.log.index ops s.broken n inv.forms (left_at t.log.openings.items t.log.cursor) t.log.index t.broken (g.S.Sink.taken s.log.sink) (g.S.Sink.taken t.log.sink)
+          (run_goes_on (is_some s.packing) s.held t.held (page_size s.page) e s.block s.blocks (drop s.log.passed (ends_of s.log.stretches.items)) s.log.index ops s.broken n inv.forms (drop t.log.passed (ends_of t.log.stretches.items)) t.log.index t.broken (g.S.Sink.taken s.log.sink) (g.S.Sink.taken t.log.sink)
           (g.S.Sink.failures s.log.sink) (g.S.Sink.failures t.log.sink) c.apply_onto.new.places.items (Some c.in-Err.fault) base row done before did whole inv.known has.goes_on has.held still) in
           record { bytes = has.bytes; goes_on = on.0; held = on.1 };
     }

@@ -1,10 +1,12 @@
-use Rattle.std.proofs.Common.{◌≡◌, ◌≤◌, ◌+◌, ◌-◌, ℕ, is_some, List, length, take}
+use Rattle.std.proofs.Common.{◌≡◌, ◌≤◌, ◌+◌, ◌-◌, ℕ, is_some, List, drop, length, take}
 use Rattle.std.specs.List.{AllByRecursion}
 use Rattle.jscan.specs.Pages.{page_size}
 use Rattle.jsteps.specs.Laws.{OpFits}
 use Rattle.jlog.specs.SessionAs.{content_len}
-use Rattle.jupdate.specs.Rows.{left_at}
+use Rattle.jopenings.specs.Stretches.{longer}
+use Rattle.jupdate.specs.Rows.{begins_of, ends_of}
 use Rattle.jupdate.proofs.RunLemmas.{RunBy}
+use Rattle.jupdate.proofs.StretchLemmas.{added}
 use Rattle.jupdate.proofs.session.OpeningSession.run.Given as goal
 
 abbrev pub invariant-loop-accepted : goal.invariant-loop-accepted
@@ -15,11 +17,12 @@ invariant-loop-accepted g l = record {
   blocks : l.self.blocks ≡ l.initial.self.blocks;
   page : l.self.page ≡ l.initial.self.page;
   packs : is_some l.self.packing ≡ is_some l.initial.self.packing;
-  openings : l.self.log.openings.items ≡ l.initial.self.log.openings.items;
+  begins : begins_of l.self.log.stretches.items ≡ begins_of l.initial.self.log.stretches.items;
   broken : l.self.broken ≡ l.initial.self.broken;
   forms : List (List ℕ);
-  run : RunBy (is_some l.initial.self.packing) l.initial.self.held (page_size l.initial.self.page) g.E.Order.order l.initial.self.block l.initial.self.blocks (left_at l.initial.self.log.openings.items l.initial.self.log.cursor) l.initial.self.log.index l.ops l.accepted forms (left_at l.self.log.openings.items l.self.log.cursor) l.self.log.index
+  run : RunBy (is_some l.initial.self.packing) l.initial.self.held (page_size l.initial.self.page) g.E.Order.order l.initial.self.block l.initial.self.blocks (drop l.initial.self.log.passed (ends_of l.initial.self.log.stretches.items)) l.initial.self.log.index l.ops l.accepted forms (drop l.self.log.passed (ends_of l.self.log.stretches.items)) l.self.log.index
       (g.S.Sink.taken l.initial.self.log.sink) (g.S.Sink.taken l.self.log.sink) l.places.items;
+  longer_by : l.self.log.stretches.items ≡ longer (added g.E.Order.order l.initial.self.block (drop l.initial.self.log.passed (ends_of l.initial.self.log.stretches.items)) forms) l.initial.self.log.stretches.items;
   held : l.self.held ≡ l.initial.self.held + content_len g.E.Order.order forms;
   none_failed : g.S.Sink.failures l.self.log.sink ≡ g.S.Sink.failures l.initial.self.log.sink;
 }
