@@ -26,7 +26,8 @@ use Rattle.jrests.specs.declared.opening.Opening.{Opening}
 use Rattle.jrests.proofs.ShareLemmas.{all_first, all_behind}
 use Rattle.jopenings.specs.After.{row_after, row_after_all, output_to_all}
 use Rattle.jopenings.proofs.AfterLemmas.{no_places, room_goes_on, places_go_on, output_goes_on, output_step}
-use Rattle.jupdate.specs.Writing.{places_out}
+use Rattle.jopenings.specs.declared.placing.Stretch.{Stretch}
+use Rattle.jupdate.specs.Writing.{GrowsBy, places_out}
 use Rattle.jupdate.proofs.OutLemmas.{all_far, all_near, all_told}
 use Rattle.jupdate.proofs.Parts.{PutBy, PartBy, PutsBy}
 use Rattle.jupdate.proofs.RowLemmas.{Reached, fit_reached, goes_to, no_output, rows_on}
@@ -228,3 +229,6 @@ at_unbegun e size row x steps forms next y a b f n p q r is did = subst (PutsBy 
 pub at_ok : (u : Unit {0}) (e : Endian) (size : ℕ) (row : List Opening) (x : Indexed) (steps : List Step) (forms : List (List ℕ)) (next : List Opening) (y : Indexed) (a b : Option (List ℕ)) (f n : ℕ) (p q : List Place) (r : Result (Unit {0}) Stop)
     → r ≡ Ok u → PutsBy e size row x steps forms next y a b f n p q r → PutBy e size row x steps forms next y a b p q × (n ≡ f)
 at_ok u e size row x steps forms next y a b f n p q r is did = subst (PutsBy e size row x steps forms next y a b f n p q) is did
+
+pub grows_unbegun : (e : Endian) (size : ℕ) (row : List Opening) (forms : List (List ℕ)) (ss ts : List Stretch) (r : Result (Unit {0}) Stop) → r ≡ Err stop.Unbegun → GrowsBy e size row forms ss ts r → ts ≡ ss
+grows_unbegun e size row forms ss ts r is did = subst (GrowsBy e size row forms ss ts) is did

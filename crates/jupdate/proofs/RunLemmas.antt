@@ -3,7 +3,7 @@ use Rattle.std.proofs.Common.{◌≡◌, ℕ, suc, ◌+◌, ◌%◌, ◌<◌, �
 use Rattle.std.specs.Prelude.{IsTrue, IsFalse}
 use Rattle.std.specs.List.{AllByRecursion}
 use Rattle.std.specs.Io.KnownBytes.{Appends}
-use Rattle.std.proofs.lemmas.Bool.{and_from}
+use Rattle.std.proofs.lemmas.Bool.{and_from, true≢false}
 use Rattle.jnode.specs.declared.node.NodeRef.{NodeRef}
 use Rattle.jnode.specs.declared.order.Endian.{Endian}
 use Rattle.jscan.specs.Pages.{IsPage}
@@ -33,15 +33,18 @@ use Rattle.jpacked.proofs.RunLemmas.{packs_by}
 use Rattle.jrests.specs.Shares.{fit_in}
 use Rattle.jrests.specs.declared.opening.Opening.{Opening}
 use Rattle.jopenings.specs.After.{row_after_all}
+use Rattle.jopenings.specs.Stretches.{longer}
+use Rattle.jopenings.specs.declared.placing.Stretch.{Stretch}
 use Rattle.jopenings.proofs.AfterLemmas.{none_fit, room_goes_on}
 use Rattle.jupdate.specs.Accepting.{IsChosenIn, DeclinesIn}
 use Rattle.jupdate.specs.Rows.{IsOpen}
 use Rattle.jupdate.specs.SessionIn.{IsGoingIn, StateIn, IsTakenIn, IsUntouchedIn, AppliesIn, IsRunIn, RunsIn}
-use Rattle.jupdate.specs.View.{HoldsAfterIn}
+use Rattle.jupdate.specs.View.{HoldsAfterIn, GrowsIn}
 use Rattle.jupdate.specs.Writing.{log_in}
 use Rattle.jupdate.proofs.Parts.{PutBy, PutsBy}
 use Rattle.jupdate.proofs.PutLemmas.{put_then}
 use Rattle.jupdate.proofs.RowLemmas.{all_stay_open, no_more}
+use Rattle.jupdate.proofs.StretchLemmas.{added, none_longer}
 
 -- a session in a row, by its parts
 abbrev pub state_in : List Opening → Indexed → Bool → List Place → StateIn
@@ -124,6 +127,13 @@ TakesBy packs held page e size blocks from x o was end y is old new failures now
     (did : AppliesBy packs held page e size blocks from x o was end y is old new failures now before after r)
     × HoldsAfterIn (packs_by packs held page e size blocks) (state_in from x was before) o (state_in end y is after) (change_by old new failures now) r did held_now
 
+-- and what went out to each opening
+abbrev pub AlsoBy : {T : Type 0} → Bool → ℕ → ℕ → Endian → ℕ → ℕ → List Opening → Indexed → Op → Bool → List Opening → Indexed → Bool → Option (List ℕ) → Option (List ℕ) → ℕ → ℕ → List Place → List Place → Result T SessionFault → ℕ → List Stretch
+    → List Stretch → Type 0
+AlsoBy packs held page e size blocks from x o was end y is old new failures now before after r held_now ss ts =
+    (took : TakesBy packs held page e size blocks from x o was end y is old new failures now before after r held_now)
+    × GrowsIn (packs_by packs held page e size blocks) (state_in from x was before) o (state_in end y is after) (change_by old new failures now) r took.0 ss ts
+
 -- ---- what putting the forms of an operation does
 
 pub puts_same : (e : Endian) (size : ℕ) (c : List Opening) (x : Indexed) (ss steps : List Step) (ts streams : List (List ℕ)) (end : List Opening) (y : Indexed) (a b : Option (List ℕ)) (f n : ℕ) (o p q : List Place) (s r : Result (Unit {0}) Stop)
@@ -135,58 +145,37 @@ puts_same e size c x ss steps ts streams end y a b f n o p q s r steps_are strea
     (subst (λ (l : List (List ℕ)). PutsBy e size c x ss (step_forms e x ss l) end y a b f n o q s) streams_are put)))
 
 pub took_all : (packs : Bool) (held now page : ℕ) (e : Endian) (size blocks : ℕ) (c : List Opening) (x : Indexed) (o : Op) (steps : List Step) (streams : List (List ℕ)) (was is : Bool) (end : List Opening) (y : Indexed)
-    (a b : Option (List ℕ)) (f n : ℕ) (p q r : List Place) → IsFalse was → IsFalse is
+    (a b : Option (List ℕ)) (f n : ℕ) (p q r : List Place) (ss ts : List Stretch) → IsFalse was → IsFalse is
     → IsChosenIn (packs_by packs held page e size blocks) (log_in c x r) o steps streams now
-    → PutsBy e size c x steps (step_forms e x steps streams) end y a b f n p q (Ok (tt {0}))
-    → TakesBy {T = Unit {0}} packs held page e size blocks c x o was end y is a b f n p q (Ok (tt {0})) now
-took_all packs held now page e size blocks c x o steps streams was is end y a b f n p q r whole still chosen put = (
+    → PutsBy e size c x steps (step_forms e x steps streams) end y a b f n p q (Ok (tt {0})) → ts ≡ longer (added e size c (step_forms e x steps streams)) ss
+    → AlsoBy {T = Unit {0}} packs held page e size blocks c x o was end y is a b f n p q (Ok (tt {0})) now ss ts
+took_all packs held now page e size blocks c x o steps streams was is end y a b f n p q r ss ts whole still chosen put grows = (
   (
-    whole,
-    still,
     (
-      steps,
-      step_forms e x steps streams,
-      taken_in packs held now page e size blocks c x p r o steps streams chosen,
-      put.0,
-    ),
-    put.1,
-  ),
-  chosen.fitting.packed.now_is,
-)
-
-pub took_sink : (packs : Bool) (held now page : ℕ) (e : Endian) (size blocks : ℕ) (c : List Opening) (x : Indexed) (o : Op) (steps : List Step) (streams : List (List ℕ)) (was is : Bool) (end : List Opening) (y : Indexed)
-    (a b : Option (List ℕ)) (f n : ℕ) (p q r : List Place) → IsFalse was → IsTrue is
-    → IsChosenIn (packs_by packs held page e size blocks) (log_in c x r) o steps streams now
-    → PutsBy e size c x steps (step_forms e x steps streams) end y a b f n p q (Err stop.Sink)
-    → TakesBy {T = Unit {0}} packs held page e size blocks c x o was end y is a b f n p q (Err fault.Sink) held
-took_sink packs held now page e size blocks c x o steps streams was is end y a b f n p q r whole broke chosen put = (
-  (
-    whole,
-    (
-      broke,
+      whole,
+      still,
       (
         steps,
         step_forms e x steps streams,
-        put.0.0,
         taken_in packs held now page e size blocks c x p r o steps streams chosen,
-        omega arith,
-        put.0.1,
+        put.0,
       ),
+      put.1,
     ),
-    put.1,
+    chosen.fitting.packed.now_is,
   ),
-  refl,
+  grows,
 )
 
-pub took_begun : (packs : Bool) (held now page : ℕ) (e : Endian) (size blocks : ℕ) (c : List Opening) (x : Indexed) (o : Op) (steps : List Step) (streams : List (List ℕ)) (was is : Bool) (end : List Opening) (y : Indexed)
-    (a b : Option (List ℕ)) (f n : ℕ) (p q r : List Place) → IsFalse was → IsTrue is
+pub took_sink : (packs : Bool) (held now page : ℕ) (e : Endian) (size blocks : ℕ) (c : List Opening) (x : Indexed) (o : Op) (steps : List Step) (streams : List (List ℕ)) (was is : Bool) (end : List Opening) (y : Indexed)
+    (a b : Option (List ℕ)) (f n : ℕ) (p q r : List Place) (ss ts : List Stretch) → IsFalse was → IsTrue is
     → IsChosenIn (packs_by packs held page e size blocks) (log_in c x r) o steps streams now
-    → PutsBy e size c x steps (step_forms e x steps streams) end y a b f n p q (Err stop.Begun)
-    → TakesBy {T = Unit {0}} packs held page e size blocks c x o was end y is a b f n p q (Err fault.OutOfMemory) held
-took_begun packs held now page e size blocks c x o steps streams was is end y a b f n p q r whole broke chosen put = (
+    → PutsBy e size c x steps (step_forms e x steps streams) end y a b f n p q (Err stop.Sink)
+    → AlsoBy {T = Unit {0}} packs held page e size blocks c x o was end y is a b f n p q (Err fault.Sink) held ss ts
+took_sink packs held now page e size blocks c x o steps streams was is end y a b f n p q r ss ts whole broke chosen put = (
   (
-    whole,
-    inr (
+    (
+      whole,
       (
         broke,
         (
@@ -194,76 +183,109 @@ took_begun packs held now page e size blocks c x o steps streams was is end y a 
           step_forms e x steps streams,
           put.0.0,
           taken_in packs held now page e size blocks c x p r o steps streams chosen,
+          omega arith,
           put.0.1,
-          put.0.2,
         ),
       ),
       put.1,
     ),
+    refl,
   ),
-  refl,
+  tt,
+)
+
+pub took_begun : (packs : Bool) (held now page : ℕ) (e : Endian) (size blocks : ℕ) (c : List Opening) (x : Indexed) (o : Op) (steps : List Step) (streams : List (List ℕ)) (was is : Bool) (end : List Opening) (y : Indexed)
+    (a b : Option (List ℕ)) (f n : ℕ) (p q r : List Place) (ss ts : List Stretch) → IsFalse was → IsTrue is
+    → IsChosenIn (packs_by packs held page e size blocks) (log_in c x r) o steps streams now
+    → PutsBy e size c x steps (step_forms e x steps streams) end y a b f n p q (Err stop.Begun)
+    → AlsoBy {T = Unit {0}} packs held page e size blocks c x o was end y is a b f n p q (Err fault.OutOfMemory) held ss ts
+took_begun packs held now page e size blocks c x o steps streams was is end y a b f n p q r ss ts whole broke chosen put = (
+  (
+    (
+      whole,
+      inr (
+        (
+          broke,
+          (
+            steps,
+            step_forms e x steps streams,
+            put.0.0,
+            taken_in packs held now page e size blocks c x p r o steps streams chosen,
+            put.0.1,
+            put.0.2,
+          ),
+        ),
+        put.1,
+      ),
+    ),
+    refl,
+  ),
+  λ unbroken. absurd (true≢false (sym broke ∙ unbroken)),
 )
 
 pub untouched_at : (c : List Opening) (x : Indexed) (p : List Place) (is : Bool) (a : Option (List ℕ)) (f : ℕ) → IsFalse is → Appends a a [] → IsUntouchedIn (log_in c x p) (log_in c x p) is (change_by a a f f)
 untouched_at c x p is a f still none = record { whole = still; row = refl; index = refl; bytes = none; places = refl; none_failed = refl }
 
 pub took_unbegun : (packs : Bool) (held page : ℕ) (e : Endian) (size blocks : ℕ) (c : List Opening) (x : Indexed) (o : Op) (steps : List Step) (forms : List (List ℕ)) (was is : Bool) (end : List Opening) (y : Indexed)
-    (a b : Option (List ℕ)) (f n : ℕ) (p q : List Place) → IsFalse was → IsFalse is
-    → PutsBy e size c x steps forms end y a b f n p q (Err stop.Unbegun)
-    → TakesBy {T = Unit {0}} packs held page e size blocks c x o was end y is a b f n p q (Err fault.OutOfMemory) held
-took_unbegun packs held page e size blocks c x o steps forms was is end y a b f n p q whole still put = (
-  (whole, inl (record { whole = still; row = put.0; index = put.1; bytes = put.2; places = put.3; none_failed = put.4 })),
-  refl,
+    (a b : Option (List ℕ)) (f n : ℕ) (p q : List Place) (ss ts : List Stretch) → IsFalse was → IsFalse is
+    → PutsBy e size c x steps forms end y a b f n p q (Err stop.Unbegun) → ts ≡ ss
+    → AlsoBy {T = Unit {0}} packs held page e size blocks c x o was end y is a b f n p q (Err fault.OutOfMemory) held ss ts
+took_unbegun packs held page e size blocks c x o steps forms was is end y a b f n p q ss ts whole still put same = (
+  ((whole, inl (record { whole = still; row = put.0; index = put.1; bytes = put.2; places = put.3; none_failed = put.4 })), refl),
+  λ unbroken. same,
 )
 
 -- what an operation that is not accepted does
-pub took_none : (packs : Bool) (held page : ℕ) (e : Endian) (size blocks : ℕ) (c : List Opening) (x : Indexed) (o : Op) (was is : Bool) (a : Option (List ℕ)) (f : ℕ) (p r : List Place) (g : SessionFault)
+pub took_none : (packs : Bool) (held page : ℕ) (e : Endian) (size blocks : ℕ) (c : List Opening) (x : Indexed) (o : Op) (was is : Bool) (a : Option (List ℕ)) (f : ℕ) (p r : List Place) (ss : List Stretch) (g : SessionFault)
     → IsFalse was → IsFalse is → Appends a a [] → DeclinesIn (packs_by packs held page e size blocks) (log_in c x r) o g
-    → TakesBy {T = Unit {0}} packs held page e size blocks c x o was c x is a a f f p p (Err g) held
-took_none packs held page e size blocks c x o was is a f p r (fault.Refused g) whole still none why = ((whole, why, untouched_at c x p is a f still none), refl)
-took_none packs held page e size blocks c x o was is a f p r (fault.Full wanted left) whole still none why = (
+    → AlsoBy {T = Unit {0}} packs held page e size blocks c x o was c x is a a f f p p (Err g) held ss ss
+took_none packs held page e size blocks c x o was is a f p r ss (fault.Refused g) whole still none why = (((whole, why, untouched_at c x p is a f still none), refl), refl)
+took_none packs held page e size blocks c x o was is a f p r ss (fault.Full wanted left) whole still none why = (
   (
-    whole,
-    record { steps = why.steps; forms = why.forms; planned = why.planned; are = why.are; fits = why.fits; wanted_is = why.wanted_is; left_is = why.left_is },
-    untouched_at c x p is a f still none,
+    (
+      whole,
+      record { steps = why.steps; forms = why.forms; planned = why.planned; are = why.are; fits = why.fits; wanted_is = why.wanted_is; left_is = why.left_is },
+      untouched_at c x p is a f still none,
+    ),
+    refl,
   ),
   refl,
 )
-took_none packs held page e size blocks c x o was is a f p r fault.OutOfMemory whole still none why = ((whole, inl (untouched_at c x p is a f still none)), refl)
-took_none packs held page e size blocks c x o was is a f p r fault.Sink whole still none why = absurd why
-took_none packs held page e size blocks c x o was is a f p r fault.Broken whole still none why = absurd why
-took_none packs held page e size blocks c x o was is a f p r fault.ReadOnly whole still none why = absurd why
-took_none packs held page e size blocks c x o was is a f p r fault.Geometry whole still none why = absurd why
+took_none packs held page e size blocks c x o was is a f p r ss fault.OutOfMemory whole still none why = (((whole, inl (untouched_at c x p is a f still none)), refl), λ unbroken. refl)
+took_none packs held page e size blocks c x o was is a f p r ss fault.Sink whole still none why = absurd why
+took_none packs held page e size blocks c x o was is a f p r ss fault.Broken whole still none why = absurd why
+took_none packs held page e size blocks c x o was is a f p r ss fault.ReadOnly whole still none why = absurd why
+took_none packs held page e size blocks c x o was is a f p r ss fault.Geometry whole still none why = absurd why
 
 -- nor one of a broken session
-pub took_broken : (packs : Bool) (held page : ℕ) (e : Endian) (size blocks : ℕ) (c : List Opening) (x : Indexed) (o : Op) (was is : Bool) (a : Option (List ℕ)) (f : ℕ) (p : List Place)
-    → IsTrue was → IsTrue is → Appends a a [] → TakesBy {T = Unit {0}} packs held page e size blocks c x o was c x is a a f f p p (Err fault.Broken) held
-took_broken packs held page e size blocks c x o was is a f p broke still none = ((broke, still, none, refl, refl), refl)
+pub took_broken : (packs : Bool) (held page : ℕ) (e : Endian) (size blocks : ℕ) (c : List Opening) (x : Indexed) (o : Op) (was is : Bool) (a : Option (List ℕ)) (f : ℕ) (p : List Place) (ss : List Stretch)
+    → IsTrue was → IsTrue is → Appends a a [] → AlsoBy {T = Unit {0}} packs held page e size blocks c x o was c x is a a f f p p (Err fault.Broken) held ss ss
+took_broken packs held page e size blocks c x o was is a f p ss broke still none = (((broke, still, none, refl, refl), refl), refl)
 
 -- the same of another session of the same flash
 pub takes_same : {T : Type 0} (packs' packs : Bool) (held page' page : ℕ) (e : Endian) (size' size blocks' blocks : ℕ) (c : List Opening) (z : Indexed) (o : Op) (was' was : Bool) (end : List Opening) (y : Indexed) (is : Bool)
-    (b d : Option (List ℕ)) (f' f n : ℕ) (p q : List Place) (r s : Result T SessionFault) (held_now : ℕ)
+    (b d : Option (List ℕ)) (f' f n : ℕ) (p q : List Place) (r s : Result T SessionFault) (held_now : ℕ) (ss ts : List Stretch)
     → packs' ≡ packs → page' ≡ page → size' ≡ size → blocks' ≡ blocks → was' ≡ was → f' ≡ f → r ≡ s
-    → TakesBy packs' held page' e size' blocks' c z o was' end y is b d f' n p q r held_now → TakesBy packs held page e size blocks c z o was end y is b d f n p q s held_now
-takes_same packs' packs held page' page e size' size blocks' blocks c z o was' was end y is b d f' f n p q r s held_now packs_is page_is size_is blocks_is was_is f_is r_is did =
-    subst (λ (i : Bool). TakesBy i held page e size blocks c z o was end y is b d f n p q s held_now) packs_is
-    (subst (λ (i : ℕ). TakesBy packs' held i e size blocks c z o was end y is b d f n p q s held_now) page_is
-    (subst (λ (i : ℕ). TakesBy packs' held page' e i blocks c z o was end y is b d f n p q s held_now) size_is
-    (subst (λ (i : ℕ). TakesBy packs' held page' e size' i c z o was end y is b d f n p q s held_now) blocks_is
-    (subst (λ (i : Bool). TakesBy packs' held page' e size' blocks' c z o i end y is b d f n p q s held_now) was_is
-    (subst (λ (i : ℕ). TakesBy packs' held page' e size' blocks' c z o was' end y is b d i n p q s held_now) f_is
-    (subst (λ i. TakesBy packs' held page' e size' blocks' c z o was' end y is b d f' n p q i held_now) r_is did))))))
+    → AlsoBy packs' held page' e size' blocks' c z o was' end y is b d f' n p q r held_now ss ts → AlsoBy packs held page e size blocks c z o was end y is b d f n p q s held_now ss ts
+takes_same packs' packs held page' page e size' size blocks' blocks c z o was' was end y is b d f' f n p q r s held_now ss ts packs_is page_is size_is blocks_is was_is f_is r_is did =
+    subst (λ (i : Bool). AlsoBy i held page e size blocks c z o was end y is b d f n p q s held_now ss ts) packs_is
+    (subst (λ (i : ℕ). AlsoBy packs' held i e size blocks c z o was end y is b d f n p q s held_now ss ts) page_is
+    (subst (λ (i : ℕ). AlsoBy packs' held page' e i blocks c z o was end y is b d f n p q s held_now ss ts) size_is
+    (subst (λ (i : ℕ). AlsoBy packs' held page' e size' i c z o was end y is b d f n p q s held_now ss ts) blocks_is
+    (subst (λ (i : Bool). AlsoBy packs' held page' e size' blocks' c z o i end y is b d f n p q s held_now ss ts) was_is
+    (subst (λ (i : ℕ). AlsoBy packs' held page' e size' blocks' c z o was' end y is b d i n p q s held_now ss ts) f_is
+    (subst (λ i. AlsoBy packs' held page' e size' blocks' c z o was' end y is b d f' n p q i held_now ss ts) r_is did))))))
 
 -- a fault says the same whatever would have been answered without one
-pub fault_as : (T U : Type 0) (packs : Bool) (held page : ℕ) (e : Endian) (size blocks : ℕ) (from : List Opening) (x : Indexed) (o : Op) (was : Bool) (end : List Opening) (y : Indexed) (is : Bool) (old new : Option (List ℕ)) (failures now : ℕ) (before after : List Place) (f : SessionFault) (held_now : ℕ)
-    → TakesBy {T = T} packs held page e size blocks from x o was end y is old new failures now before after (Err f) held_now → TakesBy {T = U} packs held page e size blocks from x o was end y is old new failures now before after (Err f) held_now
-fault_as T U packs held page e size blocks from x o was end y is old new failures now before after (fault.Refused g) held_now did = did
-fault_as T U packs held page e size blocks from x o was end y is old new failures now before after (fault.Full w l) held_now did = did
-fault_as T U packs held page e size blocks from x o was end y is old new failures now before after fault.Sink held_now did = did
-fault_as T U packs held page e size blocks from x o was end y is old new failures now before after fault.OutOfMemory held_now did = did
-fault_as T U packs held page e size blocks from x o was end y is old new failures now before after fault.Broken held_now did = did
-fault_as T U packs held page e size blocks from x o was end y is old new failures now before after fault.ReadOnly held_now did = did
-fault_as T U packs held page e size blocks from x o was end y is old new failures now before after fault.Geometry held_now did = did
+pub fault_as : (T U : Type 0) (packs : Bool) (held page : ℕ) (e : Endian) (size blocks : ℕ) (from : List Opening) (x : Indexed) (o : Op) (was : Bool) (end : List Opening) (y : Indexed) (is : Bool) (old new : Option (List ℕ)) (failures now : ℕ) (before after : List Place) (f : SessionFault) (held_now : ℕ) (ss ts : List Stretch)
+    → AlsoBy {T = T} packs held page e size blocks from x o was end y is old new failures now before after (Err f) held_now ss ts → AlsoBy {T = U} packs held page e size blocks from x o was end y is old new failures now before after (Err f) held_now ss ts
+fault_as T U packs held page e size blocks from x o was end y is old new failures now before after (fault.Refused g) held_now ss ts did = did
+fault_as T U packs held page e size blocks from x o was end y is old new failures now before after (fault.Full w l) held_now ss ts did = did
+fault_as T U packs held page e size blocks from x o was end y is old new failures now before after fault.Sink held_now ss ts did = did
+fault_as T U packs held page e size blocks from x o was end y is old new failures now before after fault.OutOfMemory held_now ss ts did = did
+fault_as T U packs held page e size blocks from x o was end y is old new failures now before after fault.Broken held_now ss ts did = did
+fault_as T U packs held page e size blocks from x o was end y is old new failures now before after fault.ReadOnly held_now ss ts did = did
+fault_as T U packs held page e size blocks from x o was end y is old new failures now before after fault.Geometry held_now ss ts did = did
 
 -- at a fault it is as much as before
 pub held_still : (T : Type 0) (packs : Bool) (held page : ℕ) (e : Endian) (size blocks : ℕ) (from : List Opening) (x : Indexed) (o : Op) (was : Bool) (end : List Opening) (y : Indexed) (is : Bool) (old new : Option (List ℕ)) (failures now : ℕ) (before after : List Place) (f : SessionFault) (held_now : ℕ)
@@ -276,14 +298,26 @@ held_still T packs held page e size blocks from x o was end y is old new failure
 held_still T packs held page e size blocks from x o was end y is old new failures now before after fault.ReadOnly held_now (did, holds) = absurd holds
 held_still T packs held page e size blocks from x o was end y is old new failures now before after fault.Geometry held_now (did, holds) = absurd holds
 
+-- and nothing went out, unless the session broke
+pub stretches_still : (T : Type 0) (packs : Bool) (held page : ℕ) (e : Endian) (size blocks : ℕ) (from : List Opening) (x : Indexed) (o : Op) (was : Bool) (end : List Opening) (y : Indexed) (is : Bool) (old new : Option (List ℕ)) (failures now : ℕ) (before after : List Place) (f : SessionFault) (held_now : ℕ)
+    (ss ts : List Stretch) → AlsoBy {T = T} packs held page e size blocks from x o was end y is old new failures now before after (Err f) held_now ss ts → IsFalse is → ts ≡ ss
+stretches_still T packs held page e size blocks from x o was end y is old new failures now before after (fault.Refused g) held_now ss ts (took, grows) whole = grows
+stretches_still T packs held page e size blocks from x o was end y is old new failures now before after (fault.Full w l) held_now ss ts (took, grows) whole = grows
+stretches_still T packs held page e size blocks from x o was end y is old new failures now before after fault.Sink held_now ss ts (took, grows) whole = absurd (true≢false (sym took.0.1.0 ∙ whole))
+stretches_still T packs held page e size blocks from x o was end y is old new failures now before after fault.OutOfMemory held_now ss ts (took, grows) whole = grows whole
+stretches_still T packs held page e size blocks from x o was end y is old new failures now before after fault.Broken held_now ss ts (took, grows) whole = grows
+stretches_still T packs held page e size blocks from x o was end y is old new failures now before after fault.ReadOnly held_now ss ts (took, grows) whole = absurd grows
+stretches_still T packs held page e size blocks from x o was end y is old new failures now before after fault.Geometry held_now ss ts (took, grows) whole = absurd grows
+
 -- ---- one operation alone
 
 -- the forms that went out for it
 pub alone : (T : Type 0) (packs : Bool) (held page : ℕ) (e : Endian) (size blocks : ℕ) (from : List Opening) (x : Indexed) (o : Op) (was : Bool) (end : List Opening) (y : Indexed) (is : Bool) (old new : Option (List ℕ)) (failures now : ℕ) (places : List Place)
-    (r : Result T SessionFault) (held_now : ℕ) → held ≤ greatest_contents → PutBy e size from x [] [] from x old old [] []
-    → TakesBy {T = T} packs held page e size blocks from x o was end y is old new failures now [] places r held_now
+    (r : Result T SessionFault) (held_now : ℕ) (ss ts : List Stretch) → held ≤ greatest_contents → PutBy e size from x [] [] from x old old [] []
+    → AlsoBy {T = T} packs held page e size blocks from x o was end y is old new failures now [] places r held_now ss ts
     → (forms : List (List ℕ)) × RunsBy packs held page e size blocks from x (o ∷ []) was (accepted_by r) forms end y is old new failures now places (stop_by r) × (held_now ≡ held + content_len e forms)
-alone T packs held page e size blocks from x o was end y is old new failures now places (Ok u) held_now within put (did, holds) = (
+    × (IsFalse is → ts ≡ longer (added e size from forms) ss)
+alone T packs held page e size blocks from x o was end y is old new failures now places (Ok u) held_now ss ts within put ((did, holds), grows) = (
   [] ++ did.2.1,
   (
     refl,
@@ -293,11 +327,13 @@ alone T packs held page e size blocks from x o was end y is old new failures now
     did.3,
   ),
   holds,
+  λ whole. grows,
 )
-alone T packs held page e size blocks from x o was end y is old new failures now places (Err f) held_now within put (did, holds) = (
+alone T packs held page e size blocks from x o was end y is old new failures now places (Err f) held_now ss ts within put ((did, holds), grows) = (
   [],
   record { mid = log_in from x []; between = old; op = o; run = none_run packs held page e size blocks from x (o ∷ []) old within put; next = refl; stop = stop_at f did },
   omega (arith, held_still T packs held page e size blocks from x o was end y is old new failures now [] places f held_now (did, holds)),
+  λ whole. stretches_still T packs held page e size blocks from x o was end y is old new failures now [] places f held_now ss ts ((did, holds), grows) whole ∙ sym (none_longer e size from ss),
 )
   where
     none : held ≡ held + content_len e []

@@ -1,6 +1,7 @@
 -- What went out to each opening of a row, and what one form adds to it.
 use Rattle.std.proofs.Common.{◌≡◌, ℕ, zero, suc, ◌+◌, ◌-◌, ◌*◌, ◌%◌, ◌<◌, ◌≤◌, cond, Bool, true, false, List, [], ◌∷◌, ◌++◌, length, map, take, drop, get_or, set, refl, sym, ap, ap₂, subst, ◌∙◌, arith, inl, inr, Option, Some, None, append-nil}
 use Rattle.std.specs.Prelude.{◌==◌, nat_le, slice_get}
+use Rattle.std.specs.List.{AllByRecursion}
 use Rattle.std.proofs.Math.Seq.{take-suc}
 use Rattle.std.proofs.lemmas.Bool.{cases_Bool, cond-true, cond-false, eqb-true, eq-eqb}
 use Rattle.std.proofs.lemmas.List.{length-map}
@@ -19,7 +20,7 @@ use Rattle.jopenings.specs.Stretches.{AreStretches, len_in, longer, longer_by, s
 use Rattle.jopenings.specs.declared.placing.Stretch.{Stretch}
 use Rattle.jopenings.proofs.AfterLemmas.{shares_missed, shares_taken}
 use Rattle.jopenings.proofs.LongerLemmas.{bytes_go_on, left_upwards}
-use Rattle.jupdate.specs.Rows.{begins_of, ended, ends_of, gone_on, opened, reached}
+use Rattle.jupdate.specs.Rows.{IsOpen, begins_of, ended, ends_of, gone_on, opened, reached, unwritten}
 use Rattle.jupdate.proofs.RowLemmas.{gone, reached_here, reached_next}
 
 -- ---- where an opening goes on
@@ -97,6 +98,18 @@ drop_upwards lo blocks (suc p) (o ∷ row) up = lower lo (o.block + 1) blocks (d
 
 pub left_is_upwards : (size blocks p : ℕ) (ss : List Stretch) → AreStretches size 0 blocks ss → AreUpwards 0 blocks (drop p (ends_of ss))
 left_is_upwards size blocks p ss are = drop_upwards 0 blocks p (ends_of ss) (ends_upwards size 0 blocks ss are)
+
+-- ---- openings to which nothing went out
+
+pub ends_unwritten : (row : List Opening) → ends_of (map unwritten row) ≡ row
+ends_unwritten [] = refl
+ends_unwritten (o ∷ row) =
+    let same : o.place + 0 ≡ o.place = omega arith in
+    ap₂ (λ (p : ℕ) (l : List Opening). gone o p ∷ l) same (ends_unwritten row)
+
+pub unwritten_are : (size lo blocks : ℕ) (row : List Opening) → AreUpwards lo blocks row → AllByRecursion (IsOpen size blocks) row → AreStretches size lo blocks (map unwritten row)
+unwritten_are size lo blocks [] up opens = tt
+unwritten_are size lo blocks (o ∷ row) up opens = (up.0, up.1, omega (arith, opens.0.inside), unwritten_are size (o.block + 1) blocks row up.2 opens.1)
 
 -- ---- what one form adds
 
@@ -214,11 +227,16 @@ longer_on e size blocks row forms more (s ∷ ss) up =
     omega (arith, bytes_go_on e size 0 blocks s.block row forms more up) in
     ap₂ (λ (k : ℕ) (l : List Stretch). (let t : Stretch = record { block = s.block; place = s.place; len = k } in t) ∷ l) both (longer_on e size blocks row forms more ss up)
 
+-- more of them after the first ones
+pub longer_more : (e : Endian) (size blocks : ℕ) (row : List Opening) (forms more : List (List ℕ)) (now : List Opening) (ss mid new : List Stretch) → AreUpwards 0 blocks row
+    → now ≡ row_after_all size row forms → mid ≡ longer (added e size row forms) ss → new ≡ longer (added e size now more) mid → new ≡ longer (added e size row (forms ++ more)) ss
+longer_more e size blocks row forms more now ss mid new up now_is mid_is new_is =
+    new_is
+    ∙ (ap₂ (λ (r : List Opening) (l : List Stretch). longer (added e size r more) l) now_is mid_is ∙ sym (longer_on e size blocks row forms more ss up))
+
 -- the first so many, and the next one
 pub longer_next : (e : Endian) (size blocks : ℕ) (row : List Opening) (forms : List (List ℕ)) (i : ℕ) (v f : List ℕ) (now : List Opening) (ss mid new : List Stretch) → AreUpwards 0 blocks row → i < length forms → f ≡ get_or forms i v
     → now ≡ row_after_all size row (take i forms) → mid ≡ longer (added e size row (take i forms)) ss → new ≡ longer (added e size now (f ∷ [])) mid → new ≡ longer (added e size row (take (suc i) forms)) ss
 longer_next e size blocks row forms i v f now ss mid new up below has now_is mid_is new_is =
     let also : take i forms ++ f ∷ [] ≡ take (suc i) forms = ap (λ (t : List ℕ). take i forms ++ t ∷ []) has ∙ sym (take-suc forms i v below) in
-    new_is
-    ∙ (ap₂ (λ (r : List Opening) (l : List Stretch). longer (added e size r (f ∷ [])) l) now_is mid_is
-    ∙ (sym (longer_on e size blocks row (take i forms) (f ∷ []) ss up) ∙ ap (λ (fs : List (List ℕ)). longer (added e size row fs) ss) also))
+    longer_more e size blocks row (take i forms) (f ∷ []) now ss mid new up now_is mid_is new_is ∙ ap (λ (fs : List (List ℕ)). longer (added e size row fs) ss) also

@@ -1,5 +1,5 @@
 -- What a run puts into a row of openings survives a cut at any byte, and the log goes on after it.
-use Rattle.std.proofs.Common.{◌≡◌, ℕ, zero, suc, ◌+◌, ◌<◌, ◌≤◌, Bool, true, false, List, [], ◌∷◌, ◌++◌, length, map, take, get_or, refl, sym, ap, subst, ◌∙◌, arith, append-nil, Option, Some, None, Ok, Err, inl, inr}
+use Rattle.std.proofs.Common.{◌≡◌, ℕ, zero, suc, ◌+◌, ◌<◌, ◌≤◌, Bool, true, false, List, [], ◌∷◌, ◌++◌, length, map, take, get_or, refl, sym, ap, ap₂, subst, ◌∙◌, arith, append-nil, Option, Some, None, Ok, Err, inl, inr}
 use Rattle.std.specs.Prelude.{IsTrue, IsFalse, slice_get}
 use Rattle.std.specs.List.{AllByRecursion}
 use Rattle.std.proofs.lemmas.Bool.{and_from, true≢false}
@@ -31,15 +31,20 @@ use Rattle.jlog.proofs.DoneThroughLemmas.{forms_on}
 use Rattle.jlog.proofs.Parts.{flash_by}
 use Rattle.jlog.proofs.RunLemmas.{plans_next}
 use Rattle.jpacked.proofs.MadeLemmas.{contents_on}
+use Rattle.jrests.specs.Openings.{AreUpwards}
 use Rattle.jrests.specs.Shares.{fit_in}
 use Rattle.jrests.specs.declared.opening.Opening.{Opening}
 use Rattle.jopenings.specs.After.{row_after_all}
 use Rattle.jopenings.specs.Done.{GoesOnInOpenings, FitInOpenings, SurvivesAfterInOpenings}
+use Rattle.jopenings.specs.Stretches.{longer}
+use Rattle.jopenings.specs.declared.placing.Stretch.{Stretch}
 use Rattle.jopenings.proofs.AfterLemmas.{room_goes_on}
 use Rattle.jopenings.proofs.DoneLemmas.{done_survives, done_goes_on}
 use Rattle.jupdate.specs.SessionIn.{StateIn, IsTakenIn, IsUntouchedIn, AppliesIn, IsRunIn, StopsAtIn, RunsIn}
 use Rattle.jupdate.specs.Writing.{LogIn, log_in}
+use Rattle.jopenings.proofs.LongerLemmas.{stretches_go_on}
 use Rattle.jupdate.proofs.RunLemmas.{AppliesBy, RunsBy}
+use Rattle.jupdate.proofs.StretchLemmas.{added}
 
 -- ---- forms, packed or not
 
@@ -242,3 +247,11 @@ moved page page' e size size' blocks blocks' base row done before left held x pa
     subst (λ (p : Page). GoesOnInOpenings (flash_by (page_size p) e size' blocks') base row done before left x × (held ≡ held_by e size' base before)) page_is
     (subst (λ (i : ℕ). GoesOnInOpenings (flash_by (page_size page) e i blocks') base row done before left x × (held ≡ held_by e i base before)) size_is
     (subst (λ (i : ℕ). GoesOnInOpenings (flash_by (page_size page) e size i) base row done before left x × (held ≡ held_by e size base before)) blocks_is on))
+
+-- what went out to each opening then
+pub stretches_on : (e : Endian) (size size' blocks : ℕ) (row left : List Opening) (before forms : List (List ℕ)) (ss ts : List Stretch) → AreUpwards 0 blocks row → size ≡ size' → left ≡ row_after_all size row before
+    → ss ≡ added e size row before → ts ≡ longer (added e size left forms) ss → ts ≡ added e size' row (before ++ forms)
+stretches_on e size size' blocks row left before forms ss ts up size_is left_is ss_is ts_is =
+    ts_is
+    ∙ (ap₂ (λ (r : List Opening) (l : List Stretch). longer (added e size r forms) l) left_is ss_is
+    ∙ (sym (stretches_go_on e size blocks row before forms up) ∙ ap (λ (n : ℕ). added e n row (before ++ forms)) size_is))

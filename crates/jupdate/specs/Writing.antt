@@ -14,6 +14,8 @@ use Rattle.jlog.specs.declared.writing.Stop.TheVariants as stop
 use Rattle.jrests.specs.Shares.{Share, shares, share_places, places_in, output_to}
 use Rattle.jrests.specs.declared.opening.Opening.{Opening}
 use Rattle.jopenings.specs.After.{row_after_all, output_to_all}
+use Rattle.jopenings.specs.Stretches.{longer, stretches_of}
+use Rattle.jopenings.specs.declared.placing.Stretch.{Stretch}
 
 -- a log in a row of openings: the row that is left, what operations are planned on, and the places
 -- told of its nodes
@@ -102,3 +104,12 @@ PutsIn e size from steps forms to sink (Err stop.Begun) =
 PutsIn e size from steps forms to sink (Err stop.Unbegun) =
     (to.row ≡ from.row) × (to.index ≡ from.index) × Appends sink.old sink.new []
     × (to.places ≡ from.places) × (sink.now ≡ sink.before)
+
+-- What that leaves of what went out to each opening, where all went out, or nothing.
+abbrev pub GrowsBy : Endian → ℕ → List Opening → List (List ℕ) → List Stretch → List Stretch
+    → Result (Unit {0}) Stop → Type 0
+GrowsBy e size row forms old new (Ok _) =
+    new ≡ longer (stretches_of e size (shares size row forms)) old
+GrowsBy e size row forms old new (Err stop.Sink) = Unit {0}
+GrowsBy e size row forms old new (Err stop.Begun) = Unit {0}
+GrowsBy e size row forms old new (Err stop.Unbegun) = new ≡ old

@@ -13,7 +13,7 @@ ghost use Rattle.jlog.specs.declared.fault.SessionFault.TheVariants.{OutOfMemory
 ghost use Rattle.jpacked.specs.Forms.{is_packed};
 ghost use Rattle.jopenings.specs.Stretches.{AreStretches};
 ghost use Rattle.jupdate.specs.OneProof.{one_going, one_row};
-ghost use Rattle.jupdate.specs.Rows.{ends_of, unwritten};
+ghost use Rattle.jupdate.specs.Rows.{begins_of, ends_of, unwritten};
 ghost use Rattle.jupdate.specs.SessionIn.{IsGoingIn};
 
 use crate::accepting::{Room, Taken, accept};

@@ -1,17 +1,17 @@
 //! Putting the forms of steps into a row of openings.
 
-ghost use Rattle.std.specs.Prelude.{◌≡◌, ◌≤◌, ◌<◌, ◌+◌, IsTrue, IfOk, [], ◌∷◌, drop, vec_len, vec_capacity, length};
+ghost use Rattle.std.specs.Prelude.{◌≡◌, ◌≤◌, ◌<◌, ◌+◌, IsTrue, [], ◌∷◌, drop, vec_len, vec_capacity, length};
 ghost use Rattle.std.specs.List.{AllByRecursion};
 ghost use Rattle.flashbase.specs.Sinks.{change_of};
 ghost use Rattle.jlog.specs.Laws.{FitsBlock};
 ghost use Rattle.jlog.specs.Places.{is_writable_flash, place_after};
 ghost use Rattle.jlog.specs.Running.{CanWriteIn};
 ghost use Rattle.jsteps.specs.Nodes.{node_of, nodes_of};
-ghost use Rattle.jrests.specs.Shares.{shares, fit_in};
+ghost use Rattle.jrests.specs.Shares.{fit_in};
 ghost use Rattle.jpacked.specs.Forms.{AreMadeOf, IsMadeOf, form_with, step_forms};
-ghost use Rattle.jopenings.specs.Stretches.{AreStretches, longer, stretches_of};
+ghost use Rattle.jopenings.specs.Stretches.{AreStretches};
 ghost use Rattle.jupdate.specs.Rows.{IsOpen, begins_of, ends_of};
-ghost use Rattle.jupdate.specs.Writing.{log_in, PutsForm, PutsIn};
+ghost use Rattle.jupdate.specs.Writing.{log_in, GrowsBy, PutsForm, PutsIn};
 
 use crate::row::{Spot, begin_of, behind, find};
 use flashbase::{PutFault, Sink, pad4, put_all};
@@ -86,11 +86,10 @@ fn put_step<E: Order, S: Sink>(
         (change_of S.Sink log.old.sink log.new.sink) result }
     ensures within { AreStretches flash.size 0 flash.count log.new.stretches.items }
     ensures begins { begins_of log.new.stretches.items ≡ begins_of log.old.stretches.items }
-    ensures stretches { IfOk result (λ _. log.new.stretches.items ≡ longer
-        (stretches_of E.order flash.size (shares flash.size
+    ensures stretches { GrowsBy E.order flash.size
         (drop log.old.passed (ends_of log.old.stretches.items))
-        (form_with E.order (node_of log.old.index step.now) stream.now ∷ [])))
-        log.old.stretches.items) }
+        (form_with E.order (node_of log.old.index step.now) stream.now ∷ [])
+        log.old.stretches.items log.new.stretches.items result }
     ensures len { vec_len places.new ≤ vec_len places.old + 1 }
     ensures capacity { vec_capacity places.old ≤ vec_capacity places.new }
 {
@@ -137,11 +136,10 @@ pub(crate) fn put_steps<E: Order, S: Sink>(
         (change_of S.Sink log.old.sink log.new.sink) result }
     ensures within { AreStretches flash.size 0 flash.count log.new.stretches.items }
     ensures begins { begins_of log.new.stretches.items ≡ begins_of log.old.stretches.items }
-    ensures stretches { IfOk result (λ _. log.new.stretches.items ≡ longer
-        (stretches_of E.order flash.size (shares flash.size
+    ensures stretches { GrowsBy E.order flash.size
         (drop log.old.passed (ends_of log.old.stretches.items))
-        (step_forms E.order log.old.index steps.now streams.now)))
-        log.old.stretches.items) }
+        (step_forms E.order log.old.index steps.now streams.now)
+        log.old.stretches.items log.new.stretches.items result }
 {
     let mut i = 0;
     while i < steps.len() {

@@ -15,7 +15,7 @@ use Rattle.jopenings.specs.After.{output_to_all}
 use Rattle.jopenings.specs.Stretches.{longer}
 use Rattle.jupdate.specs.Rows.{IsOpen, ends_of}
 use Rattle.jupdate.proofs.Parts.{PutBy}
-use Rattle.jupdate.proofs.PutLemmas.{put_none, next_fits, one_more, one_begun, only_begun, some_out, still, nothing, at_sink, at_begun, at_unbegun}
+use Rattle.jupdate.proofs.PutLemmas.{put_none, next_fits, one_more, one_begun, only_begun, some_out, still, nothing, at_sink, at_begun, at_unbegun, grows_unbegun}
 use Rattle.jupdate.proofs.RowLemmas.{all_stay_open}
 use Rattle.jupdate.proofs.StretchLemmas.{added, left_is_upwards, longer_next, none_longer}
 use Rattle.jupdate.proofs.TurnLemmas.{all_fit_blocks, all_forms, can_next, form_is, made_next}
@@ -241,3 +241,15 @@ returns-clause-stretches g c =
     let all : length a.steps.now ≤ c.loop-i.i = search rules in
     let also : take c.loop-i.i forms ≡ forms = take_all c.loop-i.i forms (omega (arith, all, all_forms e x a.steps.now a.streams.now c.requires.made)) in
     c.loop-i.invariant.longer_by ∙ ap (λ (fs : List (List ℕ)). longer (added e a.flash.size row fs) a.log.now.stretches.items) also
+
+pub returns-then-i-eq0-clause-stretches : goal.returns-then-i-eq0-clause-stretches
+returns-then-i-eq0-clause-stretches g c =
+    let e = g.E.Order.order in
+    let a = c.args in
+    let row : List Opening = drop a.log.now.passed (ends_of a.log.now.stretches.items) in
+    let forms : List (List ℕ) = step_forms e a.log.now.index a.steps.now a.streams.now in
+    let at : c.put_step.result ≡ Err stop.Unbegun = search rules in
+    let first : c.loop-i.i ≡ 0 = search rules in
+    grows_unbegun _ _ _ _ c.loop-i.log.stretches.items c.put_step.new.log.stretches.items c.put_step.result at c.put_step.ensures.stretches
+    ∙ (c.loop-i.invariant.longer_by
+    ∙ (ap (λ (n : ℕ). longer (added e a.flash.size row (take n forms)) a.log.now.stretches.items) first ∙ none_longer e a.flash.size row a.log.now.stretches.items))

@@ -1,4 +1,4 @@
-use Rattle.std.proofs.Common.{rules, is_some, ◌≡◌, [], ◌∷◌, ◌++◌, take, Ok, Err, Result, List, sym, refl, subst}
+use Rattle.std.proofs.Common.{rules, is_some, ◌≡◌, [], ◌∷◌, ◌++◌, drop, take, Ok, Err, Result, List, sym, refl, subst}
 use Rattle.jscan.specs.Pages.{page_size}
 use Rattle.jsteps.proofs.FewLemmas.{sizes_are_pages}
 use Rattle.jlog.proofs.DoneLemmas.{all_first}
@@ -9,11 +9,11 @@ use Rattle.jlog.specs.declared.fault.SessionFault.{SessionFault}
 use Rattle.jlog.specs.declared.report.Applied.{Applied}
 use Rattle.jlog.specs.declared.report.Place.{Place}
 use Rattle.jpacked.specs.View.{stop_by}
-use Rattle.jupdate.specs.Rows.{left_at}
+use Rattle.jupdate.specs.Rows.{ends_of}
 use Rattle.jupdate.specs.Writing.{log_in}
 use Rattle.jupdate.proofs.PutLemmas.{put_none}
-use Rattle.jupdate.proofs.RunLemmas.{TakesBy, alone, fault_as}
-use Rattle.jupdate.proofs.SurviveLemmas.{run_survives, run_goes_on, moved}
+use Rattle.jupdate.proofs.RunLemmas.{AlsoBy, alone, fault_as}
+use Rattle.jupdate.proofs.SurviveLemmas.{run_survives, run_goes_on, moved, stretches_on}
 use Rattle.jupdate.proofs.session.OpeningSession.apply.Goals as goal
 
 pub returns-in-Ok-clause-applies : goal.returns-in-Ok-clause-applies
@@ -25,14 +25,14 @@ returns-in-Ok-clause-applies g c =
     let none : c.new-places.result.items ≡ [] = search rules in
     let places : List Place = c.apply_onto.new.places.items in
     let r : Result (Unit {0}) SessionFault = Ok (tt {0}) in
-    let took : TakesBy {T = Unit {0}} (is_some s.packing) s.held (page_size s.page) e s.block s.blocks (drop s.log.passed (ends_of s.log.stretches.items)) s.log.index o s.broken (drop t.log.passed (ends_of t.log.stretches.items)) t.log.index t.broken (g.S.Sink.taken s.log.sink) (g.S.Sink.taken t.log.sink)
-    (g.S.Sink.failures s.log.sink) (g.S.Sink.failures t.log.sink) [] places r t.held =
-    subst (λ (q : Result (Unit {0}) SessionFault). TakesBy {T = Unit {0}} (is_some s.packing) s.held (page_size s.page) e s.block s.blocks (drop s.log.passed (ends_of s.log.stretches.items)) s.log.index o s.broken (drop t.log.passed (ends_of t.log.stretches.items)) t.log.index t.broken (g.S.Sink.taken s.log.sink) (g.S.Sink.taken t.log.sink)
-    (g.S.Sink.failures s.log.sink) (g.S.Sink.failures t.log.sink) [] places q t.held) c.in-Ok.is
-    (subst (λ (l : List Place). TakesBy {T = Unit {0}} (is_some s.packing) s.held (page_size s.page) e s.block s.blocks (drop s.log.passed (ends_of s.log.stretches.items)) s.log.index o s.broken (drop t.log.passed (ends_of t.log.stretches.items)) t.log.index t.broken (g.S.Sink.taken s.log.sink) (g.S.Sink.taken t.log.sink)
-    (g.S.Sink.failures s.log.sink) (g.S.Sink.failures t.log.sink) l places c.apply_onto.result t.held) none c.apply_onto.ensures.applies) in
+    let took : AlsoBy {T = Unit {0}} (is_some s.packing) s.held (page_size s.page) e s.block s.blocks (drop s.log.passed (ends_of s.log.stretches.items)) s.log.index o s.broken (drop t.log.passed (ends_of t.log.stretches.items)) t.log.index t.broken (g.S.Sink.taken s.log.sink) (g.S.Sink.taken t.log.sink)
+    (g.S.Sink.failures s.log.sink) (g.S.Sink.failures t.log.sink) [] places r t.held s.log.stretches.items t.log.stretches.items =
+    subst (λ (q : Result (Unit {0}) SessionFault). AlsoBy {T = Unit {0}} (is_some s.packing) s.held (page_size s.page) e s.block s.blocks (drop s.log.passed (ends_of s.log.stretches.items)) s.log.index o s.broken (drop t.log.passed (ends_of t.log.stretches.items)) t.log.index t.broken (g.S.Sink.taken s.log.sink) (g.S.Sink.taken t.log.sink)
+    (g.S.Sink.failures s.log.sink) (g.S.Sink.failures t.log.sink) [] places q t.held s.log.stretches.items t.log.stretches.items) c.in-Ok.is
+    (subst (λ (l : List Place). AlsoBy {T = Unit {0}} (is_some s.packing) s.held (page_size s.page) e s.block s.blocks (drop s.log.passed (ends_of s.log.stretches.items)) s.log.index o s.broken (drop t.log.passed (ends_of t.log.stretches.items)) t.log.index t.broken (g.S.Sink.taken s.log.sink) (g.S.Sink.taken t.log.sink)
+    (g.S.Sink.failures s.log.sink) (g.S.Sink.failures t.log.sink) l places c.apply_onto.result t.held s.log.stretches.items t.log.stretches.items) none c.apply_onto.ensures.applies) in
     let it = alone (Unit {0}) (is_some s.packing) s.held (page_size s.page) e s.block s.blocks (drop s.log.passed (ends_of s.log.stretches.items)) s.log.index o s.broken (drop t.log.passed (ends_of t.log.stretches.items)) t.log.index t.broken (g.S.Sink.taken s.log.sink) (g.S.Sink.taken t.log.sink)
-    (g.S.Sink.failures s.log.sink) (g.S.Sink.failures t.log.sink) places r t.held s.few (put_none e s.block (drop s.log.passed (ends_of s.log.stretches.items)) s.log.index (g.S.Sink.taken s.log.sink) []) took in
+    (g.S.Sink.failures s.log.sink) (g.S.Sink.failures t.log.sink) places r t.held s.log.stretches.items t.log.stretches.items s.few (put_none e s.block (drop s.log.passed (ends_of s.log.stretches.items)) s.log.index (g.S.Sink.taken s.log.sink) []) took in
     record {
       places = places;
       told = refl;
@@ -49,7 +49,13 @@ returns-in-Ok-clause-applies g c =
             (sym c.apply_onto.ensures.page) (sym c.apply_onto.ensures.block) (sym c.apply_onto.ensures.blocks)
             (run_goes_on (is_some s.packing) s.held t.held (page_size s.page) e s.block s.blocks (drop s.log.passed (ends_of s.log.stretches.items)) s.log.index (o ∷ []) s.broken (accepted_by r) it.0 (drop t.log.passed (ends_of t.log.stretches.items)) t.log.index t.broken (g.S.Sink.taken s.log.sink) (g.S.Sink.taken t.log.sink)
             (g.S.Sink.failures s.log.sink) (g.S.Sink.failures t.log.sink) places (stop_by r) base row done before it.1 whole (all_first OpFits (accepted_by r) (o ∷ []) (c.known.ensures, tt)) has.goes_on has.held it.2) in
-            record { bytes = has.bytes; goes_on = on.0; held = on.1 };
+            record {
+              bytes = has.bytes;
+              goes_on = on.0;
+              held = on.1;
+              stretches = stretches_on e s.block t.block s.blocks row (drop s.log.passed (ends_of s.log.stretches.items)) before it.0 s.log.stretches.items t.log.stretches.items has.goes_on.openings.upwards (sym c.apply_onto.ensures.block)
+                  has.goes_on.left_is has.stretches (it.3 whole);
+            };
       };
     }
 
@@ -62,19 +68,19 @@ returns-in-Err-clause-applies g c =
     let none : c.new-places.result.items ≡ [] = search rules in
     let places : List Place = c.apply_onto.new.places.items in
     let r : Result (Unit {0}) SessionFault = Err c.in-Err.fault in
-    let took : TakesBy {T = Unit {0}} (is_some s.packing) s.held (page_size s.page) e s.block s.blocks (drop s.log.passed (ends_of s.log.stretches.items)) s.log.index o s.broken (drop t.log.passed (ends_of t.log.stretches.items)) t.log.index t.broken (g.S.Sink.taken s.log.sink) (g.S.Sink.taken t.log.sink)
-    (g.S.Sink.failures s.log.sink) (g.S.Sink.failures t.log.sink) [] places r t.held =
-    subst (λ (q : Result (Unit {0}) SessionFault). TakesBy {T = Unit {0}} (is_some s.packing) s.held (page_size s.page) e s.block s.blocks (drop s.log.passed (ends_of s.log.stretches.items)) s.log.index o s.broken (drop t.log.passed (ends_of t.log.stretches.items)) t.log.index t.broken (g.S.Sink.taken s.log.sink) (g.S.Sink.taken t.log.sink)
-    (g.S.Sink.failures s.log.sink) (g.S.Sink.failures t.log.sink) [] places q t.held) c.in-Err.is
-    (subst (λ (l : List Place). TakesBy {T = Unit {0}} (is_some s.packing) s.held (page_size s.page) e s.block s.blocks (drop s.log.passed (ends_of s.log.stretches.items)) s.log.index o s.broken (drop t.log.passed (ends_of t.log.stretches.items)) t.log.index t.broken (g.S.Sink.taken s.log.sink) (g.S.Sink.taken t.log.sink)
-    (g.S.Sink.failures s.log.sink) (g.S.Sink.failures t.log.sink) l places c.apply_onto.result t.held) none c.apply_onto.ensures.applies) in
+    let took : AlsoBy {T = Unit {0}} (is_some s.packing) s.held (page_size s.page) e s.block s.blocks (drop s.log.passed (ends_of s.log.stretches.items)) s.log.index o s.broken (drop t.log.passed (ends_of t.log.stretches.items)) t.log.index t.broken (g.S.Sink.taken s.log.sink) (g.S.Sink.taken t.log.sink)
+    (g.S.Sink.failures s.log.sink) (g.S.Sink.failures t.log.sink) [] places r t.held s.log.stretches.items t.log.stretches.items =
+    subst (λ (q : Result (Unit {0}) SessionFault). AlsoBy {T = Unit {0}} (is_some s.packing) s.held (page_size s.page) e s.block s.blocks (drop s.log.passed (ends_of s.log.stretches.items)) s.log.index o s.broken (drop t.log.passed (ends_of t.log.stretches.items)) t.log.index t.broken (g.S.Sink.taken s.log.sink) (g.S.Sink.taken t.log.sink)
+    (g.S.Sink.failures s.log.sink) (g.S.Sink.failures t.log.sink) [] places q t.held s.log.stretches.items t.log.stretches.items) c.in-Err.is
+    (subst (λ (l : List Place). AlsoBy {T = Unit {0}} (is_some s.packing) s.held (page_size s.page) e s.block s.blocks (drop s.log.passed (ends_of s.log.stretches.items)) s.log.index o s.broken (drop t.log.passed (ends_of t.log.stretches.items)) t.log.index t.broken (g.S.Sink.taken s.log.sink) (g.S.Sink.taken t.log.sink)
+    (g.S.Sink.failures s.log.sink) (g.S.Sink.failures t.log.sink) l places c.apply_onto.result t.held s.log.stretches.items t.log.stretches.items) none c.apply_onto.ensures.applies) in
     let it = alone (Unit {0}) (is_some s.packing) s.held (page_size s.page) e s.block s.blocks (drop s.log.passed (ends_of s.log.stretches.items)) s.log.index o s.broken (drop t.log.passed (ends_of t.log.stretches.items)) t.log.index t.broken (g.S.Sink.taken s.log.sink) (g.S.Sink.taken t.log.sink)
-    (g.S.Sink.failures s.log.sink) (g.S.Sink.failures t.log.sink) places r t.held s.few (put_none e s.block (drop s.log.passed (ends_of s.log.stretches.items)) s.log.index (g.S.Sink.taken s.log.sink) []) took in
+    (g.S.Sink.failures s.log.sink) (g.S.Sink.failures t.log.sink) places r t.held s.log.stretches.items t.log.stretches.items s.few (put_none e s.block (drop s.log.passed (ends_of s.log.stretches.items)) s.log.index (g.S.Sink.taken s.log.sink) []) took in
     record {
       places = places;
       told = tt;
       applies = fault_as (Unit {0}) Applied (is_some s.packing) s.held (page_size s.page) e s.block s.blocks (drop s.log.passed (ends_of s.log.stretches.items)) s.log.index o s.broken (drop t.log.passed (ends_of t.log.stretches.items)) t.log.index t.broken (g.S.Sink.taken s.log.sink) (g.S.Sink.taken t.log.sink)
-          (g.S.Sink.failures s.log.sink) (g.S.Sink.failures t.log.sink) [] places c.in-Err.fault t.held took;
+          (g.S.Sink.failures s.log.sink) (g.S.Sink.failures t.log.sink) [] places c.in-Err.fault t.held s.log.stretches.items t.log.stretches.items took;
       alone = record {
         forms = it.0;
         runs = it.1;
@@ -87,6 +93,12 @@ returns-in-Err-clause-applies g c =
             (sym c.apply_onto.ensures.page) (sym c.apply_onto.ensures.block) (sym c.apply_onto.ensures.blocks)
             (run_goes_on (is_some s.packing) s.held t.held (page_size s.page) e s.block s.blocks (drop s.log.passed (ends_of s.log.stretches.items)) s.log.index (o ∷ []) s.broken (accepted_by r) it.0 (drop t.log.passed (ends_of t.log.stretches.items)) t.log.index t.broken (g.S.Sink.taken s.log.sink) (g.S.Sink.taken t.log.sink)
             (g.S.Sink.failures s.log.sink) (g.S.Sink.failures t.log.sink) places (stop_by r) base row done before it.1 whole (all_first OpFits (accepted_by r) (o ∷ []) (c.known.ensures, tt)) has.goes_on has.held it.2) in
-            record { bytes = has.bytes; goes_on = on.0; held = on.1 };
+            record {
+              bytes = has.bytes;
+              goes_on = on.0;
+              held = on.1;
+              stretches = stretches_on e s.block t.block s.blocks row (drop s.log.passed (ends_of s.log.stretches.items)) before it.0 s.log.stretches.items t.log.stretches.items has.goes_on.openings.upwards (sym c.apply_onto.ensures.block)
+                  has.goes_on.left_is has.stretches (it.3 whole);
+            };
       };
     }

@@ -1,11 +1,13 @@
-use Rattle.std.proofs.Common.{◌≡◌, ◌∙◌, ◌≤◌, ℕ, List, ap, refl, subst, sym, arith, length}
+use Rattle.std.proofs.Common.{◌≡◌, ◌∙◌, ◌≤◌, ℕ, List, ap, refl, subst, sym, arith, length, map}
 use Rattle.jmount.specs.Mount.{Mount}
 use Rattle.jsteps.specs.Nodes.{Indexed, indexed}
 use Rattle.jexpand.specs.Expanded.{unpacked_bytes}
 use Rattle.jview.specs.Through.{greatest_contents, IsSoundThrough}
 use Rattle.jrests.specs.declared.opening.Opening.{Opening}
-use Rattle.jupdate.specs.Rows.{left_at}
+use Rattle.jopenings.specs.Stretches.{AreStretches}
+use Rattle.jupdate.specs.Rows.{ends_of, unwritten}
 use Rattle.jupdate.specs.SessionIn.{IsGoingIn}
+use Rattle.jupdate.proofs.StretchLemmas.{ends_unwritten, unwritten_are}
 use Rattle.jupdate.proofs.session.OpeningSession.begin.Goals as goal
 
 pub contents_len-requires : goal.contents_len-requires
@@ -20,12 +22,14 @@ invariant_of-result g c =
     let size : ℕ = a.flash.geometry.block in
     let index : c.in-Ok.parts.0 ≡ indexed m = c.in-Ok.ensures.index in
     let sound : length (unpacked_bytes e size m.image) ≤ greatest_contents = c.requires.through.mounts.sound.contents in
-    let left : left_at a.row.items c.begin_of-cursor.result ≡ a.row.items =
-    subst (λ (r : List Opening). left_at r c.begin_of-cursor.result ≡ r) c.deref.ensures.value c.begin_of-cursor.ensures.left in
+    let row : List Opening = a.row.items in
+    let written : c.in-Ok-none_written.stretches.items ≡ map unwritten row = c.in-Ok-none_written.ensures ∙ ap (map unwritten) c.deref.ensures.value in
+    let left : ends_of c.in-Ok-none_written.stretches.items ≡ row = ap ends_of written ∙ ends_unwritten row in
     record {
       flash = c.requires.writable;
       holds = c.requires.holds;
-      going = λ _. subst (λ (r : List Opening). IsGoingIn size a.flash.blocks r c.in-Ok.parts.0) (sym left) (subst (IsGoingIn size a.flash.blocks a.row.items) (sym index) c.requires.going);
+      going = λ _. subst (λ (r : List Opening). IsGoingIn size a.flash.blocks r c.in-Ok.parts.0) (sym left) (subst (IsGoingIn size a.flash.blocks row) (sym index) c.requires.going);
+      stretches = subst (AreStretches size 0 a.flash.blocks) (sym written) (unwritten_are size 0 a.flash.blocks row c.requires.row c.requires.going.openings);
       few = omega (arith, c.contents_len.ensures, ap (λ (l : List ℕ). length (unpacked_bytes e size l)) c.image.ensures, sound);
     }
 
@@ -39,8 +43,8 @@ returns-clause-begun g c =
       page = refl;
       index = c.in-Ok.ensures.index;
       held = c.contents_len.ensures ∙ ap (λ (l : List ℕ). length (unpacked_bytes e a.flash.geometry.block l)) c.image.ensures;
-      openings = refl;
-      left = subst (λ (r : List Opening). left_at r c.begin_of-cursor.result ≡ r) c.deref.ensures.value c.begin_of-cursor.ensures.left;
+      stretches = c.in-Ok-none_written.ensures ∙ ap (map unwritten) c.deref.ensures.value;
+      left = ap ends_of (c.in-Ok-none_written.ensures ∙ ap (map unwritten) c.deref.ensures.value) ∙ ends_unwritten a.row.items;
       whole = refl;
       sink = refl;
     }

@@ -1,10 +1,12 @@
-use Rattle.std.proofs.Common.{◌≡◌, ◌∙◌, ℕ, List, [], Ok, subst, sym, arith}
+use Rattle.std.proofs.Common.{◌≡◌, ◌∙◌, ℕ, List, [], Ok, ap, subst, sym, arith}
 use Rattle.flashbase.specs.Ranges.{AreBytes}
 use Rattle.jmount.specs.Mount.{Mount}
 use Rattle.jlog.specs.Resuming.{resumes_by}
 use Rattle.jlog.specs.SessionAsLaws.{held_by}
+use Rattle.jopenings.proofs.LongerLemmas.{stretches_begin}
 use Rattle.jpacked.proofs.BeginLemmas.{resumed_is_ok}
 use Rattle.jupdate.proofs.BeginLemmas.{begins_in, done_by}
+use Rattle.jupdate.proofs.StretchLemmas.{added}
 use Rattle.jupdate.proofs.session.OpeningSession.resume.Goals as goal
 
 pub begin-requires-clause-going : goal.begin-requires-clause-going
@@ -31,6 +33,7 @@ returns-in-Ok-begin-clause-begun g c =
       begins = record {
         bytes = bytes;
         goes_on = done_by f.page s.page e f.geometry.block s.block f.blocks s.blocks m.image c.args.row.items _ _ s.log.index is.page is.block is.blocks is.left is.index known.done;
+        stretches = is.stretches ∙ (sym (stretches_begin e f.geometry.block c.args.row.items) ∙ ap (λ (n : ℕ). added e n c.args.row.items []) (sym is.block));
         held = subst (λ (i : ℕ). s.held ≡ held_by e i m.image []) (sym is.block) (omega (arith, is.held));
       };
     }
