@@ -18,10 +18,10 @@ use Rattle.jopenings.proofs.AfterLemmas.{more_of, shares_taken, shares_missed, s
 
 -- ---- the bytes of a block
 
-abbrev pub stretches_for : Endian → ℕ → List Opening → List (List ℕ) → List Stretch
+abbrev stretches_for : Endian → ℕ → List Opening → List (List ℕ) → List Stretch
 stretches_for e size row forms = stretches_of e size (shares size row forms)
 
-abbrev pub bytes_in : Endian → ℕ → List Opening → List (List ℕ) → ℕ → ℕ
+abbrev bytes_in : Endian → ℕ → List Opening → List (List ℕ) → ℕ → ℕ
 bytes_in e size row forms b = len_in (stretches_for e size row forms) b
 
 no_bytes_in : (e : Endian) (size b : ℕ) (row : List Opening) → bytes_in e size row [] b ≡ 0
@@ -104,7 +104,7 @@ bytes_step e size lo blocks b (o ∷ row) x xs up = elim (cases_Bool (takes size
       ]
 ]
 
-pub bytes_go_on : (e : Endian) (size lo blocks b : ℕ) (row : List Opening) (forms more : List (List ℕ)) → AreUpwards lo blocks row
+bytes_go_on : (e : Endian) (size lo blocks b : ℕ) (row : List Opening) (forms more : List (List ℕ)) → AreUpwards lo blocks row
     → bytes_in e size row (forms ++ more) b ≡ bytes_in e size row forms b + bytes_in e size (row_after_all size row forms) more b
 bytes_go_on e size lo blocks b row [] more up = omega (arith, no_bytes_in e size b row)
 bytes_go_on e size lo blocks b row (x ∷ xs) more up =
