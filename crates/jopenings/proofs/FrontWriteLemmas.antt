@@ -1,9 +1,10 @@
 -- What goes out to openings that all begin with their blocks, as what goes out to these as a row.
-use Rattle.std.proofs.Common.{◌≡◌, ℕ, zero, suc, ◌+◌, ◌-◌, ◌*◌, ◌%◌, ◌<◌, ◌≤◌, cond, true, List, [], ◌∷◌, ◌++◌, length, take, drop, get_or, refl, sym, ap, ap₂, ◌∙◌, arith, inl, inr, Option, None, Some}
+use Rattle.std.proofs.Common.{◌≡◌, ℕ, suc, ◌+◌, ◌-◌, ◌*◌, ◌%◌, ◌<◌, ◌≤◌, cond, List, [], ◌∷◌, ◌++◌, length, take, drop, get_or, refl, sym, ap, ap₂, ◌∙◌, arith, inl, inr, Option, None, Some}
 use Rattle.std.specs.Prelude.{◌==◌, option_map, unwrap_or}
+use Rattle.std.proofs.Math.ListN.{drop_of_length-le}
 use Rattle.std.proofs.Math.Seq.{take-append_seam, drop-append_seam}
-use Rattle.std.proofs.lemmas.Bool.{cases_Bool, cond-true, cond-false, eqb-true, leb-false, cases_lt}
-use Rattle.std.proofs.lemmas.List.{ext_get_or, get_or-append-add, get_or-append_right, get_or_append_left, get_or-replicate, length-replicate}
+use Rattle.std.proofs.lemmas.Bool.{cases_Bool, cond-true, cond-false, leb-false, cases_lt}
+use Rattle.std.proofs.lemmas.List.{ext_get_or, take_all, get_or-take, get_or-append-add, get_or-append_right, get_or_append_left, get_or-replicate, length-replicate}
 use Rattle.flashbase.specs.Bytes.{erased}
 use Rattle.flashbase.specs.Lists.{below}
 use Rattle.jnode.specs.Writing.{filled}
@@ -11,24 +12,26 @@ use Rattle.jnode.specs.declared.order.Endian.{Endian}
 use Rattle.jscan.specs.Image.{block_of}
 use Rattle.jscan.proofs.PartLemmas.{block_length}
 use Rattle.jscan.proofs.StreamCounts.{readable_some, readable_words}
+use Rattle.jlog.specs.Laws.{FitsBlock}
 use Rattle.jlog.specs.Left.{front_of}
 use Rattle.jlog.specs.Output.{gap, output}
-use Rattle.jlog.specs.Places.{place_after, end_after}
-use Rattle.jlog.proofs.ByteLemmas.{block_byte}
-use Rattle.jlog.proofs.IntactLemmas.{first_out}
+use Rattle.jlog.specs.Places.{place_after, end_after, end_of_all}
+use Rattle.jlog.proofs.ByteLemmas.{block_byte, past_cut}
+use Rattle.jlog.proofs.IntactLemmas.{first_out, output_is_long}
 use Rattle.jlog.proofs.OutputLemmas.{output_over}
-use Rattle.jrow.specs.RowLeft.{index_in, block_with as block_with_row}
+use Rattle.jlog.proofs.RoomLemmas.{end_is_within}
+use Rattle.jrow.specs.RowLeft.{index_in, block_with}
 use Rattle.jrow.proofs.BlockLemmas.{same_for_each}
 use Rattle.jrow.proofs.MovedLemmas.{log_is_moved}
 use Rattle.jrests.specs.Shares.{taken_from, Share, shares}
-use Rattle.jrests.proofs.ShareLemmas.{all_behind}
-use Rattle.jlog.specs.Laws.{FitsBlock}
+use Rattle.jrests.proofs.ShareLemmas.{taken_fits, all_first, all_behind}
 use Rattle.jopenings.specs.After.{takes, output_to_all, fronts}
-use Rattle.jopenings.specs.Stretches.{stretch_of, stretches_of, block_behind, block_with}
-use Rattle.jopenings.specs.StretchLaws.{FrontsWriteSame}
+use Rattle.jopenings.specs.Stretches.{share_stretch, stretches_of, block_behind, block_in}
+use Rattle.jopenings.specs.StretchLaws.{FrontsWriteSame, FrontsStopSame}
 use Rattle.jopenings.proofs.AfterLemmas.{taken_one, taken_no}
 use Rattle.jopenings.proofs.ExistLemmas.{behind_byte}
 use Rattle.jopenings.proofs.FrontLemmas.{at_place, AllFit, goes_on_in, missed_there}
+use Rattle.jopenings.proofs.StretchLemmas.{cut_first, cut_others}
 
 -- ---- what goes out from a place in a block on
 
@@ -134,8 +137,8 @@ later_same e size j forms some words fits =
     ∙ (ap (λ (n : ℕ). get_or all n 0xFF) there ∙ sym (block_byte size all (j + 1) i small))))
 
 block_same : (e : Endian) (size b : ℕ) (base row : List ℕ) (forms : List (List ℕ)) → 0 < size → size % 4 ≡ 0 → AllFit size forms
-    → block_with size base (stretches_of e size (shares size (fronts row) forms)) (output_to_all e size (shares size (fronts row) forms)) b
-    ≡ block_with_row size base row (output e size 0 forms) b
+    → block_in size base (stretches_of e size (shares size (fronts row) forms)) (output_to_all e size (shares size (fronts row) forms)) b
+    ≡ block_with size base row (output e size 0 forms) b
 block_same e size b base [] forms some words fits = refl
 block_same e size b base (c ∷ cs) forms some words fits =
     let n : ℕ = taken_from size 0 forms in
@@ -145,15 +148,15 @@ block_same e size b base (c ∷ cs) forms some words fits =
     let others : List ℕ = output_to_all e size rest in
     let all : List ℕ = output e size 0 forms in
     let block : List ℕ = block_of size base b in
-    ap₂ (λ (l m : List ℕ). cond (c == b) (block_behind size base (stretch_of e size share) l) (block_with size base (stretches_of e size rest) m b))
+    ap₂ (λ (l m : List ℕ). cond (c == b) (block_behind size base (share_stretch e size share) l) (block_in size base (stretches_of e size rest) m b))
     (take-append_seam out others) (drop-append_seam out others)
     ∙ elim (cases_Bool (c == b)) [
       | inl same ↦
-          cond-true (c == b) (block_behind size base (stretch_of e size share) out) (block_with size base (stretches_of e size rest) others b) same
+          cond-true (c == b) (block_behind size base (share_stretch e size share) out) (block_in size base (stretches_of e size rest) others b) same
           ∙ (first_same e size (block_of size base c) forms some words fits
           ∙ sym (ap (λ (o : Option ℕ). unwrap_or (option_map (block_of size all) o) block) (cond-true (c == b) (Some 0) (option_map (λ index. index + 1) (index_in cs b)) same)))
       | inr other ↦
-          cond-false (c == b) (block_behind size base (stretch_of e size share) out) (block_with size base (stretches_of e size rest) others b) other
+          cond-false (c == b) (block_behind size base (share_stretch e size share) out) (block_in size base (stretches_of e size rest) others b) other
           ∙ (block_same e size b base cs (drop n forms) some words (all_behind (FitsBlock size) n forms fits)
           ∙ (by (index_in cs b)
           ∙ sym (ap (λ (o : Option ℕ). unwrap_or (option_map (block_of size all) o) block) (cond-false (c == b) (Some 0) (option_map (λ index. index + 1) (index_in cs b)) other))))
@@ -167,5 +170,160 @@ block_same e size b base (c ∷ cs) forms some words fits =
 pub fronts_write_same : FrontsWriteSame
 fronts_write_same e size blocks base row forms size_is fits =
     let ss : List Share = shares size (fronts row) forms in
-    same_for_each (block_with size base (stretches_of e size ss) (output_to_all e size ss)) (block_with_row size base row (output e size 0 forms)) (below blocks)
+    same_for_each (block_in size base (stretches_of e size ss) (output_to_all e size ss)) (block_with size base row (output e size 0 forms)) (below blocks)
     (λ b. block_same e size b base row forms (omega (arith, readable_some size size_is)) (readable_words size size_is) fits)
+
+-- ---- up to some byte
+
+-- what goes out to a block ends within it
+ends_within : (e : Endian) (size : ℕ) (forms : List (List ℕ)) → size % 4 ≡ 0 → AllFit size forms → length (output e size 0 (take (taken_from size 0 forms) forms)) ≤ size
+ends_within e size forms words fits =
+    let n : ℕ = taken_from size 0 forms in
+    let some = all_first (FitsBlock size) n forms fits in
+    let long : 0 + length (output e size 0 (take n forms)) ≡ end_of_all size 0 (take n forms) = output_is_long e size 0 (take n forms) words some in
+    let end = end_is_within size 1 0 (take n forms) words some refl (omega arith) (taken_fits size 0 forms) in
+    omega (arith, long, end.0)
+
+-- blocks whose bytes are the same
+same_bytes : (size j k : ℕ) (xs ys : List ℕ) → ((i : ℕ) → i < size → get_or xs (j * size + i) 0xFF ≡ get_or ys (k * size + i) 0xFF) → block_of size xs j ≡ block_of size ys k
+same_bytes size j k xs ys same =
+    ext_get_or 0xFF (block_of size xs j) (block_of size ys k) (block_length size xs j ∙ sym (block_length size ys k)) (λ i inside.
+    let small : i < size = omega (arith, inside, block_length size xs j) in
+    block_byte size xs j i small ∙ (same i small ∙ sym (block_byte size ys k i small)))
+
+-- the first block of a stretch at its front has its bytes
+front_same : (size : ℕ) (block out written : List ℕ) → ((i : ℕ) → i < size → get_or out i 0xFF ≡ get_or written i 0xFF)
+    → block_of size (front_of block 0 ++ out) 0 ≡ block_of size written 0
+front_same size block out written same =
+    let first : ℕ = 0 in
+    same_bytes size 0 0 (front_of block 0 ++ out) written (λ i small.
+    let here : first * size + i ≡ i = omega arith in
+    let at : i - 0 ≡ i = omega arith in
+    ap (λ (n : ℕ). get_or (front_of block 0 ++ out) n 0xFF) here
+    ∙ (behind_byte block out 0 i (omega arith)
+    ∙ (ap (λ (n : ℕ). get_or out n 0xFF) at ∙ (same i small ∙ ap (λ (n : ℕ). get_or written n 0xFF) (sym here)))))
+
+-- the first k bytes of bytes that are the same up to there
+cut_same : (k i : ℕ) (xs ys : List ℕ) → (i < k → get_or xs i 0xFF ≡ get_or ys i 0xFF) → get_or (take k xs) i 0xFF ≡ get_or (take k ys) i 0xFF
+cut_same k i xs ys same = elim (cases_lt i k) [
+  | inl less ↦ get_or-take k xs i 0xFF less ∙ (same less ∙ sym (get_or-take k ys i 0xFF less))
+  | inr past ↦ past_cut xs k i past ∙ sym (past_cut ys k i past)
+]
+
+-- a block of a row, and the same block where another stands in front of the row
+row_later : (size b : ℕ) (base written later : List ℕ) (o : Option ℕ) → ((j : ℕ) → block_of size later j ≡ block_of size written (j + 1))
+    → unwrap_or (option_map (block_of size later) o) (block_of size base b)
+    ≡ unwrap_or (option_map (block_of size written) (option_map (λ index. index + 1) o)) (block_of size base b)
+row_later size b base written later None same = refl
+row_later size b base written later (Some j) same = same j
+
+-- nothing went out yet: the blocks are erased
+none_same : (e : Endian) (size b : ℕ) (base row : List ℕ) (forms : List (List ℕ))
+    → block_in size base (stretches_of e size (shares size (fronts row) forms)) [] b ≡ block_with size base row [] b
+none_same e size b base [] forms = refl
+none_same e size b base (c ∷ cs) forms =
+    let n : ℕ = taken_from size 0 forms in
+    let share : Share = (at_place c 0, take n forms) in
+    let rest : List Share = shares size (fronts cs) (drop n forms) in
+    let len : ℕ = length (output e size 0 (take n forms)) in
+    let empty : List ℕ = [] in
+    let block : List ℕ = block_of size base b in
+    let none : take len empty ≡ [] = take_all len empty (omega arith) in
+    let gone : drop len empty ≡ [] = drop_of_length-le empty (omega arith) in
+    ap₂ (λ (l m : List ℕ). cond (c == b) (block_behind size base (share_stretch e size share) l) (block_in size base (stretches_of e size rest) m b)) none gone
+    ∙ elim (cases_Bool (c == b)) [
+      | inl same ↦
+          cond-true (c == b) (block_behind size base (share_stretch e size share) []) (block_in size base (stretches_of e size rest) [] b) same
+          ∙ (front_same size (block_of size base c) [] [] (λ i small. refl)
+          ∙ sym (ap (λ (o : Option ℕ). unwrap_or (option_map (block_of size []) o) block) (cond-true (c == b) (Some 0) (option_map (λ index. index + 1) (index_in cs b)) same)))
+      | inr other ↦
+          cond-false (c == b) (block_behind size base (share_stretch e size share) []) (block_in size base (stretches_of e size rest) [] b) other
+          ∙ (none_same e size b base cs (drop n forms)
+          ∙ (row_later size b base [] [] (index_in cs b) (λ j. same_bytes size j (j + 1) [] [] (λ i small. refl))
+          ∙ sym (ap (λ (o : Option ℕ). unwrap_or (option_map (block_of size []) o) block) (cond-false (c == b) (Some 0) (option_map (λ index. index + 1) (index_in cs b)) other))))
+    ]
+
+-- one block and those behind it, from what is known of each
+joined_same : (e : Endian) (size c b k : ℕ) (base cs : List ℕ) (forms : List (List ℕ)) (written later : List ℕ)
+    → block_of size (front_of (block_of size base c) 0 ++ take k (output e size 0 (take (taken_from size 0 forms) forms))) 0 ≡ block_of size written 0
+    → block_in size base (stretches_of e size (shares size (fronts cs) (drop (taken_from size 0 forms) forms)))
+    (take (k - length (output e size 0 (take (taken_from size 0 forms) forms))) (output_to_all e size (shares size (fronts cs) (drop (taken_from size 0 forms) forms)))) b
+    ≡ block_with size base cs later b
+    → ((j : ℕ) → block_of size later j ≡ block_of size written (j + 1))
+    → block_in size base (stretches_of e size (shares size (fronts (c ∷ cs)) forms)) (take k (output_to_all e size (shares size (fronts (c ∷ cs)) forms))) b
+    ≡ block_with size base (c ∷ cs) written b
+joined_same e size c b k base cs forms written later here there shifts =
+    let n : ℕ = taken_from size 0 forms in
+    let share : Share = (at_place c 0, take n forms) in
+    let rest : List Share = shares size (fronts cs) (drop n forms) in
+    let out : List ℕ = output e size 0 (take n forms) in
+    let others : List ℕ = output_to_all e size rest in
+    let block : List ℕ = block_of size base b in
+    let mine : List ℕ = block_behind size base (share_stretch e size share) (take k out) in
+    let theirs : List ℕ = block_in size base (stretches_of e size rest) (take (k - length out) others) b in
+    ap₂ (λ (l m : List ℕ). cond (c == b) (block_behind size base (share_stretch e size share) l) (block_in size base (stretches_of e size rest) m b))
+    (cut_first k out others) (cut_others k out others)
+    ∙ elim (cases_Bool (c == b)) [
+      | inl same ↦
+          cond-true (c == b) mine theirs same
+          ∙ (here
+          ∙ sym (ap (λ (o : Option ℕ). unwrap_or (option_map (block_of size written) o) block) (cond-true (c == b) (Some 0) (option_map (λ index. index + 1) (index_in cs b)) same)))
+      | inr other ↦
+          cond-false (c == b) mine theirs other
+          ∙ (there
+          ∙ (row_later size b base written later (index_in cs b) shifts
+          ∙ sym (ap (λ (o : Option ℕ). unwrap_or (option_map (block_of size written) o) block) (cond-false (c == b) (Some 0) (option_map (λ index. index + 1) (index_in cs b)) other))))
+    ]
+
+stop_same : (e : Endian) (size k : ℕ) (base row : List ℕ) (forms : List (List ℕ)) → 0 < size → size % 4 ≡ 0 → AllFit size forms
+    → (n : ℕ) × ((b : ℕ) → block_in size base (stretches_of e size (shares size (fronts row) forms)) (take k (output_to_all e size (shares size (fronts row) forms))) b
+    ≡ block_with size base row (take n (output e size 0 forms)) b)
+stop_same e size k base [] forms some words fits = (0, λ b. refl)
+stop_same e size k base (c ∷ cs) forms some words fits =
+    let m : ℕ = taken_from size 0 forms in
+    let out : List ℕ = output e size 0 (take m forms) in
+    let others : List ℕ = output_to_all e size (shares size (fronts cs) (drop m forms)) in
+    let all : List ℕ = output e size 0 forms in
+    let it = apart e size 0 forms some words refl (omega arith) fits in
+    let block : List ℕ = block_of size base c in
+    elim (cases_lt (length out) k) [
+      | inl past ↦
+          let later = stop_same e size (k - length out) base cs (drop m forms) some words (all_behind (FitsBlock size) m forms fits) in
+          let left : List ℕ = output e size 0 (drop m forms) in
+          let n : ℕ = size + later.0 in
+          let whole : take k out ≡ out = take_all k out (omega (arith, past)) in
+          let here : block_of size (front_of block 0 ++ take k out) 0 ≡ block_of size (take n all) 0 =
+          ap (λ (l : List ℕ). block_of size (front_of block 0 ++ l) 0) whole
+          ∙ front_same size block out (take n all) (λ i small. sym (it.here i (omega (arith, small))) ∙ sym (get_or-take n all i 0xFF (omega (arith, small)))) in
+          let shifts : (j : ℕ) → block_of size (take later.0 left) j ≡ block_of size (take n all) (j + 1) =
+          λ j. same_bytes size j (j + 1) (take later.0 left) (take n all) (λ i small.
+          let at : size - 0 + (j * size + i) ≡ (j + 1) * size + i = omega arith in
+          elim (cases_lt (j * size + i) later.0) [
+            | inl less ↦
+                get_or-take later.0 left (j * size + i) 0xFF less
+                ∙ (sym (it.behind (j * size + i))
+                ∙ (ap (λ (p : ℕ). get_or all p 0xFF) at ∙ sym (get_or-take n all ((j + 1) * size + i) 0xFF (omega (arith, less)))))
+            | inr more ↦ past_cut left later.0 (j * size + i) more ∙ sym (past_cut all n ((j + 1) * size + i) (omega (arith, more)))
+          ]) in
+          (n, λ b. joined_same e size c b k base cs forms (take n all) (take later.0 left) here (later.1 b) shifts)
+      | inr within ↦
+          let short : length out ≤ size = ends_within e size forms words fits in
+          let none : k - length out ≡ 0 = omega (arith, within) in
+          let here : block_of size (front_of block 0 ++ take k out) 0 ≡ block_of size (take k all) 0 =
+          front_same size block (take k out) (take k all) (λ i small. cut_same k i out all (λ less. sym (it.here i (omega (arith, small))))) in
+          let shifts : (j : ℕ) → block_of size [] j ≡ block_of size (take k all) (j + 1) =
+          λ j. same_bytes size j (j + 1) [] (take k all) (λ i small. sym (past_cut all k ((j + 1) * size + i) (omega (arith, within, short)))) in (
+            k,
+            λ b.
+                joined_same e size c b k base cs forms (take k all) [] here
+                (ap (λ (p : ℕ). block_in size base (stretches_of e size (shares size (fronts cs) (drop m forms))) (take p others) b) none ∙ none_same e size b base cs (drop m forms)) shifts,
+          )
+    ]
+
+pub fronts_stop_same : FrontsStopSame
+fronts_stop_same e size blocks k base row forms size_is fits =
+    let ss : List Share = shares size (fronts row) forms in
+    let it = stop_same e size k base row forms (omega (arith, readable_some size size_is)) (readable_words size size_is) fits in (
+      it.0,
+      same_for_each (block_in size base (stretches_of e size ss) (take k (output_to_all e size ss))) (block_with size base row (take it.0 (output e size 0 forms))) (below blocks) it.1,
+    )

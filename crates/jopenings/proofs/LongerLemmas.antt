@@ -1,5 +1,5 @@
 -- What more forms add to the stretches of a row.
-use Rattle.std.proofs.Common.{◌≡◌, ℕ, suc, ◌+◌, ◌<◌, ◌≤◌, true, false, cond, List, [], ◌∷◌, ◌++◌, length, map, take, drop, refl, sym, ap, ap₂, ◌∙◌, arith, inl, inr, length-append, append-nil}
+use Rattle.std.proofs.Common.{◌≡◌, ℕ, ◌+◌, ◌<◌, ◌≤◌, false, cond, List, [], ◌∷◌, ◌++◌, length, map, take, drop, refl, sym, ap, ap₂, ◌∙◌, arith, inl, inr, length-append, append-nil}
 use Rattle.std.specs.Prelude.{◌==◌}
 use Rattle.std.proofs.lemmas.Bool.{cases_Bool, cond-true, cond-false, eqb-true, eq-eqb}
 use Rattle.jnode.specs.Writing.{filled}
@@ -130,8 +130,8 @@ as_map e size lo blocks (o ∷ row) forms f up same =
     let here : m ≡ f o.block =
     sym (same o.block up.0 ∙ cond-true (o.block == o.block) m (bytes_in e size row (drop n forms) o.block) (eq-eqb o.block o.block refl)) in
     let later = as_map e size (o.block + 1) blocks row (drop n forms) f up.2 (λ b high.
-        let differ : (o.block == b) ≡ false = not_same o.block b (λ is. omega (arith, is, high)) in
-        same b (omega (arith, high, up.0)) ∙ cond-false (o.block == b) m (bytes_in e size row (drop n forms) b) differ) in
+    let differ : (o.block == b) ≡ false = not_same o.block b (λ is. omega (arith, is, high)) in
+    same b (omega (arith, high, up.0)) ∙ cond-false (o.block == b) m (bytes_in e size row (drop n forms) b) differ) in
     ap₂ (λ (k : ℕ) (ss : List Stretch). (let s : Stretch = record { block = o.block; place = o.place; len = k } in s) ∷ ss) here later
 
 longer_map : (more : List Stretch) (f : ℕ → ℕ) (row : List Opening) → longer more (map (stretch_at f) row) ≡ map (stretch_at (λ b. f b + len_in more b)) row

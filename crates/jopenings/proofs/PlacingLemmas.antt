@@ -1,6 +1,6 @@
 -- An image with bytes in its openings, block by block.
-use Rattle.std.proofs.Common.{◌≡◌, ℕ, zero, suc, ◌+◌, ◌-◌, ◌*◌, ◌<◌, ◌≤◌, false, cond, List, [], ◌∷◌, ◌++◌, length, take, drop, get_or, min, refl, sym, ap, ap₂, subst, ◌∙◌, arith, Option, append_assoc, length-append, length-take, take-append-drop}
-use Rattle.std.specs.Prelude.{◌==◌, max}
+use Rattle.std.proofs.Common.{◌≡◌, ℕ, zero, suc, ◌+◌, ◌-◌, ◌*◌, ◌<◌, ◌≤◌, false, List, [], ◌∷◌, ◌++◌, length, take, drop, get_or, min, refl, sym, ap, ap₂, subst, ◌∙◌, arith, Option, append_assoc, length-append, length-take, take-append-drop}
+use Rattle.std.specs.Prelude.{◌==◌}
 use Rattle.std.specs.Io.KnownBytes.{Appends}
 use Rattle.std.proofs.KnownBytes.{Appends-trans}
 use Rattle.std.proofs.lemmas.Bool.{cond-false}
@@ -10,7 +10,7 @@ use Rattle.jscan.specs.Image.{block_of}
 use Rattle.jlog.specs.Left.{front_of}
 use Rattle.jrow.proofs.BehindLemmas.{StopsBehind}
 use Rattle.jrow.proofs.WithRowLemmas.{not_same}
-use Rattle.jopenings.specs.Stretches.{AreStretches, block_with, end_in, last_end}
+use Rattle.jopenings.specs.Stretches.{AreStretches, block_in}
 use Rattle.jopenings.specs.declared.placing.Stretch.{Stretch}
 use Rattle.jopenings.proofs.StretchLemmas.{cut_first, cut_others}
 
@@ -74,24 +74,24 @@ block_halves size place block bytes long within =
 
 -- one in front of all stretches
 pub in_front : (size from blocks b : ℕ) (base : List ℕ) (ss : List Stretch) (bytes : List ℕ) → AreStretches size from blocks ss → b < from
-    → block_with size base ss bytes b ≡ block_of size base b
+    → block_in size base ss bytes b ≡ block_of size base b
 in_front size from blocks b base [] bytes are less = refl
 in_front size from blocks b base (s ∷ ss) bytes are less =
     let differ : (s.block == b) ≡ false = not_same s.block b (λ same. omega (arith, same, are.0, less)) in
-    cond-false (s.block == b) _ (block_with size base ss (drop s.len bytes) b) differ
+    cond-false (s.block == b) _ (block_in size base ss (drop s.len bytes) b) differ
     ∙ in_front size (s.block + 1) blocks b base ss (drop s.len bytes) are.3 (omega (arith, are.0, less))
 
 -- one in front of all but a first stretch that is of another block
 pub not_first : (size blocks b : ℕ) (base : List ℕ) (s : Stretch) (others ss : List Stretch) (bytes : List ℕ) → ss ≡ s ∷ others → (s.block ≡ b → ⊥)
-    → AreStretches size b blocks ss → block_with size base ss bytes b ≡ block_of size base b
+    → AreStretches size b blocks ss → block_in size base ss bytes b ≡ block_of size base b
 not_first size blocks b base s others ss bytes is differ are =
     let here = subst (AreStretches size b blocks) is are in
-    ap (λ (l : List Stretch). block_with size base l bytes b) is
-    ∙ (cond-false (s.block == b) _ (block_with size base others (drop s.len bytes) b) (not_same s.block b differ)
+    ap (λ (l : List Stretch). block_in size base l bytes b) is
+    ∙ (cond-false (s.block == b) _ (block_in size base others (drop s.len bytes) b) (not_same s.block b differ)
     ∙ in_front size (s.block + 1) blocks b base others (drop s.len bytes) here.3 (omega (arith, here.0)))
 
 -- none
-pub no_stretch : (size b : ℕ) (base : List ℕ) (ss : List Stretch) (bytes : List ℕ) → length ss ≡ 0 → block_with size base ss bytes b ≡ block_of size base b
+pub no_stretch : (size b : ℕ) (base : List ℕ) (ss : List Stretch) (bytes : List ℕ) → length ss ≡ 0 → block_in size base ss bytes b ≡ block_of size base b
 no_stretch size b base [] bytes none = refl
 no_stretch size b base (s ∷ ss) bytes none = absurd (omega (arith, none))
 

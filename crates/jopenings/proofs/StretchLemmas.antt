@@ -1,6 +1,6 @@
 -- What went out to openings, as it lies on the flash.
-use Rattle.std.proofs.Common.{◌≡◌, ℕ, zero, suc, ◌+◌, ◌-◌, ◌*◌, ◌/◌, ◌%◌, ◌<◌, ◌≤◌, Bool, true, false, cond, List, [], ◌∷◌, ◌++◌, length, map, take, drop, get_or, refl, sym, ap, ap₂, subst, ◌∙◌, arith, inl, inr, Some, Contains, length-take, length-drop}
-use Rattle.std.specs.Prelude.{IsTrue, ◌==◌, min, max, flat_map}
+use Rattle.std.proofs.Common.{◌≡◌, ℕ, ◌+◌, ◌-◌, ◌*◌, ◌/◌, ◌%◌, ◌<◌, ◌≤◌, false, cond, List, [], ◌∷◌, ◌++◌, length, take, drop, get_or, refl, sym, ap, ap₂, subst, ◌∙◌, arith, inl, inr, length-take, length-drop}
+use Rattle.std.specs.Prelude.{◌==◌, min}
 use Rattle.std.specs.List.{AllByRecursion}
 use Rattle.std.proofs.Math.ListN.{drop_of_length-le}
 use Rattle.std.proofs.Math.Nat.{mul-le-mul_right}
@@ -10,7 +10,7 @@ use Rattle.std.proofs.lemmas.List.{ext_get_or, get_or-take, get_or_past, take-ap
 use Rattle.flashbase.specs.Lists.{below}
 use Rattle.flashbase.proofs.ListLemmas.{length-below, get_or-below}
 use Rattle.jnode.specs.declared.order.Endian.{Endian}
-use Rattle.jscan.specs.Image.{is_block_size, block_of}
+use Rattle.jscan.specs.Image.{block_of}
 use Rattle.jscan.proofs.PartLemmas.{block_length}
 use Rattle.jscan.proofs.StreamCounts.{readable_some, readable_words}
 use Rattle.jlog.specs.Left.{IsLeft, front_of}
@@ -29,8 +29,8 @@ use Rattle.jrests.specs.Shares.{taken_from, Share, shares, output_to}
 use Rattle.jrests.specs.declared.opening.Opening.{Opening}
 use Rattle.jrests.proofs.ShareLemmas.{taken_fits, all_first, all_behind}
 use Rattle.jopenings.specs.After.{output_to_all}
-use Rattle.jopenings.specs.Exist.{block_after, block_left, flash_left}
-use Rattle.jopenings.specs.Stretches.{AreStretches, stretch_of, stretches_of, block_behind, block_with, flash_with, end_in, last_end, length_with, image_with}
+use Rattle.jopenings.specs.Exist.{block_after, block_left}
+use Rattle.jopenings.specs.Stretches.{AreStretches, share_stretch, stretches_of, block_behind, block_in, flash_with, end_in, end_of_last, length_after}
 use Rattle.jopenings.specs.StretchLaws.{FlashWithSharesIsLeft, FlashWithIsWhole, SameIsLeftOfShares, ImageWithSharesIsLeft, SharesAreStretches}
 use Rattle.jopenings.specs.declared.placing.Stretch.{Stretch}
 use Rattle.jopenings.proofs.ExistLemmas.{opening_within, opening_aligned, front_byte, behind_byte, some_are_left}
@@ -62,7 +62,7 @@ cut_others k xs ys = elim (cases_lt (length xs) k) [
 ]
 
 block_is_left : (e : Endian) (size k b : ℕ) (base : List ℕ) (ss : List Share)
-    → block_with size base (stretches_of e size ss) (take k (output_to_all e size ss)) b ≡ block_left e size base ss k b
+    → block_in size base (stretches_of e size ss) (take k (output_to_all e size ss)) b ≡ block_left e size base ss k b
 block_is_left e size k b base [] = refl
 block_is_left e size k b base (s ∷ ss) =
     let out : List ℕ = output_to e size s in
@@ -70,30 +70,30 @@ block_is_left e size k b base (s ∷ ss) =
     let bytes : List ℕ = take k (out ++ others) in
     let first : take (length out) bytes ≡ take k out = cut_first k out others in
     let later : drop (length out) bytes ≡ take (k - length out) others = cut_others k out others in
-    ap₂ (λ (l m : List ℕ). cond (s.0.block == b) (block_behind size base (stretch_of e size s) l) (block_with size base (stretches_of e size ss) m b)) first later
+    ap₂ (λ (l m : List ℕ). cond (s.0.block == b) (block_behind size base (share_stretch e size s) l) (block_in size base (stretches_of e size ss) m b)) first later
     ∙ ap (λ (l : List ℕ). cond (s.0.block == b) (block_after e size base s k) l) (block_is_left e size (k - length out) b base ss)
 
 pub flash_with_shares_is_left : FlashWithSharesIsLeft
 flash_with_shares_is_left e size blocks k base ss =
-    same_for_each (block_with size base (stretches_of e size ss) (take k (output_to_all e size ss))) (block_left e size base ss k) (below blocks)
+    same_for_each (block_in size base (stretches_of e size ss) (take k (output_to_all e size ss))) (block_left e size base ss k) (below blocks)
     (λ b. block_is_left e size k b base ss)
 
 -- ---- its bytes
 
-pub with_long : (size : ℕ) (base : List ℕ) (ss : List Stretch) (bytes : List ℕ) (b : ℕ) → length (block_with size base ss bytes b) ≡ size
+pub with_long : (size : ℕ) (base : List ℕ) (ss : List Stretch) (bytes : List ℕ) (b : ℕ) → length (block_in size base ss bytes b) ≡ size
 with_long size base [] bytes b = block_length size base b
 with_long size base (s ∷ ss) bytes b = elim (cases_Bool (s.block == b)) [
   | inl same ↦
-      ap length (cond-true (s.block == b) (block_behind size base s (take s.len bytes)) (block_with size base ss (drop s.len bytes) b) same)
+      ap length (cond-true (s.block == b) (block_behind size base s (take s.len bytes)) (block_in size base ss (drop s.len bytes) b) same)
       ∙ block_length size (front_of (block_of size base s.block) s.place ++ take s.len bytes) 0
   | inr other ↦
-      ap length (cond-false (s.block == b) (block_behind size base s (take s.len bytes)) (block_with size base ss (drop s.len bytes) b) other)
+      ap length (cond-false (s.block == b) (block_behind size base s (take s.len bytes)) (block_in size base ss (drop s.len bytes) b) other)
       ∙ with_long size base ss (drop s.len bytes) b
 ]
 
 flash_with_long : (size blocks : ℕ) (base : List ℕ) (ss : List Stretch) (bytes : List ℕ) → length (flash_with size blocks base ss bytes) ≡ blocks * size
 flash_with_long size blocks base ss bytes =
-    made_long size (block_with size base ss bytes) (with_long size base ss bytes) (below blocks) ∙ ap (λ (n : ℕ). n * size) (length-below blocks)
+    made_long size (block_in size base ss bytes) (with_long size base ss bytes) (below blocks) ∙ ap (λ (n : ℕ). n * size) (length-below blocks)
 
 -- so many bytes of a stretch end at or before an address
 ends_before : (size count at : ℕ) (s : Stretch) → 0 < count → end_in size s count ≤ at → s.block * size + s.place + count ≤ at
@@ -124,7 +124,7 @@ behind_past size i base s bytes small past ends =
     ])
 
 block_past : (size b i : ℕ) (base : List ℕ) (ss : List Stretch) (bytes : List ℕ) → i < size → length base ≤ b * size + i
-    → last_end size ss (length bytes) ≤ b * size + i → get_or (block_with size base ss bytes b) i 0xFF ≡ 0xFF
+    → end_of_last size ss (length bytes) ≤ b * size + i → get_or (block_in size base ss bytes b) i 0xFF ≡ 0xFF
 block_past size b i base [] bytes small past ends = block_byte size base b i small ∙ get_or_past base (b * size + i) 0xFF past
 block_past size b i base (s ∷ ss) bytes small past ends =
     let n : ℕ = length bytes in
@@ -135,19 +135,19 @@ block_past size b i base (s ∷ ss) bytes small past ends =
           let at : s.block * size ≡ b * size = ap (λ (c : ℕ). c * size) is in
           let held : min n s.len ≡ length (take s.len bytes) = omega (arith, length-take s.len bytes) in
           let end : end_in size s (length (take s.len bytes)) ≤ b * size + i = subst (λ (m : ℕ). end_in size s m ≤ b * size + i) held (omega (arith, ends)) in
-          ap (λ (l : List ℕ). get_or l i 0xFF) (cond-true (s.block == b) (block_behind size base s (take s.len bytes)) (block_with size base ss (drop s.len bytes) b) same)
+          ap (λ (l : List ℕ). get_or l i 0xFF) (cond-true (s.block == b) (block_behind size base s (take s.len bytes)) (block_in size base ss (drop s.len bytes) b) same)
           ∙ behind_past size i base s (take s.len bytes) small (omega (arith, past, at)) (omega (arith, end, at))
       | inr other ↦
-          ap (λ (l : List ℕ). get_or l i 0xFF) (cond-false (s.block == b) (block_behind size base s (take s.len bytes)) (block_with size base ss (drop s.len bytes) b) other)
+          ap (λ (l : List ℕ). get_or l i 0xFF) (cond-false (s.block == b) (block_behind size base s (take s.len bytes)) (block_in size base ss (drop s.len bytes) b) other)
           ∙ block_past size b i base ss (drop s.len bytes) small past
-          (subst (λ (m : ℕ). last_end size ss m ≤ b * size + i) (sym later) (omega (arith, ends)))
+          (subst (λ (m : ℕ). end_of_last size ss m ≤ b * size + i) (sym later) (omega (arith, ends)))
     ]
 
-flash_past : (size blocks at : ℕ) (base : List ℕ) (ss : List Stretch) (bytes : List ℕ) → 0 < size → length_with size base ss bytes ≤ at
+flash_past : (size blocks at : ℕ) (base : List ℕ) (ss : List Stretch) (bytes : List ℕ) → 0 < size → length_after size base ss bytes ≤ at
     → get_or (flash_with size blocks base ss bytes) at 0xFF ≡ 0xFF
 flash_past size blocks at base ss bytes some past =
     let flash : List ℕ = flash_with size blocks base ss bytes in
-    let f = block_with size base ss bytes in
+    let f = block_in size base ss bytes in
     let d : ℕ = at / size in
     let i : ℕ = at % size in
     let small : i < size = mod_small at size some in
@@ -166,7 +166,7 @@ flash_past size blocks at base ss bytes some past =
 pub flash_with_is_whole : FlashWithIsWhole
 flash_with_is_whole size blocks base ss bytes some at =
     let flash : List ℕ = flash_with size blocks base ss bytes in
-    let n : ℕ = length_with size base ss bytes in
+    let n : ℕ = length_after size base ss bytes in
     elim (cases_lt at n) [
       | inl less ↦ sym (get_or-take n flash at 0xFF less)
       | inr past ↦ flash_past size blocks at base ss bytes some past ∙ sym (get_or_past (take n flash) at 0xFF (omega (arith, past, length-take n flash)))
@@ -204,7 +204,7 @@ image_with_shares_is_left e size blocks k base row forms size_is within opens =
     let stretches : List Stretch = stretches_of e size ss in
     let bytes : List ℕ = take k (output_to_all e size ss) in
     let flash : List ℕ = flash_with size blocks base stretches bytes in
-    let n : ℕ = length_with size base stretches bytes in
+    let n : ℕ = length_after size base stretches bytes in
     same_is_left_of_shares e size blocks k base ss flash (take n flash) (omega (arith, length-take n flash, flash_with_long size blocks base stretches bytes))
     (flash_with_is_whole size blocks base stretches bytes (omega (arith, readable_some size size_is)))
     (subst (λ (l : List ℕ). IsLeftOfShares e size blocks base ss k l) (sym (flash_with_shares_is_left e size blocks k base ss)) (some_are_left e size blocks k base row forms size_is within opens))

@@ -22,9 +22,9 @@ use Rattle.jopenings.specs.declared.placing.Stretch.{Stretch}
 -- The flash with the first k bytes that went out to some shares is the one that a stop after them
 -- leaves,
 abbrev pub FlashWithSharesIsLeft : Type 0
-FlashWithSharesIsLeft = (e : Endian) (size blocks k : ℕ) (base : List ℕ) (shares : List Share)
-    → flash_with size blocks base (stretches_of e size shares) (take k (output_to_all e size shares))
-    ≡ flash_left e size blocks base shares k
+FlashWithSharesIsLeft = (e : Endian) (size blocks k : ℕ) (base : List ℕ) (ss : List Share)
+    → flash_with size blocks base (stretches_of e size ss) (take k (output_to_all e size ss))
+    ≡ flash_left e size blocks base ss k
 
 -- and what an image with bytes in stretches lacks of the flash is erased.
 abbrev pub FlashWithIsWhole : Type 0
@@ -83,3 +83,12 @@ FrontsWriteSame = (e : Endian) (size blocks : ℕ) (base row : List ℕ) (forms 
     → let ss = shares size (fronts row) forms in
     flash_with size blocks base (stretches_of e size ss) (output_to_all e size ss)
     ≡ with_row size blocks base row (output e size 0 forms)
+
+-- And where what goes out stops at some byte, so it may in the row.
+abbrev pub FrontsStopSame : Type 0
+FrontsStopSame = (e : Endian) (size blocks k : ℕ) (base row : List ℕ) (forms : List (List ℕ))
+    → IsTrue (is_block_size size) → AllByRecursion (FitsBlock size) forms
+    → let ss = shares size (fronts row) forms in
+    let out = output_to_all e size ss in
+    (n : ℕ) × (flash_with size blocks base (stretches_of e size ss) (take k out)
+    ≡ with_row size blocks base row (take n (output e size 0 forms)))

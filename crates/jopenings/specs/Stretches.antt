@@ -1,5 +1,5 @@
--- What went out to openings, as it lies on the flash: an image with it, which is put up to where the
--- image ended, or to the last of those bytes.
+-- What went out to openings, as it lies on the flash: an image with it, as it is put, up to where
+-- it ended, or to the last of those bytes.
 use Rattle.std.specs.Prelude.{ℕ, ◌+◌, ◌-◌, ◌*◌, ◌<◌, ◌≤◌, ◌==◌, min, max, List, [], ◌∷◌, ◌++◌, length, map, take, drop, flat_map, if◌then◌else◌}
 use Rattle.flashbase.specs.Lists.{below}
 use Rattle.jnode.specs.declared.order.Endian.{Endian}
@@ -17,15 +17,15 @@ AreStretches size from blocks (s ∷ stretches) =
     × AreStretches size (s.block + 1) blocks stretches
 
 -- where the bytes of a share lie
-abbrev pub stretch_of : Endian → ℕ → Share → Stretch
-stretch_of e size share = record {
+abbrev pub share_stretch : Endian → ℕ → Share → Stretch
+share_stretch e size share = record {
   block = share.0.block;
   place = share.0.place;
   len = length (output_to e size share);
 }
 
 abbrev pub stretches_of : Endian → ℕ → List Share → List Stretch
-stretches_of e size shares = map (stretch_of e size) shares
+stretches_of e size shares = map (share_stretch e size) shares
 
 -- ---- more bytes
 
@@ -48,23 +48,23 @@ abbrev pub block_behind : ℕ → List ℕ → Stretch → List ℕ → List ℕ
 block_behind size base s bytes =
     block_of size (front_of (block_of size base s.block) s.place ++ bytes) 0
 
--- a block of the base, or with what went out to its stretch: the first bytes went to the first one,
--- as many as it has, and the others to those after it
-abbrev pub block_with : ℕ → List ℕ → List Stretch → List ℕ → ℕ → List ℕ
-block_with size base [] bytes b = block_of size base b
-block_with size base (s ∷ stretches) bytes b =
+-- a block of the base, or with what went out to its stretch: the first bytes went to the first
+-- stretch, as many as it has, and the others to those after it
+abbrev pub block_in : ℕ → List ℕ → List Stretch → List ℕ → ℕ → List ℕ
+block_in size base [] bytes b = block_of size base b
+block_in size base (s ∷ stretches) bytes b =
     if s.block == b then block_behind size base s (take s.len bytes) else
-    block_with size base stretches (drop s.len bytes) b
+    block_in size base stretches (drop s.len bytes) b
 
 -- rule: The log: What is put of an image with bytes in its openings.
---   definitions: jopenings.Stretches.flash_with, jopenings.Stretches.length_with,
+--   definitions: jopenings.Stretches.flash_with, jopenings.Stretches.length_after,
 --   jopenings.Stretches.stretches_of
 --   code: jopenings::placing::put_with_stretches, jopenings::placing::len_with_stretches
 --   laws: jopenings::laws::flash_with_shares_is_left, jopenings::laws::image_with_shares_is_left
 -- the flash of a base after these bytes went out to some stretches, one after the other
 abbrev pub flash_with : ℕ → ℕ → List ℕ → List Stretch → List ℕ → List ℕ
 flash_with size blocks base stretches bytes =
-    flat_map (block_with size base stretches bytes) (below blocks)
+    flat_map (block_in size base stretches bytes) (below blocks)
 
 -- ---- how long an image is then
 
@@ -73,15 +73,15 @@ abbrev pub end_in : ℕ → Stretch → ℕ → ℕ
 end_in size s count = if count == 0 then 0 else s.block * size + s.place + count
 
 -- where the last of so many bytes ends
-abbrev pub last_end : ℕ → List Stretch → ℕ → ℕ
-last_end size [] count = 0
-last_end size (s ∷ stretches) count =
-    max (end_in size s (min count s.len)) (last_end size stretches (count - s.len))
+abbrev pub end_of_last : ℕ → List Stretch → ℕ → ℕ
+end_of_last size [] count = 0
+end_of_last size (s ∷ stretches) count =
+    max (end_in size s (min count s.len)) (end_of_last size stretches (count - s.len))
 
-abbrev pub length_with : ℕ → List ℕ → List Stretch → List ℕ → ℕ
-length_with size base stretches bytes =
-    max (length base) (last_end size stretches (length bytes))
+abbrev pub length_after : ℕ → List ℕ → List Stretch → List ℕ → ℕ
+length_after size base stretches bytes =
+    max (length base) (end_of_last size stretches (length bytes))
 
 abbrev pub image_with : ℕ → ℕ → List ℕ → List Stretch → List ℕ → List ℕ
 image_with size blocks base stretches bytes =
-    take (length_with size base stretches bytes) (flash_with size blocks base stretches bytes)
+    take (length_after size base stretches bytes) (flash_with size blocks base stretches bytes)

@@ -5,7 +5,7 @@ ghost use Rattle.jopenings.specs.AfterLaws.{AllRowsGoOn, BytesAreCounted, Earlie
 ghost use Rattle.jopenings.specs.Done.{OpeningsBegin, DoneSurvivesInOpenings, DoneGoesOnInOpenings};
 ghost use Rattle.jopenings.specs.Exist.{SomeAreLeftInOpenings};
 ghost use Rattle.jopenings.specs.FrontLaws.{FrontsHoldSame, FrontsPlaceSame};
-ghost use Rattle.jopenings.specs.StretchLaws.{FlashWithSharesIsLeft, FlashWithIsWhole, SameIsLeftOfShares, ImageWithSharesIsLeft, SharesAreStretches, StretchesBegin, StretchesGoOn, FrontsWriteSame};
+ghost use Rattle.jopenings.specs.StretchLaws.{FlashWithSharesIsLeft, FlashWithIsWhole, SameIsLeftOfShares, ImageWithSharesIsLeft, SharesAreStretches, StretchesBegin, StretchesGoOn, FrontsWriteSame, FrontsStopSame};
 
 /// More nodes go on in what is left of a row, as if it had begun there.
 pub fn row_goes_on()
@@ -61,5 +61,6 @@ pub fn shares_are_stretches()
 /// What goes out to openings of blank blocks makes the same flash as what goes out to these blocks
 /// as a row.
 pub fn fronts_write_same()
-    ensures { FrontsWriteSame }
+    ensures whole { FrontsWriteSame }
+    ensures stop { FrontsStopSame }
 {}

@@ -6,9 +6,9 @@
 //! where writing stops. No call here writes the log itself.
 //!
 //! - `Stretch`: that so many bytes went out to an opening.
-//! - `put_with_stretches`: an image with what went out to openings of it, put block by block without
-//!   a copy of it, and how much of it went out if the sink failed; `len_with_stretches` says how
-//!   long it is then.
+//! - `put_with_stretches`: an image with what went out to openings of it, put block by block
+//!   without a copy of it, and how much of it went out if the sink failed; `len_with_stretches`
+//!   says how long it is then.
 //! - `laws`, each the contract of a function that does nothing.
 //!
 //! `specs/After.antt` says what is left of a row, and `specs/AfterLaws.antt` what goes on there.

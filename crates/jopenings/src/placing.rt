@@ -4,7 +4,7 @@ ghost use Rattle.std.specs.Prelude.{◌≡◌, ℕ, ◌*◌, ◌<◌, ◌≤◌,
 ghost use Rattle.std.specs.Io.KnownBytes.{Appends};
 ghost use Rattle.flashbase.specs.Sinks.{PutsTo};
 ghost use Rattle.jscan.specs.Image.{is_block_size, greatest_image};
-ghost use Rattle.jopenings.specs.Stretches.{AreStretches, block_behind, block_with, flash_with, end_in, length_with};
+ghost use Rattle.jopenings.specs.Stretches.{AreStretches, block_behind, block_in, flash_with, end_in, length_after};
 
 use crate::pieces::put_part;
 use flashbase::{Part, PutFault, Sink};
@@ -103,10 +103,10 @@ fn step_to<'a>(
     requires within { block < flash.now.blocks }
     requires stretches { AreStretches flash.now.geometry.block block flash.now.blocks
         written.now.stretches.now }
-    ensures block { result.block.front ++ result.block.behind ≡ block_with
+    ensures block { result.block.front ++ result.block.behind ≡ block_in
         flash.now.geometry.block image.now written.now.stretches.now written.now.bytes.now block }
-    ensures later { (b : ℕ) → block < b → block_with flash.now.geometry.block image.now
-        result.later.stretches.now result.later.bytes.now b ≡ block_with flash.now.geometry.block
+    ensures later { (b : ℕ) → block < b → block_in flash.now.geometry.block image.now
+        result.later.stretches.now result.later.bytes.now b ≡ block_in flash.now.geometry.block
         image.now written.now.stretches.now written.now.bytes.now b }
     ensures stretches { AreStretches flash.now.geometry.block (block + 1) flash.now.blocks
         result.later.stretches.now }
@@ -150,7 +150,7 @@ pub fn len_with_stretches(flash: &StretchesOnFlash<'_>, image: &[u8], bytes: &[u
     requires small { flash.now.blocks * flash.now.geometry.block ≤ greatest_image }
     requires stretches { AreStretches flash.now.geometry.block 0 flash.now.blocks
         flash.now.stretches.now }
-    ensures { result ≡ length_with flash.now.geometry.block image.now flash.now.stretches.now
+    ensures { result ≡ length_after flash.now.geometry.block image.now flash.now.stretches.now
         bytes.now }
 {
     let mut len = image.len();

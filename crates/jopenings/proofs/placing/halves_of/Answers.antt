@@ -1,5 +1,4 @@
-use Rattle.std.proofs.Common.{◌≡◌, ◌-◌, ◌∙◌, ℕ, List, ◌++◌, length, take, drop, ap, ap₂, arith}
-use Rattle.flashbase.specs.Bytes.{erased}
+use Rattle.std.proofs.Common.{◌∙◌, ℕ, List, ◌++◌, take, drop, ap, ap₂}
 use Rattle.jscan.specs.Image.{block_of}
 use Rattle.jscan.proofs.PartLemmas.{block_length}
 use Rattle.jopenings.proofs.PlacingLemmas.{block_halves}

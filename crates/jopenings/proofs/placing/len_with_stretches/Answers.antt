@@ -1,4 +1,4 @@
-use Rattle.std.proofs.Common.{◌≡◌, ◌+◌, ◌*◌, ◌<◌, ◌≤◌, ℕ, length, get_or, arith}
+use Rattle.std.proofs.Common.{ℕ, get_or, arith}
 use Rattle.jrow.proofs.RowCodeLemmas.{block_within}
 use Rattle.jscan.specs.Image.{greatest_image}
 use Rattle.jopenings.specs.declared.placing.Stretch.{Stretch}

@@ -1,9 +1,9 @@
-use Rattle.std.proofs.Common.{◌≡◌, ◌-◌, ◌<◌, ◌≤◌, ◌∙◌, ℕ, List, ◌++◌, length, min, take, ap, sym, subst, arith}
+use Rattle.std.proofs.Common.{◌≡◌, ◌-◌, ◌<◌, ◌∙◌, ℕ, List, ◌++◌, length, min, take, ap, subst, arith}
 use Rattle.std.specs.Io.KnownBytes.{Appends}
 use Rattle.flashbase.specs.Device.{PutsPart}
 use Rattle.jrow.proofs.BehindLemmas.{StopsBehind, goes_on, block_stopped}
 use Rattle.jrow.proofs.PlacingLemmas.{begun_more, begun_failed}
-use Rattle.jopenings.specs.Stretches.{block_with, flash_with}
+use Rattle.jopenings.specs.Stretches.{block_in, flash_with}
 use Rattle.jopenings.proofs.StretchLemmas.{with_long}
 use Rattle.jopenings.proofs.placing.put_with_stretches.Goals as goal
 
@@ -20,7 +20,7 @@ pub returns-in_err-put_halves-clause-puts : goal.returns-in_err-put_halves-claus
 returns-in_err-put_halves-clause-puts g c =
     let flash = c.args.flash.now in
     let size : ℕ = flash.geometry.block in
-    let f = block_with size c.args.image.now flash.stretches.now c.args.bytes.now in
+    let f = block_in size c.args.image.now flash.stretches.now c.args.bytes.now in
     let held : ℕ = c.min-held.result in
     let least : held ≡ min c.loop-block.left size = c.min-held.ensures in
     let before = c.loop-block.invariant in
@@ -37,7 +37,7 @@ pub returns-in_err-put_halves-clause-part : goal.returns-in_err-put_halves-claus
 returns-in_err-put_halves-clause-part g c =
     let flash = c.args.flash.now in
     let size : ℕ = flash.geometry.block in
-    let f = block_with size c.args.image.now flash.stretches.now c.args.bytes.now in
+    let f = block_in size c.args.image.now flash.stretches.now c.args.bytes.now in
     let held : ℕ = c.min-held.result in
     let least : held ≡ min c.loop-block.left size = c.min-held.ensures in
     let left : ℕ = c.loop-block.left in
@@ -59,7 +59,7 @@ pub loop-block-preserved : goal.loop-block-preserved
 loop-block-preserved g c =
     let flash = c.args.flash.now in
     let size : ℕ = flash.geometry.block in
-    let f = block_with size c.args.image.now flash.stretches.now c.args.bytes.now in
+    let f = block_in size c.args.image.now flash.stretches.now c.args.bytes.now in
     let held : ℕ = c.min-held.result in
     let least : held ≡ min c.loop-block.left size = c.min-held.ensures in
     let before = c.loop-block.invariant in

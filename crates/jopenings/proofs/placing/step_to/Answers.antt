@@ -1,6 +1,6 @@
-use Rattle.std.proofs.Common.{◌≡◌, ◌∙◌, ℕ, List, [], ◌++◌, refl, sym, ap, ap₂, arith, append-nil}
+use Rattle.std.proofs.Common.{◌≡◌, ◌∙◌, ℕ, List, ◌++◌, sym, ap₂, append-nil}
 use Rattle.jscan.specs.Image.{block_of}
-use Rattle.jopenings.specs.Stretches.{block_with}
+use Rattle.jopenings.specs.Stretches.{block_in}
 use Rattle.jopenings.specs.declared.placing.Stretch.{Stretch}
 use Rattle.jopenings.proofs.PlacingLemmas.{not_first, no_stretch}
 use Rattle.jopenings.proofs.placing.step_to.Goals as goal
@@ -13,7 +13,7 @@ returns-in_default-clause-block c =
     let block : List ℕ = block_of size c.args.image.now b in
     let stretches : List Stretch = c.args.written.now.stretches.now in
     let bytes : List ℕ = c.args.written.now.bytes.now in
-    let is : block_with size c.args.image.now stretches bytes b ≡ block =
+    let is : block_in size c.args.image.now stretches bytes b ≡ block =
     elim c.in_default.branch [
       | in_default-via-in-Some+else-first-block w ↦
           not_first size c.args.flash.now.blocks b c.args.image.now w.in-Some.first.now w.in-Some.others.now stretches bytes
