@@ -114,7 +114,7 @@ spot_none size row from next len past same = same ∙ ap (λ (r : List Opening).
 
 -- ---- what is left behind a form
 
-after_taken : (size : ℕ) (o : Opening) (row : List Opening) (x : List ℕ) → takes size o x ≡ true → row_after size (o ∷ row) x ≡ moved_opening size o x ∷ row
+pub after_taken : (size : ℕ) (o : Opening) (row : List Opening) (x : List ℕ) → takes size o x ≡ true → row_after size (o ∷ row) x ≡ moved_opening size o x ∷ row
 after_taken size o row x inside = cond-true (takes size o x) (moved_opening size o x ∷ row) (row_after size row x) inside
 
 pub after_missed : (size : ℕ) (o : Opening) (row : List Opening) (x : List ℕ) → takes size o x ≡ false → row_after size (o ∷ row) x ≡ row_after size row x

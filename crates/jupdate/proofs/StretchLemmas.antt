@@ -3,7 +3,7 @@ use Rattle.std.proofs.Common.{◌≡◌, ℕ, zero, suc, ◌+◌, ◌-◌, ◌*�
 use Rattle.std.specs.Prelude.{◌==◌, nat_le, slice_get}
 use Rattle.std.specs.List.{AllByRecursion}
 use Rattle.std.proofs.Math.Seq.{take-suc}
-use Rattle.std.proofs.lemmas.Bool.{cases_Bool, cond-true, cond-false, eqb-true, eq-eqb}
+use Rattle.std.proofs.lemmas.Bool.{cases_Bool, cond-true, cond-false, eqb-true, eq-eqb, true≢false}
 use Rattle.std.proofs.lemmas.List.{length-map}
 use Rattle.jnode.specs.Writing.{filled}
 use Rattle.jnode.specs.declared.order.Endian.{Endian}
@@ -13,15 +13,15 @@ use Rattle.jlog.specs.Places.{place_after, end_after}
 use Rattle.jlog.proofs.IntactLemmas.{first_out}
 use Rattle.jrow.proofs.WithRowLemmas.{not_same}
 use Rattle.jrests.specs.Openings.{AreUpwards}
-use Rattle.jrests.specs.Shares.{shares, output_to}
+use Rattle.jrests.specs.Shares.{taken_from, shares, output_to}
 use Rattle.jrests.specs.declared.opening.Opening.{Opening}
 use Rattle.jopenings.specs.After.{takes, moved_opening, row_after, row_after_all}
 use Rattle.jopenings.specs.Stretches.{AreStretches, len_in, longer, longer_by, stretches_of}
 use Rattle.jopenings.specs.declared.placing.Stretch.{Stretch}
 use Rattle.jopenings.proofs.AfterLemmas.{shares_missed, shares_taken}
-use Rattle.jopenings.proofs.LongerLemmas.{bytes_go_on, left_upwards}
+use Rattle.jopenings.proofs.LongerLemmas.{stretches_go_on}
 use Rattle.jupdate.specs.Rows.{IsOpen, begins_of, ended, ends_of, gone_on, opened, reached, unwritten}
-use Rattle.jupdate.proofs.RowLemmas.{gone, reached_here, reached_next}
+use Rattle.jupdate.proofs.RowLemmas.{after_missed, after_taken, gone, reached_here, reached_next}
 
 -- ---- where an opening goes on
 
@@ -219,12 +219,77 @@ none_longer e size row (s ∷ ss) =
     let none : s.len + len_in (added e size row []) s.block ≡ s.len = omega (arith, no_bytes_in e size s.block row) in
     ap₂ (λ (k : ℕ) (l : List Stretch). (let t : Stretch = record { block = s.block; place = s.place; len = k } in t) ∷ l) none (none_longer e size row ss)
 
+-- the blocks of a row
+has_block : List Opening → ℕ → Bool
+has_block [] b = false
+has_block (o ∷ row) b = cond (o.block == b) true (has_block row b)
+
+-- to the others nothing goes out, and no opening of them is left
+none_beside : (e : Endian) (size b : ℕ) (row : List Opening) (forms : List (List ℕ)) → has_block row b ≡ false → len_in (added e size row forms) b ≡ 0
+unfolding has_block
+none_beside e size b [] forms none = refl
+none_beside e size b (o ∷ row) forms none = elim (cases_Bool (o.block == b)) [
+  | inl same ↦ absurd (true≢false (sym (cond-true (o.block == b) true (has_block row b) same) ∙ none))
+  | inr other ↦
+      let n : ℕ = taken_from size o.place forms in
+      cond-false (o.block == b) (length (output_to e size (o, take n forms))) (len_in (added e size row (drop n forms)) b) other
+      ∙ none_beside e size b row (drop n forms) (sym (cond-false (o.block == b) true (has_block row b) other) ∙ none)
+]
+
+none_after : (size b : ℕ) (row : List Opening) (x : List ℕ) → has_block row b ≡ false → has_block (row_after size row x) b ≡ false
+unfolding has_block
+none_after size b [] x none = refl
+none_after size b (o ∷ row) x none = elim (cases_Bool (o.block == b)) [
+  | inl same ↦ absurd (true≢false (sym (cond-true (o.block == b) true (has_block row b) same) ∙ none))
+  | inr other ↦
+      let later : has_block row b ≡ false = sym (cond-false (o.block == b) true (has_block row b) other) ∙ none in
+      elim (cases_Bool (takes size o x)) [
+        | inl inside ↦ ap (λ (r : List Opening). has_block r b) (after_taken size o row x inside) ∙ none
+        | inr outside ↦ ap (λ (r : List Opening). has_block r b) (after_missed size o row x outside) ∙ none_after size b row x later
+      ]
+]
+
+none_after_all : (size b : ℕ) (row : List Opening) (xs : List (List ℕ)) → has_block row b ≡ false → has_block (row_after_all size row xs) b ≡ false
+none_after_all size b row [] none = none
+none_after_all size b row (x ∷ xs) none = none_after_all size b (row_after size row x) xs (none_after size b row x none)
+
+-- a stretch of the row is longer by what goes out to its block
+len_longer : (e : Endian) (size b : ℕ) (row : List Opening) (forms : List (List ℕ)) (more : List Stretch) → has_block row b ≡ true → len_in (longer more (added e size row forms)) b ≡ len_in (added e size row forms) b + len_in more b
+unfolding has_block
+len_longer e size b [] forms more some = absurd (true≢false (sym some))
+len_longer e size b (o ∷ row) forms more some = elim (cases_Bool (o.block == b)) [
+  | inl same ↦
+      let n : ℕ = taken_from size o.place forms in
+      let l : ℕ = length (output_to e size (o, take n forms)) in
+      let rest : ℕ = len_in (added e size row (drop n forms)) b in
+      let here = cond-true (o.block == b) (l + len_in more o.block) (len_in (longer more (added e size row (drop n forms))) b) same in
+      here ∙ (ap (λ (c : ℕ). l + len_in more c) (eqb-true o.block b same) ∙ ap (λ (k : ℕ). k + len_in more b) (sym (cond-true (o.block == b) l rest same)))
+  | inr other ↦
+      let n : ℕ = taken_from size o.place forms in
+      let l : ℕ = length (output_to e size (o, take n forms)) in
+      let rest : ℕ = len_in (added e size row (drop n forms)) b in
+      cond-false (o.block == b) (l + len_in more o.block) (len_in (longer more (added e size row (drop n forms))) b) other
+      ∙ (len_longer e size b row (drop n forms) more (sym (cond-false (o.block == b) true (has_block row b) other) ∙ some)
+      ∙ ap (λ (k : ℕ). k + len_in more b) (sym (cond-false (o.block == b) l rest other)))
+]
+
+bytes_go_on : (e : Endian) (size blocks b : ℕ) (row : List Opening) (forms more : List (List ℕ)) → AreUpwards 0 blocks row
+    → len_in (added e size row (forms ++ more)) b ≡ len_in (added e size row forms) b + len_in (added e size (row_after_all size row forms) more) b
+bytes_go_on e size blocks b row forms more up = elim (cases_Bool (has_block row b)) [
+  | inl some ↦
+      ap (λ (ss : List Stretch). len_in ss b) (stretches_go_on e size blocks row forms more up)
+      ∙ len_longer e size b row forms (added e size (row_after_all size row forms) more) some
+  | inr none ↦
+      let left : List Opening = row_after_all size row forms in
+      omega (arith, none_beside e size b row (forms ++ more) none, none_beside e size b row forms none, none_beside e size b left more (none_after_all size b row forms none))
+]
+
 pub longer_on : (e : Endian) (size blocks : ℕ) (row : List Opening) (forms more : List (List ℕ)) (ss : List Stretch) → AreUpwards 0 blocks row
     → longer (added e size row (forms ++ more)) ss ≡ longer (added e size (row_after_all size row forms) more) (longer (added e size row forms) ss)
 longer_on e size blocks row forms more [] up = refl
 longer_on e size blocks row forms more (s ∷ ss) up =
     let both : s.len + len_in (added e size row (forms ++ more)) s.block ≡ s.len + len_in (added e size row forms) s.block + len_in (added e size (row_after_all size row forms) more) s.block =
-    omega (arith, bytes_go_on e size 0 blocks s.block row forms more up) in
+    omega (arith, bytes_go_on e size blocks s.block row forms more up) in
     ap₂ (λ (k : ℕ) (l : List Stretch). (let t : Stretch = record { block = s.block; place = s.place; len = k } in t) ∷ l) both (longer_on e size blocks row forms more ss up)
 
 -- more of them after the first ones
