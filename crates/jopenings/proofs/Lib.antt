@@ -4,5 +4,6 @@ pub mod ExistLemmas
 pub mod FrontLemmas
 pub mod FrontWriteLemmas
 pub mod LongerLemmas
+pub mod PlacedLemmas
 pub mod PlacingLemmas
 pub mod StretchLemmas

@@ -5,3 +5,4 @@ pub mod Done
 pub mod Exist
 pub mod Stretches
 pub mod StretchLaws
+pub mod Placed

@@ -5,6 +5,7 @@ ghost use Rattle.jopenings.specs.AfterLaws.{AllRowsGoOn, BytesAreCounted, Earlie
 ghost use Rattle.jopenings.specs.Done.{OpeningsBegin, DoneSurvivesInOpenings, DoneGoesOnInOpenings};
 ghost use Rattle.jopenings.specs.Exist.{SomeAreLeftInOpenings};
 ghost use Rattle.jopenings.specs.FrontLaws.{FrontsHoldSame, FrontsPlaceSame};
+ghost use Rattle.jopenings.specs.Placed.{FormsSurvivePlaced};
 ghost use Rattle.jopenings.specs.StretchLaws.{FlashWithSharesIsLeft, FlashWithIsWhole, SameIsLeftOfShares, ImageWithSharesIsLeft, SharesAreStretches, StretchesBegin, StretchesGoOn, FrontsWriteSame, FrontsStopSame};
 
 /// More nodes go on in what is left of a row, as if it had begun there.
@@ -63,4 +64,10 @@ pub fn shares_are_stretches()
 pub fn fronts_write_same()
     ensures whole { FrontsWriteSame }
     ensures stop { FrontsStopSame }
+{}
+
+/// So what is put of an image, with what went out to its openings up to some byte, mounts through
+/// as the file system after the steps whose forms stand whole.
+pub fn forms_survive_placed()
+    ensures { FormsSurvivePlaced }
 {}

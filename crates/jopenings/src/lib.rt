@@ -15,7 +15,8 @@
 //! `specs/Done.antt` says what a log has done in a row, operation by operation, and that it
 //! survives; `specs/Exist.antt` that a stop always leaves some image; and `specs/FrontLaws.antt`
 //! that a row of blank blocks is a case of it. `specs/Stretches.antt` says what is put, and
-//! `specs/StretchLaws.antt` that it is what a stop leaves.
+//! `specs/StretchLaws.antt` that it is what a stop leaves, and `specs/Placed.antt` what survives
+//! there.
 #![tactic(auto)]
 
 pub mod laws;

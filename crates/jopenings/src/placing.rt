@@ -91,7 +91,8 @@ struct Step<'a> {
     later: Written<'a>,
 }
 
-/// A block of the flash, of which no stretch is left for those in front of it.
+/// A block of the flash, and what is left for those behind it. The stretches of those in front of
+/// it are passed.
 fn step_to<'a>(
     flash: &StretchesOnFlash<'_>,
     image: &'a [u8],
