@@ -22,13 +22,13 @@ use Rattle.jpacked.proofs.PutLemmas.{Spot}
 use Rattle.jrests.specs.Shares.{share_places, output_to}
 use Rattle.jrests.specs.declared.opening.Opening.{Opening}
 use Rattle.jopenings.specs.After.{row_after}
-use Rattle.jupdate.specs.Writing.{IsFormPart, PutsForm, share_places_out}
+use Rattle.jupdate.specs.Writing.{IsFormPart, PutsOneForm, share_places_out}
 use Rattle.jupdate.proofs.OutLemmas.{on_flash, within_by}
 use Rattle.jupdate.proofs.Parts.{PutBy, PartBy}
 use Rattle.jupdate.proofs.RowLemmas.{GoesTo}
 
 abbrev pub FormPart : Endian → ℕ → Opening → List ℕ → ℕ → Option (List ℕ) → Option (List ℕ) → List Place → List Place → Type 0
-FormPart e size o form t old new before after = IsFormPart e size o form t before after old new
+FormPart e size o form t old new before after = IsFormPart e size (o, form ∷ []) t before after old new
 
 not_whole : (e : Endian) (size : ℕ) (o : Opening) (form node : List ℕ) (at pad t : ℕ) (p : List Place) → Spot e size o.place form node at pad → o.place + t < at + length node
     → p ≡ p ++ map shown_place (share_places_out size (o, form ∷ []) t)
@@ -122,13 +122,13 @@ form_put e size o form node at pad a b d f p spot first second third =
 -- ---- what putting it answers
 
 pub form_broke : (e : Endian) (size : ℕ) (o : Opening) (form : List ℕ) (a b : Option (List ℕ)) (f n : ℕ) (p q : List Place) (r : Result (Unit {0}) PutFault) → is_err r ≡ true
-    → ((t : ℕ) × FormPart e size o form t a b p q) → n ≡ next_count f → PutsForm e size o form p q (change_by a b f n) r
+    → ((t : ℕ) × FormPart e size o form t a b p q) → n ≡ next_count f → PutsOneForm e size o form p q (change_by a b f n) r
 form_broke e size o form a b f n p q (Ok u) bad part count = cc
 form_broke e size o form a b f n p q (Err g) bad part count = (part, count)
 
 pub form_end : (e : Endian) (size : ℕ) (o : Opening) (form node : List ℕ) (at pad : ℕ) (a b c d : Option (List ℕ)) (f k n : ℕ) (p q : List Place) (r : Result (Unit {0}) PutFault) → Spot e size o.place form node at pad
     → Appends a b (gap e size o.place at) → Appends b c node → q ≡ p ++ shown_place (o.block * size + at, length node) ∷ [] → k ≡ f → Puts c d k n (erased pad) r
-    → PutsForm e size o form p q (change_by a d f n) r
+    → PutsOneForm e size o form p q (change_by a d f n) r
 form_end e size o form node at pad a b c d f k n p q (Ok u) spot first second shown count (bytes, still) =
     let all = form_put e size o form node at pad a b c d p spot first second bytes in
     (all.0, shown ∙ all.1, still ∙ count)
@@ -137,12 +137,12 @@ form_end e size o form node at pad a b c d f k n p q (Err g) spot first second s
     ((began.0, subst (FormPart e size o form began.0 a d p) (sym shown) began.1), broke ∙ ap next_count count)
 
 pub form_failed : (e : Endian) (size : ℕ) (o : Opening) (form : List ℕ) (a b : Option (List ℕ)) (f n : ℕ) (p q : List Place) (r : Result (Unit {0}) PutFault) → is_err r ≡ true
-    → PutsForm e size o form p q (change_by a b f n) r → ((t : ℕ) × FormPart e size o form t a b p q) × (n ≡ next_count f)
+    → PutsOneForm e size o form p q (change_by a b f n) r → ((t : ℕ) × FormPart e size o form t a b p q) × (n ≡ next_count f)
 form_failed e size o form a b f n p q (Ok u) bad did = cc
 form_failed e size o form a b f n p q (Err g) bad did = did
 
 pub form_whole : (e : Endian) (size : ℕ) (o : Opening) (form : List ℕ) (a b : Option (List ℕ)) (f n : ℕ) (p q : List Place) (r : Result (Unit {0}) PutFault) → is_err r ≡ false
-    → PutsForm e size o form p q (change_by a b f n) r → Appends a b (output_to e size (o, form ∷ [])) × (q ≡ p ++ map shown_place (share_places size (o, form ∷ []))) × (n ≡ f)
+    → PutsOneForm e size o form p q (change_by a b f n) r → Appends a b (output_to e size (o, form ∷ [])) × (q ≡ p ++ map shown_place (share_places size (o, form ∷ []))) × (n ≡ f)
 form_whole e size o form a b f n p q (Ok u) good did = did
 form_whole e size o form a b f n p q (Err g) good did = cc
 

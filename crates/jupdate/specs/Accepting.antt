@@ -18,8 +18,8 @@ use Rattle.jupdate.specs.Writing.{LogIn}
 use Rattle.jupdate.specs.declared.accepting.Room.{Room}
 
 -- the flash, as such a session sees it
-abbrev pub flash_of_room : Endian → Bool → Room → FlashAs
-flash_of_room e packs room = flash_as packs room.held (record {
+abbrev pub flash_in_room : Endian → Bool → Room → FlashAs
+flash_in_room e packs room = flash_as packs room.held (record {
   order = e;
   size = room.flash.size;
   blocks = room.flash.count;

@@ -28,6 +28,10 @@ begins_of stretches = map opened stretches
 abbrev pub ends_of : List Stretch → List Opening
 ends_of stretches = map ended stretches
 
+-- what is left of a row where so many openings were passed
+abbrev pub left_in : ℕ → List Stretch → List Opening
+left_in passed stretches = drop passed (ends_of stretches)
+
 -- an opening to which nothing went out
 abbrev pub unwritten : Opening → Stretch
 unwritten o = record { block = o.block; place = o.place; len = 0 }
@@ -37,7 +41,7 @@ abbrev pub gone_on : List Opening → ℕ → List Opening
 gone_on [] place = []
 gone_on (o ∷ row) place = record { block = o.block; place = place } ∷ row
 
--- what is left of a row where so many openings were passed, and the next one goes on at a place
+-- the same of one whose next opening goes on at a place
 abbrev pub left_at : List Opening → Cursor → List Opening
 left_at row cursor = gone_on (drop cursor.passed row) cursor.place
 

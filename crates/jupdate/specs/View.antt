@@ -1,5 +1,5 @@
 -- What contracts see of a session in a row of openings.
-use Rattle.std.specs.Prelude.{◌≡◌, ℕ, ◌+◌, Bool, IsFalse, List, [], ◌∷◌, ◌++◌, map, take, drop, length, IfOk, IsOk, Option, is_some, Result, Ok, Err}
+use Rattle.std.specs.Prelude.{◌≡◌, ℕ, ◌+◌, Bool, IsFalse, List, [], ◌∷◌, ◌++◌, map, take, length, IfOk, IsOk, Option, is_some, Result, Ok, Err}
 use Rattle.byteorder.specs.declared.ByteOrder.{Ghosts as OfByteOrder}
 use Rattle.flashbase.specs.Ranges.{AreBytes}
 use Rattle.flashbase.specs.Sinks.{SinkChange, change_of}
@@ -29,7 +29,7 @@ use Rattle.jopenings.specs.Done.{GoesOnInOpenings, SurvivesAfterInOpenings}
 use Rattle.jopenings.specs.Stretches.{longer, stretches_of}
 use Rattle.jopenings.specs.declared.placing.Stretch.{Stretch}
 use Rattle.jpacked.specs.View.{stop_by}
-use Rattle.jupdate.specs.Rows.{begins_of, ends_of, unwritten}
+use Rattle.jupdate.specs.Rows.{begins_of, left_in, unwritten}
 use Rattle.jupdate.specs.SessionIn.{StateIn, AppliesIn, RunsIn}
 use Rattle.jupdate.specs.Writing.{log_in}
 use Rattle.jupdate.specs.declared.session.OpeningSession.{OpeningSession}
@@ -48,7 +48,7 @@ HoldsAfterIn on from o to sink (Err fault.Broken) did held = held ≡ on.held
 HoldsAfterIn on from o to sink (Err fault.ReadOnly) did held = ⊥
 HoldsAfterIn on from o to sink (Err fault.Geometry) did held = ⊥
 
--- What it leaves of what went out to each opening: what did before, and what goes out for its forms.
+-- What it leaves of what went out to each opening: what did before, and what does for its forms.
 abbrev pub GrowsIn : {T : Type 0} (on : FlashAs) (from : StateIn) (o : Op) (to : StateIn)
     (sink : SinkChange) (result : Result T SessionFault) → AppliesIn on from o to sink result
     → List Stretch → List Stretch → Type 0
@@ -86,7 +86,7 @@ module _ {E : Type 0} {S : Type 0} {order : OfOrder E} {numbers : OfByteOrder E}
 
   -- what is left of them: where writing goes on
   abbrev pub left_of : OpeningSession E S order numbers sinks → List Opening
-  left_of session = drop session.log.passed (ends_of (stretches_in session))
+  left_of session = left_in session.log.passed (stretches_in session)
 
   -- what operations are planned on
   abbrev pub index_of_log : OpeningSession E S order numbers sinks → Indexed

@@ -47,22 +47,22 @@ places_out e size (share ∷ shares) t =
 
 -- The sink took exactly the first t bytes of what goes out for a form to an opening, and its place
 -- is told if its bytes all went out.
-pub record IsFormPart (e : Endian) (size : ℕ) (o : Opening) (form : List ℕ) (t : ℕ)
-    (before after : List Place) (old new : Option (List ℕ)) : Type 0 where
-  pub within : t ≤ length (output_to e size (o, form ∷ []))
-  pub bytes : Appends old new (take t (output_to e size (o, form ∷ [])))
-  pub places : after ≡ before ++ map shown_place (share_places_out size (o, form ∷ []) t)
+pub record IsFormPart (e : Endian) (size : ℕ) (share : Share) (t : ℕ) (before after : List Place)
+    (old new : Option (List ℕ)) : Type 0 where
+  pub within : t ≤ length (output_to e size share)
+  pub bytes : Appends old new (take t (output_to e size share))
+  pub places : after ≡ before ++ map shown_place (share_places_out size share t)
 
 -- Putting a form into the block of an opening: all that goes out for it; or, where the sink failed,
 -- a beginning.
-abbrev pub PutsForm : Endian → ℕ → Opening → List ℕ → List Place → List Place → SinkChange
+abbrev pub PutsOneForm : Endian → ℕ → Opening → List ℕ → List Place → List Place → SinkChange
     → Result (Unit {0}) PutFault → Type 0
-PutsForm e size o form before after sink (Ok _) =
+PutsOneForm e size o form before after sink (Ok _) =
     Appends sink.old sink.new (output_to e size (o, form ∷ []))
     × (after ≡ before ++ map shown_place (share_places size (o, form ∷ [])))
     × (sink.now ≡ sink.before)
-PutsForm e size o form before after sink (Err _) =
-    ((t : ℕ) × IsFormPart e size o form t before after sink.old sink.new)
+PutsOneForm e size o form before after sink (Err _) =
+    ((t : ℕ) × IsFormPart e size (o, form ∷ []) t before after sink.old sink.new)
     × (sink.now ≡ next_count sink.before)
 
 -- ---- the forms of steps

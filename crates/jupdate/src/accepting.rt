@@ -7,7 +7,7 @@ ghost use Rattle.jsteps.specs.Planning.{most_steps};
 ghost use Rattle.jlog.specs.Places.{is_writable_flash};
 ghost use Rattle.jlog.specs.Running.{CanWriteIn};
 ghost use Rattle.jview.specs.Through.{greatest_contents};
-ghost use Rattle.jupdate.specs.Accepting.{flash_of_room, AreFittingIn, ChoosesNoneIn, IsChosenIn, DeclinesIn};
+ghost use Rattle.jupdate.specs.Accepting.{flash_in_room, AreFittingIn, ChoosesNoneIn, IsChosenIn, DeclinesIn};
 ghost use Rattle.jopenings.specs.Stretches.{AreStretches};
 ghost use Rattle.jupdate.specs.Rows.{ends_of, left_at};
 ghost use Rattle.jupdate.specs.SessionIn.{IsGoingIn};
@@ -57,12 +57,12 @@ fn choose_fitting<E: Order>(
     requires few { length steps.now ≤ most_steps }
     requires held { room.now.held ≤ greatest_contents }
     ensures fitting { IfOk result (λ chosen. AreFittingIn
-        (flash_of_room E.order (is_some packing.old) room.now)
+        (flash_in_room E.order (is_some packing.old) room.now)
         (log_in (left_at (ends_of stretches.now) room.now.cursor) index.now []) steps.now
         chosen.streams.items chosen.held) }
     ensures packs { is_some packing.new ≡ is_some packing.old }
     ensures none { IfErr result (ChoosesNoneIn
-        (flash_of_room E.order (is_some packing.old) room.now)
+        (flash_in_room E.order (is_some packing.old) room.now)
         (log_in (left_at (ends_of stretches.now) room.now.cursor) index.now []) steps.now) }
 {
     let chosen = choose_by::<E>(alloc, index, steps, room.held, packing)?;
@@ -100,12 +100,12 @@ pub(crate) fn accept<'o, E: Order>(
     requires held { room.now.held ≤ greatest_contents }
     requires known { OpFits op.now }
     ensures accepted { IfOk result (λ taken. IsChosenIn
-        (flash_of_room E.order (is_some packing.old) room.now)
+        (flash_in_room E.order (is_some packing.old) room.now)
         (log_in (left_at (ends_of stretches.now) room.now.cursor) index.now []) op.now
         taken.steps.items taken.chosen.streams.items taken.chosen.held) }
     ensures packs { is_some packing.new ≡ is_some packing.old }
     ensures declined { IfErr result (DeclinesIn
-        (flash_of_room E.order (is_some packing.old) room.now)
+        (flash_in_room E.order (is_some packing.old) room.now)
         (log_in (left_at (ends_of stretches.now) room.now.cursor) index.now []) op.now) }
 {
     let steps = plan(alloc, index, room.page, op)?;

@@ -7,8 +7,8 @@
 //! operation is accepted as a whole before a byte of it is put, by the lengths of the forms that go
 //! out; and a stop at any byte loses no step whose form is whole.
 //!
-//! The sink gets the bytes of one opening after the other. `Place` tells the address on the flash
-//! of each node.
+//! The sink gets the bytes of one opening after the other: `stretches` tells how many went out to
+//! each, and `Place` the address on the flash of each node.
 //!
 //! `specs/Rows.antt` says where the next node goes in a row, `specs/Writing.antt` what is put for
 //! nodes, `specs/SessionIn.antt` what an operation and a run do, and `specs/View.antt` what a

@@ -1,12 +1,12 @@
 //! Where nodes go in a row of openings.
 
-ghost use Rattle.std.specs.Prelude.{◌≡◌, ◌≤◌, ◌+◌, drop, length, IsTrue};
+ghost use Rattle.std.specs.Prelude.{◌≡◌, ◌≤◌, ◌+◌, length, IsTrue};
 ghost use Rattle.std.specs.List.{AllByRecursion};
 ghost use Rattle.flashbase.specs.Bytes.{pad4_of};
 ghost use Rattle.jnode.specs.Writing.{totlen_most};
 ghost use Rattle.jlog.specs.Places.{is_writable_flash};
 ghost use Rattle.jopenings.specs.Stretches.{AreStretches};
-ghost use Rattle.jupdate.specs.Rows.{IsOpen, FindsSpot, ends_of, free_in, left_at};
+ghost use Rattle.jupdate.specs.Rows.{IsOpen, FindsSpot, ends_of, free_in, left_at, left_in};
 
 use flashbase::pad4;
 use jlog::{Blocks, free, place_of};
@@ -36,7 +36,7 @@ pub(crate) struct Spot {
 pub(crate) fn begin_of(flash: Blocks, stretches: &[Stretch], passed: usize) -> Cursor
     requires flash { IsTrue (is_writable_flash flash.size flash.count) }
     requires stretches { AreStretches flash.size 0 flash.count stretches.now }
-    ensures left { left_at (ends_of stretches.now) result ≡ drop passed (ends_of stretches.now) }
+    ensures left { left_at (ends_of stretches.now) result ≡ left_in passed stretches.now }
     ensures passed { result.passed ≡ passed }
 {
     match stretches.get(passed) {

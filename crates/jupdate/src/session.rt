@@ -1,6 +1,6 @@
 //! A log that is written into openings, operation by operation.
 
-ghost use Rattle.std.specs.Prelude.{◌≡◌, ◌≢◌, ◌<◌, ◌≤◌, ◌+◌, ℕ, drop, map, slice_index, is_some, IsTrue, IsFalse, Err, IfOk, IfErr, IsOk};
+ghost use Rattle.std.specs.Prelude.{◌≡◌, ◌≢◌, ◌<◌, ◌≤◌, ◌+◌, ℕ, map, slice_index, is_some, IsTrue, IsFalse, Err, IfOk, IfErr, IsOk};
 ghost use Rattle.std.specs.List.{AllByRecursion};
 ghost use Rattle.jsteps.specs.Nodes.{indexed};
 ghost use Rattle.jsteps.specs.Laws.{IsConsistent};
@@ -13,7 +13,7 @@ ghost use Rattle.jlog.specs.declared.fault.SessionFault.TheVariants.{OutOfMemory
 ghost use Rattle.jpacked.specs.Forms.{is_packed};
 ghost use Rattle.jopenings.specs.Stretches.{AreStretches};
 ghost use Rattle.jupdate.specs.OneProof.{one_going, one_row};
-ghost use Rattle.jupdate.specs.Rows.{begins_of, ends_of, unwritten};
+ghost use Rattle.jupdate.specs.Rows.{begins_of, left_in, unwritten};
 ghost use Rattle.jupdate.specs.SessionIn.{IsGoingIn};
 
 use crate::accepting::{Room, Taken, accept};
@@ -50,8 +50,10 @@ pub struct OpeningSession<E: Order, S: Sink> {
     ghost flash: { IsTrue (is_writable_flash block blocks) },
     ghost holds: { page_size page + 80 ≤ block },
     ghost going: { IsFalse broken
-        → IsGoingIn block blocks (drop log.passed (ends_of log.stretches.items)) log.index } by { one_going broken block blocks (drop log.passed (ends_of log.stretches.items)) log.index },
-    ghost stretches: { AreStretches block 0 blocks log.stretches.items } by { one_row block 0 blocks log.stretches.items },
+        → IsGoingIn block blocks (left_in log.passed log.stretches.items) log.index }
+        by { one_going broken block blocks (left_in log.passed log.stretches.items) log.index },
+    ghost stretches: { AreStretches block 0 blocks log.stretches.items }
+        by { one_row block 0 blocks log.stretches.items },
     ghost few: { held ≤ greatest_contents },
 }
 
@@ -172,9 +174,9 @@ impl<E: Order, S: Sink> OpeningSession<E, S> {
         self.held
     }
 
-    /// What went out to each opening of the row that was given, in its order: of the bytes that the
-    /// sink got, the first ones lie in the first stretch, as many as it has, and the others in those
-    /// after it. It tells so while the session is not broken; bytes of an operation that was written
+    /// What went out to each opening of the row that was given, in its order. Of the bytes that the
+    /// sink got, the first ones lie in the first stretch, as many as it has, and the others in the
+    /// next ones. It tells so while the session is not broken: bytes of an operation that was put
     /// in part lie behind them.
     pub fn stretches(&self) -> &[Stretch]
         ensures same { result.now ≡ stretches_in self.now }

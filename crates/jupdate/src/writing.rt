@@ -1,6 +1,6 @@
 //! Putting the forms of steps into a row of openings.
 
-ghost use Rattle.std.specs.Prelude.{◌≡◌, ◌≤◌, ◌<◌, ◌+◌, IsTrue, [], ◌∷◌, drop, vec_len, vec_capacity, length};
+ghost use Rattle.std.specs.Prelude.{◌≡◌, ◌≤◌, ◌<◌, ◌+◌, IsTrue, [], ◌∷◌, vec_len, vec_capacity, length};
 ghost use Rattle.std.specs.List.{AllByRecursion};
 ghost use Rattle.flashbase.specs.Sinks.{change_of};
 ghost use Rattle.jlog.specs.Laws.{FitsBlock};
@@ -10,8 +10,8 @@ ghost use Rattle.jsteps.specs.Nodes.{node_of, nodes_of};
 ghost use Rattle.jrests.specs.Shares.{fit_in};
 ghost use Rattle.jpacked.specs.Forms.{AreMadeOf, IsMadeOf, form_with, step_forms};
 ghost use Rattle.jopenings.specs.Stretches.{AreStretches};
-ghost use Rattle.jupdate.specs.Rows.{IsOpen, begins_of, ends_of};
-ghost use Rattle.jupdate.specs.Writing.{log_in, GrowsBy, PutsForm, PutsIn};
+ghost use Rattle.jupdate.specs.Rows.{IsOpen, begins_of, left_in};
+ghost use Rattle.jupdate.specs.Writing.{log_in, GrowsBy, PutsOneForm, PutsIn};
 
 use crate::row::{Spot, begin_of, behind, find};
 use flashbase::{PutFault, Sink, pad4, put_all};
@@ -49,7 +49,7 @@ fn put_form<E: Order, S: Sink>(
     requires at { spot.at ≡ place_after flash.size spot.cursor.place (length form.now) }
     requires inside { spot.at + length form.now ≤ flash.size }
     requires room { vec_len places.old + 1 ≤ vec_capacity places.old }
-    ensures puts { PutsForm E.order flash.size
+    ensures puts { PutsOneForm E.order flash.size
         (record { block = spot.block; place = spot.cursor.place }) form.now
         places.old.items places.new.items (change_of S.Sink sink.old sink.new) result }
     ensures len { vec_len places.new ≤ vec_len places.old + 1 }
@@ -73,21 +73,21 @@ fn put_step<E: Order, S: Sink>(
     requires flash { IsTrue (is_writable_flash flash.size flash.count) }
     requires stretches { AreStretches flash.size 0 flash.count log.old.stretches.items }
     requires openings { AllByRecursion (IsOpen flash.size flash.count)
-        (drop log.old.passed (ends_of log.old.stretches.items)) }
+        (left_in log.old.passed log.old.stretches.items) }
     requires step { CanWriteIn flash.size E.order log.old.index (step.now ∷ []) }
     requires made { IsMadeOf E.order (node_of log.old.index step.now) stream.now }
-    requires space { IsTrue (fit_in flash.size (drop log.old.passed (ends_of log.old.stretches.items))
+    requires space { IsTrue (fit_in flash.size (left_in log.old.passed log.old.stretches.items)
         (form_with E.order (node_of log.old.index step.now) stream.now ∷ [])) }
     requires room { vec_len places.old + 1 ≤ vec_capacity places.old }
     ensures puts { PutsIn E.order flash.size
-        (log_in (drop log.old.passed (ends_of log.old.stretches.items)) log.old.index places.old.items)
+        (log_in (left_in log.old.passed log.old.stretches.items) log.old.index places.old.items)
         (step.now ∷ []) (form_with E.order (node_of log.old.index step.now) stream.now ∷ [])
-        (log_in (drop log.new.passed (ends_of log.new.stretches.items)) log.new.index places.new.items)
+        (log_in (left_in log.new.passed log.new.stretches.items) log.new.index places.new.items)
         (change_of S.Sink log.old.sink log.new.sink) result }
     ensures within { AreStretches flash.size 0 flash.count log.new.stretches.items }
     ensures begins { begins_of log.new.stretches.items ≡ begins_of log.old.stretches.items }
     ensures stretches { GrowsBy E.order flash.size
-        (drop log.old.passed (ends_of log.old.stretches.items))
+        (left_in log.old.passed log.old.stretches.items)
         (form_with E.order (node_of log.old.index step.now) stream.now ∷ [])
         log.old.stretches.items log.new.stretches.items result }
     ensures len { vec_len places.new ≤ vec_len places.old + 1 }
@@ -123,21 +123,21 @@ pub(crate) fn put_steps<E: Order, S: Sink>(
     requires flash { IsTrue (is_writable_flash flash.size flash.count) }
     requires stretches { AreStretches flash.size 0 flash.count log.old.stretches.items }
     requires openings { AllByRecursion (IsOpen flash.size flash.count)
-        (drop log.old.passed (ends_of log.old.stretches.items)) }
+        (left_in log.old.passed log.old.stretches.items) }
     requires steps { CanWriteIn flash.size E.order log.old.index steps.now }
     requires made { AreMadeOf E.order (nodes_of log.old.index steps.now) streams.now }
-    requires space { IsTrue (fit_in flash.size (drop log.old.passed (ends_of log.old.stretches.items))
+    requires space { IsTrue (fit_in flash.size (left_in log.old.passed log.old.stretches.items)
         (step_forms E.order log.old.index steps.now streams.now)) }
     requires room { vec_len places.old + length steps.now ≤ vec_capacity places.old }
     ensures puts { PutsIn E.order flash.size
-        (log_in (drop log.old.passed (ends_of log.old.stretches.items)) log.old.index places.old.items)
+        (log_in (left_in log.old.passed log.old.stretches.items) log.old.index places.old.items)
         steps.now (step_forms E.order log.old.index steps.now streams.now)
-        (log_in (drop log.new.passed (ends_of log.new.stretches.items)) log.new.index places.new.items)
+        (log_in (left_in log.new.passed log.new.stretches.items) log.new.index places.new.items)
         (change_of S.Sink log.old.sink log.new.sink) result }
     ensures within { AreStretches flash.size 0 flash.count log.new.stretches.items }
     ensures begins { begins_of log.new.stretches.items ≡ begins_of log.old.stretches.items }
     ensures stretches { GrowsBy E.order flash.size
-        (drop log.old.passed (ends_of log.old.stretches.items))
+        (left_in log.old.passed log.old.stretches.items)
         (step_forms E.order log.old.index steps.now streams.now)
         log.old.stretches.items log.new.stretches.items result }
 {
