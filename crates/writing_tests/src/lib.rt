@@ -1,10 +1,7 @@
-//! Tests of the crates that write a log, with and without compression, a
-//! module for each.
+//! Tests of the crate that writes a log.
 #![tactic(auto)]
 
 #[cfg(test)]
 mod checks;
 #[cfg(test)]
 mod log;
-#[cfg(test)]
-mod packed;

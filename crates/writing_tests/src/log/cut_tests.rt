@@ -2,8 +2,7 @@
 //! nodes are whole.
 
 use crate::checks::expect_at;
-use crate::log::plain::{Change, Plain};
-use crate::log::sessions::{BY, Outcome, run_in_turn, run_paged};
+use crate::log::sessions::{Outcome, run_in_turn, run_paged};
 use crate::log::stopped::Log;
 use byteorder::{BigEndian, LittleEndian};
 use jlog::Flash;
@@ -14,7 +13,7 @@ use jsteps::{Op, Text};
 use std::alloc::Global;
 use std::process::Abort;
 use std::test::Fail;
-use test_operations::{By, op_of, ops_of};
+use test_operations::{BY, By, Change, Plain, op_of, ops_of};
 
 const GEOMETRY: Geometry = Geometry { block: 8192 };
 

@@ -4,7 +4,6 @@ ghost use Rattle.jnode.specs.declared.order.Endian.TheVariants.{Little};
 ghost use Rattle.jmount.specs.Mounts.{IsMountOf};
 
 use crate::checks::expect;
-use crate::log::sessions::BY;
 use byteorder::LittleEndian;
 use flashbase::pad4;
 use jlog::{Flash, Place, Session, SessionFault, Start};
@@ -12,7 +11,7 @@ use jmount::{Mounted, mount};
 use jscan::{Geometry, Page};
 use jsteps::Op;
 use std::alloc::Global;
-use test_operations::ops_of;
+use test_operations::{BY, ops_of};
 use test_support::{Matcher, Taker};
 
 const GEOMETRY: Geometry = Geometry { block: 8192 };

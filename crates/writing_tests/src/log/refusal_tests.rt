@@ -4,7 +4,6 @@ ghost use Rattle.jnode.specs.declared.order.Endian.TheVariants.{Little};
 ghost use Rattle.jmount.specs.Mounts.{IsMountOf};
 
 use crate::checks::{equal, equal_at};
-use crate::log::sessions::BY;
 use byteorder::LittleEndian;
 use jlog::{Session, SessionFault, resume_at};
 use jmount::{Mounted, mount};
@@ -12,7 +11,7 @@ use jscan::Geometry;
 use jsteps::{Op, OpFault};
 use std::alloc::Global;
 use std::test::Fail;
-use test_operations::ops_of;
+use test_operations::{BY, ops_of};
 use test_support::{FORBIDS, Taker};
 
 const GEOMETRY: Geometry = Geometry { block: 8192 };

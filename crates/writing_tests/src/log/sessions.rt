@@ -9,7 +9,6 @@ use jnode::Order;
 use jsteps::Op;
 use std::alloc::Global;
 use std::test::Fail;
-use test_operations::By;
 use test_support::Taker;
 
 /// What a run put, and what it reported.
@@ -18,22 +17,6 @@ pub struct Outcome {
     pub output: Vec<u8>,
     pub report: RunReport,
 }
-
-/// At time 0, for owners 0.
-pub const BY: By = By {
-    time: 0,
-    uid: 0,
-    gid: 0,
-};
-
-/// A file is made, written, cut, and written behind its end: its nodes go to
-/// `test_support::CUT_PLACES`.
-pub const CUT_LINES: [&str; 4] = [
-    "create /a 644",
-    "write /a 0 10",
-    "truncate /a 4",
-    "write /a 8 1",
-];
 
 /// Runs operations in a session.
 fn run_in<E: Order>(

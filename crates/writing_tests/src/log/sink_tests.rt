@@ -4,7 +4,6 @@ ghost use Rattle.jnode.specs.declared.order.Endian.TheVariants.{Little};
 ghost use Rattle.jmount.specs.Mounts.{IsMountOf};
 
 use crate::checks::{equal, expect_at};
-use crate::log::sessions::{BY, CUT_LINES};
 use byteorder::LittleEndian;
 use jlog::{RunReport, Session, SessionFault};
 use jmount::{Mounted, mount};
@@ -12,7 +11,7 @@ use jscan::Geometry;
 use jsteps::Op;
 use std::alloc::Global;
 use std::test::Fail;
-use test_operations::ops_of;
+use test_operations::{BY, CUT_LINES, ops_of};
 use test_support::{CUT_PLACES, Taker};
 
 const GEOMETRY: Geometry = Geometry { block: 8192 };

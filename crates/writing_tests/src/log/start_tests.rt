@@ -1,7 +1,6 @@
 //! Where sessions begin.
 
 use crate::checks::{equal, equal_at, expect};
-use crate::log::sessions::BY;
 use byteorder::LittleEndian;
 use jlog::{Flash, Session, SessionFault, Start};
 use jmount::mount;
@@ -9,7 +8,7 @@ use jscan::{Geometry, Page};
 use std::alloc::Global;
 use std::process::Abort;
 use std::test::Fail;
-use test_operations::op_of;
+use test_operations::{BY, op_of};
 use test_support::{FORBIDS, MADE, Taker};
 
 type Log<'a> = Session<'a, LittleEndian, Taker>;

@@ -4,7 +4,6 @@ ghost use Rattle.jnode.specs.declared.order.Endian.TheVariants.{Little};
 ghost use Rattle.jview.specs.Through.{IsMountThroughOf};
 
 use crate::checks::{equal, expect_at};
-use crate::log::sessions::{BY, CUT_LINES};
 use crate::packed::sessions::session_on;
 use byteorder::LittleEndian;
 use jlog::{Flash, RunReport, SessionFault};
@@ -15,7 +14,7 @@ use jsteps::Op;
 use jthrough::mount_through;
 use std::alloc::Global;
 use std::test::Fail;
-use test_operations::ops_of;
+use test_operations::{BY, CUT_LINES, ops_of};
 use test_support::{CUT_PLACES, Taker};
 
 const FLASH: Flash = Flash {

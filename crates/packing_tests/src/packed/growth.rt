@@ -13,19 +13,13 @@ use jscan::{Geometry, Page};
 use jsteps::Op;
 use jthrough::mount_through;
 use std::alloc::Global;
-use test_operations::{By, ops_of};
+use test_operations::{BY, ops_of};
 use test_support::{Matcher, Taker};
 
 const FLASH: Flash = Flash {
     geometry: Geometry { block: 8192 },
     blocks: 1,
     page: Page::P4096,
-};
-
-const BY: By = By {
-    time: 0,
-    uid: 0,
-    gid: 0,
 };
 
 /// Packed nodes, plain ones, and a name that an index cannot keep without memory.
@@ -37,10 +31,10 @@ const LINES: [&str; 5] = [
     "remove-if /a",
 ];
 
-type Log<'b> = PackingSession<LittleEndian, Matcher<'b>>;
+pub type Log<'b> = PackingSession<LittleEndian, Matcher<'b>>;
 
 /// What operations put onto an empty flash; none where a growth is refused.
-fn output_of(alloc: Global, ops: &[Op<'_>]) -> Option<Vec<u8>> {
+pub fn output_of(alloc: Global, ops: &[Op<'_>]) -> Option<Vec<u8>> {
     let mut contents = Vec::new(alloc);
     let mounted = mount_through::<LittleEndian>(alloc, &[], FLASH.geometry, &mut contents).ok()?;
     let sink = Taker::new(alloc);
@@ -66,11 +60,18 @@ fn end_of(places: &[Place], end: u64) -> u64 {
     }
 }
 
+/// What a session is to put, and where it begins.
+#[derive(Clone, Copy)]
+pub struct Wanted<'w> {
+    pub bytes: &'w [u8],
+    pub from: u32,
+}
+
 /// Applies operations. One whose growth is refused is applied again: it does what it did not, in
 /// the same bytes, or, where a byte of it went out, the session is broken. Whether that is so of
 /// all.
-fn are_applied(alloc: Global, mut log: Log<'_>, ops: &[Op<'_>], len: usize) -> bool {
-    let mut end = 0;
+pub fn are_applied(alloc: Global, mut log: Log<'_>, ops: &[Op<'_>], wanted: Wanted<'_>) -> bool {
+    let mut end = u64::from(wanted.from);
     for op in ops {
         let mut applied = log.apply(alloc, op);
         if matches!(applied, Err(SessionFault::OutOfMemory)) {
@@ -79,8 +80,9 @@ fn are_applied(alloc: Global, mut log: Log<'_>, ops: &[Op<'_>], len: usize) -> b
         match applied {
             Ok(applied) => end = end_of(&applied.places, end),
             Err(fault) => {
-                let left = log.finish().rest.len();
-                return fault == SessionFault::Broken && end < len.saturating_sub(left) as u64;
+                let taken = wanted.bytes.len().saturating_sub(log.finish().rest.len());
+                let whole = end.saturating_sub(u64::from(wanted.from));
+                return fault == SessionFault::Broken && whole < taken as u64;
             }
         }
     }
@@ -88,11 +90,16 @@ fn are_applied(alloc: Global, mut log: Log<'_>, ops: &[Op<'_>], len: usize) -> b
 }
 
 /// Runs operations, and applies those that a refused growth left.
-fn are_run(alloc: Global, mut log: Log<'_>, ops: &[Op<'_>], len: usize) -> bool {
+pub fn are_run(alloc: Global, mut log: Log<'_>, ops: &[Op<'_>], wanted: Wanted<'_>) -> bool {
     let report = log.run(alloc, ops);
     match report.stopped {
         None | Some(SessionFault::OutOfMemory) => {
-            are_applied(alloc, log, ops.get(report.accepted..).unwrap_or(ops), len)
+            are_applied(
+                alloc,
+                log,
+                ops.get(report.accepted..).unwrap_or(ops),
+                wanted,
+            )
         }
         Some(_) => false,
     }
@@ -126,9 +133,13 @@ fn are_put(alloc: Global, ops: &[Op<'_>], whole: &[u8], in_one_run: bool) -> boo
         rest: whole,
         failures: 0,
     };
+    let wanted = Wanted {
+        bytes: whole,
+        from: 0,
+    };
     match log_on(alloc, &mounted, sink) {
-        Ok(log) if in_one_run => are_run(alloc, log, ops, whole.len()),
-        Ok(log) => are_applied(alloc, log, ops, whole.len()),
+        Ok(log) if in_one_run => are_run(alloc, log, ops, wanted),
+        Ok(log) => are_applied(alloc, log, ops, wanted),
         Err(_) => false,
     }
 }

@@ -1,25 +1,51 @@
 //! Sessions that put each node in its own form.
 
+ghost use Rattle.jmount.specs.Mounts.{IsMountOf};
+
 use crate::checks::{equal_at, expect};
-use crate::log::sessions::run_paged;
 use crate::packed::cases::{Case, bases, changes, files};
 use crate::packed::cut_tests::{base_of, ops_in_time};
 use crate::packed::sessions::run_in;
 use byteorder::{BigEndian, LittleEndian};
+use jlog::{Flash, RunReport, Session, SessionFault};
+use jmount::{Mounted, mount};
 use jnode::Order;
 use jpacked::NodeForms;
+use jsteps::Op;
 use std::alloc::Global;
 use std::test::Fail;
+use test_support::Taker;
+
+/// What a session of `jlog` reports and puts onto an empty flash.
+fn put_on<E: Order>(
+    alloc: Global,
+    mounted: &Mounted<'_>,
+    flash: Flash,
+    ops: &[Op<'_>],
+) -> Result<(RunReport, Vec<u8>), SessionFault>
+    requires { IsMountOf E.order flash.geometry.block mounted.now }
+{
+    let Flash {
+        geometry,
+        blocks,
+        page,
+    } = flash;
+    let sink = Taker::new(alloc);
+    let mut session = Session::<E, _>::resume_paged(alloc, mounted, geometry, blocks, page, sink)?;
+    let report = session.run(alloc, ops);
+    Ok((report, session.finish().bytes))
+}
 
 /// Whether a session that does not pack puts what one of `jlog` puts, onto an empty flash.
-fn is_as_ever<E: Order>(alloc: Global, case: &Case) -> Result<bool, Fail> {
+fn is_as_ever<E: Order>(alloc: Global, case: &Case<'_>) -> Result<bool, Fail> {
     let ops = ops_in_time(alloc, case.lines)?;
-    let wanted = run_paged::<E>(alloc, &[], case.flash, &ops)?;
+    let mounted = mount::<E>(alloc, &[], case.flash.geometry)?;
+    let (report, output) = put_on::<E>(alloc, &mounted, case.flash, &ops)?;
     let found = run_in::<E>(alloc, &[], case.flash, NodeForms::Own, &ops)?;
     Ok(
-        found.report.accepted == wanted.report.accepted
-            && found.report.places.as_slice() == wanted.report.places.as_slice()
-            && found.output.as_slice() == wanted.output.as_slice(),
+        found.report.accepted == report.accepted
+            && found.report.places.as_slice() == report.places.as_slice()
+            && found.output.as_slice() == output.as_slice(),
     )
 }
 

@@ -1,11 +1,11 @@
 //! Operations onto an image, and their steps on a plain file system.
 
-use crate::log::plain::Change;
 use jlog::Flash;
 use jscan::{Geometry, Page};
+use test_operations::Change;
 
 /// Two blocks of 8,192 bytes, by pages of 4,096.
-const SMALL: Flash = Flash {
+pub const SMALL: Flash = Flash {
     geometry: Geometry { block: 8192 },
     blocks: 2,
     page: Page::P4096,
@@ -27,24 +27,24 @@ const LARGEST: Flash = Flash {
 
 /// Operations that are asked for at the times 1, 2 and so on, and their steps.
 #[derive(Clone, Copy)]
-pub struct Case {
+pub struct Case<'a> {
     pub about: &'static str,
     pub flash: Flash,
     /// Operations that were put before, by a session of their own, and their steps.
     pub base: &'static [&'static str],
     pub before: &'static [Change],
     pub lines: &'static [&'static str],
-    pub steps: &'static [Change],
+    pub steps: &'a [Change],
     /// How many bytes the output has at most. Where a node is packed they take more as they are.
     pub most: usize,
     pub is_packed: bool,
 }
 
-const FILE: u32 = 0o100644;
+pub const FILE: u32 = 0o100644;
 
-const OTHER: u32 = 0o100600;
+pub const OTHER: u32 = 0o100600;
 
-const EMPTY: Case = Case {
+pub const EMPTY: Case<'static> = Case {
     about: "",
     flash: SMALL,
     base: &[],
@@ -56,7 +56,7 @@ const EMPTY: Case = Case {
 };
 
 /// Files of one page and of several.
-pub fn files() -> &'static [Case] {
+pub fn files() -> &'static [Case<'static>] {
     &[
         Case {
             about: "a file of two pages",
@@ -105,7 +105,7 @@ pub fn files() -> &'static [Case] {
 }
 
 /// Bytes over bytes, and a file that is cut and grows.
-pub fn changes() -> &'static [Case] {
+pub fn changes() -> &'static [Case<'static>] {
     &[
         Case {
             about: "writes over writes",
@@ -153,7 +153,7 @@ pub fn changes() -> &'static [Case] {
 }
 
 /// A file that takes the place of another, by two operations and by one.
-pub fn replaced() -> &'static [Case] {
+pub fn replaced() -> &'static [Case<'static>] {
     &[
         Case {
             about: "a file that replaces another",
@@ -193,7 +193,7 @@ pub fn replaced() -> &'static [Case] {
 
 /// What is never packed: objects without bytes, a symlink's target, attributes, and bytes that do
 /// not get shorter.
-pub fn plain() -> &'static [Case] {
+pub fn plain() -> &'static [Case<'static>] {
     &[
         Case {
             about: "a device, a symlink and attributes",
@@ -231,7 +231,7 @@ pub fn plain() -> &'static [Case] {
 }
 
 /// A base whose files are compressed: one is written over, one is cut, one is put anew.
-pub fn bases() -> &'static [Case] {
+pub fn bases() -> &'static [Case<'static>] {
     &[Case {
         about: "a compressed base",
         base: &["file /a 644 5001", "file /b 600 300"],

@@ -2,7 +2,6 @@
 //! whose forms are whole.
 
 use crate::checks::expect_at;
-use crate::log::plain::{Change, Plain};
 use crate::packed::cases::{Case, bases, changes, files, plain, replaced};
 use crate::packed::sessions::{Outcome, run_in};
 use byteorder::{BigEndian, LittleEndian};
@@ -15,7 +14,7 @@ use jthrough::mount_through;
 use std::alloc::Global;
 use std::process::Abort;
 use std::test::Fail;
-use test_operations::{By, op_of};
+use test_operations::{By, Change, Plain, op_of};
 
 /// The operations of lines, asked for at the times 1, 2 and so on.
 pub fn ops_in_time(alloc: Global, lines: &[&'static str]) -> Result<Vec<Op<'static>>, Fail> {
@@ -34,7 +33,7 @@ pub fn ops_in_time(alloc: Global, lines: &[&'static str]) -> Result<Vec<Op<'stat
 }
 
 /// The flash up to where a base ends, and what the base's operations put there.
-pub fn base_of<E: Order>(alloc: Global, case: &Case) -> Result<Vec<u8>, Fail> {
+pub fn base_of<E: Order>(alloc: Global, case: &Case<'_>) -> Result<Vec<u8>, Fail> {
     let ops = ops_in_time(alloc, case.base)?;
     Ok(run_in::<E>(alloc, &[], case.flash, NodeForms::Packed, &ops)?.output)
 }
@@ -48,7 +47,7 @@ fn take_all(alloc: Global, state: &mut Plain, changes: &[Change]) -> Result<(), 
 }
 
 /// The plain file systems after none of the steps, after one, and so on.
-pub fn states_of(alloc: Global, case: &Case) -> Result<Vec<Plain>, Fail> {
+pub fn states_of(alloc: Global, case: &Case<'_>) -> Result<Vec<Plain>, Fail> {
     let mut states = Vec::new(alloc);
     for count in 0..case.steps.len() + 1 {
         let mut state = Plain::new(alloc);
@@ -108,7 +107,7 @@ pub fn is_shown_after<E: Order>(
 }
 
 /// Whether each stop leaves the state after the steps whose forms are whole.
-fn survives<E: Order>(alloc: Global, case: &Case, forms: NodeForms) -> Result<bool, Fail> {
+fn survives<E: Order>(alloc: Global, case: &Case<'_>, forms: NodeForms) -> Result<bool, Fail> {
     let base = base_of::<E>(alloc, case)?;
     let ops = ops_in_time(alloc, case.lines)?;
     let run = run_in::<E>(alloc, &base, case.flash, forms, &ops)?;
@@ -127,7 +126,7 @@ fn survives<E: Order>(alloc: Global, case: &Case, forms: NodeForms) -> Result<bo
 fn all_survive(
     rt: &impl Abort,
     alloc: Global,
-    cases: &[Case],
+    cases: &[Case<'_>],
     forms: NodeForms,
 ) -> Result<(), Fail> {
     for case in cases {

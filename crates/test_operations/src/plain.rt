@@ -1,8 +1,7 @@
 //! A plain file system: files that have their bytes in a list, and names in the root.
 
 use jmount::{Kind, Mounted, Object};
-use std::alloc::Global;
-use std::test::Fail;
+use std::alloc::{AllocError, Global};
 
 /// A step on plain files. A file goes by its place among all that were made.
 #[derive(Clone, Copy)]
@@ -63,7 +62,7 @@ impl File {
         }
     }
 
-    fn put(&mut self, offset: usize, bytes: &[u8]) -> Result<(), Fail> {
+    fn put(&mut self, offset: usize, bytes: &[u8]) -> Result<(), AllocError> {
         for (k, byte) in bytes.iter().enumerate() {
             match self.bytes.get_mut(offset.wrapping_add(k)) {
                 Some(old) => *old = *byte,
@@ -74,7 +73,7 @@ impl File {
     }
 
     /// Takes a step on this file.
-    fn take(&mut self, change: &Change) -> Result<(), Fail> {
+    fn take(&mut self, change: &Change) -> Result<(), AllocError> {
         let time = match *change {
             Change::Put(_, offset, bytes, time) => {
                 self.put(offset, bytes)?;
@@ -163,7 +162,7 @@ impl Plain {
     }
 
     /// Takes a step.
-    pub fn take(&mut self, alloc: Global, change: &Change) -> Result<(), Fail> {
+    pub fn take(&mut self, alloc: Global, change: &Change) -> Result<(), AllocError> {
         match *change {
             Change::Make(mode, count, time) => self.files.push(File {
                 object: new_object(mode, time),
@@ -187,7 +186,9 @@ impl Plain {
             | Change::Zero(file, ..)
             | Change::Cut(file, ..)
             | Change::Attributes(file, ..) => {
-                self.files.get_mut(file).ok_or("no file")?.take(change)?;
+                if let Some(file) = self.files.get_mut(file) {
+                    file.take(change)?;
+                }
             }
         }
         Ok(())
