@@ -50,8 +50,10 @@ pub struct OpeningSession<E: Order, S: Sink> {
     ghost flash: { IsTrue (is_writable_flash block blocks) },
     ghost holds: { page_size page + 80 ≤ block },
     ghost going: { IsFalse broken
-        → IsGoingIn block blocks (left_in log.passed log.stretches.items) log.index } by { one_going broken block blocks (left_in log.passed log.stretches.items) log.index },
-    ghost stretches: { AreStretches block 0 blocks log.stretches.items } by { one_row block 0 blocks log.stretches.items },
+        → IsGoingIn block blocks (left_in log.passed log.stretches.items)
+        log.index } by { one_going broken block blocks _ log.index },
+    ghost stretches: { AreStretches block 0 blocks
+        log.stretches.items } by { one_row block 0 blocks log.stretches.items },
     ghost few: { held ≤ greatest_contents },
 }
 
