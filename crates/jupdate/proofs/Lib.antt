@@ -1,0 +1,13 @@
+pub mod AcceptLemmas
+pub mod BeginLemmas
+pub mod ExtendLemmas
+pub mod FormLemmas
+pub mod FreeLemmas
+pub mod OutLemmas
+pub mod Parts
+pub mod PutLemmas
+pub mod RowLemmas
+pub mod RunLemmas
+pub mod StretchLemmas
+pub mod SurviveLemmas
+pub mod TurnLemmas

@@ -1,0 +1,324 @@
+//! A log that is written into openings, operation by operation.
+
+ghost use Rattle.std.specs.Prelude.{◌≡◌, ◌≢◌, ◌<◌, ◌≤◌, ◌+◌, ℕ, map, slice_index, is_some, IsTrue, IsFalse, Err, IfOk, IfErr, IsOk};
+ghost use Rattle.std.specs.List.{AllByRecursion};
+ghost use Rattle.jsteps.specs.Nodes.{indexed};
+ghost use Rattle.jsteps.specs.Laws.{IsConsistent};
+ghost use Rattle.jscan.specs.Pages.{page_size};
+ghost use Rattle.jlog.specs.Places.{is_writable_flash};
+ghost use Rattle.jlog.specs.Resuming.{resumes};
+ghost use Rattle.jrests.specs.Openings.{AreOpeningsOf, AreUpwards};
+ghost use Rattle.jview.specs.Through.{greatest_contents, IsMountThroughOf};
+ghost use Rattle.jlog.specs.declared.fault.SessionFault.TheVariants.{OutOfMemory};
+ghost use Rattle.jpacked.specs.Forms.{is_packed};
+ghost use Rattle.jopenings.specs.Stretches.{AreStretches};
+ghost use Rattle.jupdate.specs.OneProof.{one_going, one_row};
+ghost use Rattle.jupdate.specs.Rows.{begins_of, left_in, unwritten};
+ghost use Rattle.jupdate.specs.SessionIn.{IsGoingIn};
+
+use crate::accepting::{Room, Taken, accept};
+use crate::row::begin_of;
+use crate::writing::{Log, put_steps};
+use flashbase::Sink;
+use jlog::{Applied, Blocks, Flash, Place, RunReport, SessionFault, Stop};
+use jmount::Mounted;
+use jnode::Order;
+use jopenings::Stretch;
+use jpacked::{NodeForms, Packing, contents_len, index_and_buffer, start_at};
+use jrests::Opening;
+use jscan::Page;
+use jsteps::Op;
+use std::alloc::{AllocError, Global};
+use std::marker::PhantomData;
+use std::mem;
+
+/// A log that goes on in openings of an image mounted through its compression, and packs what it
+/// writes, or puts each node in its own form. It keeps nothing of the image but its index.
+#[derive(Drop)]
+pub struct OpeningSession<E: Order, S: Sink> {
+    block: u32,
+    blocks: u32,
+    page: Page,
+    log: Log<S>,
+    /// How many bytes the contents of the compressed nodes have, of the base and of those put.
+    held: u32,
+    /// An operation was written in part.
+    broken: bool,
+    /// Where data are packed, if nodes are.
+    packing: Option<Packing>,
+    order: PhantomData<E>,
+    ghost flash: { IsTrue (is_writable_flash block blocks) },
+    ghost holds: { page_size page + 80 ≤ block },
+    ghost going: { IsFalse broken
+        → IsGoingIn block blocks (left_in log.passed log.stretches.items)
+        log.index } by { one_going broken block blocks _ log.index },
+    ghost stretches: { AreStretches block 0 blocks
+        log.stretches.items } by { one_row block 0 blocks log.stretches.items },
+    ghost few: { held ≤ greatest_contents },
+}
+
+/// Bytes have the width of their type.
+fn known_bytes(bytes: &[u8])
+    ensures { (i : ℕ) → slice_index bytes.now i < 256 }
+{
+    let _known = bytes.len();
+}
+
+/// Stretches of openings to which nothing went out.
+fn none_written(alloc: Global, row: &[Opening]) -> Result<Vec<Stretch>, AllocError>
+    ensures { IfOk result (λ stretches. stretches.items ≡ map unwritten row.now) }
+{
+    let mut stretches = Vec::with_capacity(alloc, row.len())?;
+    for opening in row {
+        stretches.push(Stretch {
+            block: opening.block,
+            place: opening.place,
+            len: 0,
+        })?;
+    }
+    Ok(stretches)
+}
+
+impl<E: Order, S: Sink> OpeningSession<E, S> {
+    ghost use Rattle.std.specs.Prelude.{List, [], ◌∷◌};
+    ghost use Rattle.jpacked.specs.View.{base_of_mount};
+    ghost use Rattle.jupdate.specs.View.{block_size_of, blocks_of, page_of, openings_of, stretches_in, left_of, index_of_log, held_of, is_broken, packs_of, sink_of, IsBegunIn, IsSessionOf, AppliesTo, HasApplied, HasRun};
+    ghost use Rattle.jlog.specs.declared.report.Place.{Place};
+
+    /// Goes on from an image mounted through its compression, on a flash, in a row of its openings:
+    /// blank blocks, and the rests of begun ones, as [`jrests::openings_of`] finds them, all or
+    /// some, in the order of their blocks. Nothing is put, and a refusal hands the sink back. The
+    /// image is in `E`'s order and of the geometry that it was mounted with.
+    ///
+    /// # Errors
+    /// `ReadOnly`, `Geometry` and `OutOfMemory` as a session of `jlog` answers them, with the sink.
+    pub fn resume(
+        alloc: Global,
+        mounted: &Mounted<'_>,
+        flash: Flash,
+        row: Vec<Opening>,
+        forms: NodeForms,
+        sink: S,
+    ) -> Result<OpeningSession<E, S>, (SessionFault, S)>
+        requires through { IsMountThroughOf E.order flash.geometry.block mounted.now }
+        requires row { AreOpeningsOf E.order flash.geometry.block flash.blocks
+            (base_of_mount mounted.now) row.items }
+        ensures begun { IfOk result (IsBegunIn mounted.now flash row.items sink) }
+        ensures packs { IfOk result (λ session. packs_of session ≡ is_packed forms) }
+        ensures fault { IfErr result (λ refused. refused.0 ≢ OutOfMemory
+            → resumes E.order flash mounted.now ≡ Err refused.0) }
+        ensures memory { IfErr result (λ refused. refused.0 ≡ OutOfMemory
+            → IsOk (resumes E.order flash mounted.now)) }
+        ensures back { IfErr result (λ refused. refused.1 ≡ sink) }
+    {
+        let _tail = match start_at::<E>(mounted, flash.geometry, flash.blocks, flash.page) {
+            Ok(tail) => tail,
+            Err(fault) => return Err((fault, sink)),
+        };
+        known_bytes(mounted.image());
+        match OpeningSession::<E, S>::begin(alloc, mounted, flash, row, forms, sink) {
+            Ok(session) => Ok(session),
+            Err((error, sink)) => Err((SessionFault::from(error), sink)),
+        }
+    }
+
+    /// Begins a log in a row of openings where it may go on.
+    fn begin(
+        alloc: Global,
+        mounted: &Mounted<'_>,
+        flash: Flash,
+        row: Vec<Opening>,
+        forms: NodeForms,
+        sink: S,
+    ) -> Result<OpeningSession<E, S>, (AllocError, S)>
+        requires through { IsMountThroughOf E.order flash.geometry.block mounted.now }
+        requires writable { IsTrue (is_writable_flash flash.geometry.block flash.blocks) }
+        requires holds { page_size flash.page + 80 ≤ flash.geometry.block }
+        requires going { IsGoingIn flash.geometry.block flash.blocks row.items
+            (indexed mounted.now) }
+        requires row { AreUpwards 0 flash.blocks row.items }
+        ensures begun { IfOk result (IsSessionOf mounted.now flash row.items sink) }
+        ensures packs { IfOk result (λ session. packs_of session ≡ is_packed forms) }
+        ensures back { IfErr result (λ refused. refused.1 ≡ sink) }
+    {
+        let (index, buffer, packing) = match index_and_buffer(alloc, mounted, flash.page, forms) {
+            Ok(parts) => parts,
+            Err(error) => return Err((error, sink)),
+        };
+        let stretches = match none_written(alloc, &row) {
+            Ok(stretches) => stretches,
+            Err(error) => return Err((error, sink)),
+        };
+        Ok(OpeningSession {
+            block: flash.geometry.block,
+            blocks: flash.blocks,
+            page: flash.page,
+            log: Log {
+                stretches,
+                passed: 0,
+                index,
+                buffer,
+                sink,
+            },
+            held: contents_len::<E>(mounted.image(), flash.geometry),
+            broken: false,
+            packing,
+            order: PhantomData,
+        })
+    }
+
+    /// How many bytes the contents of the compressed nodes have, of the base and of those put.
+    pub fn held(&self) -> u32
+        ensures { result ≡ held_of self.now }
+    {
+        self.held
+    }
+
+    /// What went out to each opening of the row that was given, in its order. Of the bytes that the
+    /// sink got, the first ones lie in the first stretch, as many as it has, and the others in the
+    /// next ones. It tells so while the session is not broken: bytes of an operation that was put
+    /// in part lie behind them.
+    pub fn stretches(&self) -> &[Stretch]
+        ensures same { result.now ≡ stretches_in self.now }
+        ensures within { AreStretches (block_size_of self.now) 0 (blocks_of self.now) result.now }
+    {
+        &self.log.stretches
+    }
+
+    /// Goes on with another sink, and gives back the one that it had. Nothing is put.
+    pub fn replace_sink(&mut self, sink: S) -> S
+        ensures back { result ≡ sink_of self.old }
+        ensures sink { sink_of self.new ≡ sink }
+        ensures block { block_size_of self.new ≡ block_size_of self.old }
+        ensures blocks { blocks_of self.new ≡ blocks_of self.old }
+        ensures page { page_of self.new ≡ page_of self.old }
+        ensures stretches { stretches_in self.new ≡ stretches_in self.old }
+        ensures left { left_of self.new ≡ left_of self.old }
+        ensures index { index_of_log self.new ≡ index_of_log self.old }
+        ensures held { held_of self.new ≡ held_of self.old }
+        ensures whole { is_broken self.new ≡ is_broken self.old }
+        ensures packs { packs_of self.new ≡ packs_of self.old }
+    {
+        mem::replace(&mut self.log.sink, sink)
+    }
+
+    /// Gives the sink back, from a broken session too. Nothing is put.
+    pub fn finish(self) -> S
+        ensures { result ≡ sink_of self }
+    {
+        let OpeningSession { log, .. } = self;
+        let Log { sink, .. } = log;
+        sink
+    }
+
+    /// Applies one operation: forms of its nodes are put, each at its place.
+    ///
+    /// # Errors
+    /// `Refused`, `Full`, and `OutOfMemory` before a byte was put: nothing is put, and the session
+    /// is as it was. `Sink`, and `OutOfMemory` after a byte: a beginning of the operation's bytes
+    /// was put, and the session is broken. `Broken` from a broken session.
+    pub fn apply(&mut self, alloc: Global, op: &Op<'_>) -> Result<Applied, SessionFault>
+        ensures block { block_size_of self.new ≡ block_size_of self.old }
+        ensures blocks { blocks_of self.new ≡ blocks_of self.old }
+        ensures page { page_of self.new ≡ page_of self.old }
+        ensures packs { packs_of self.new ≡ packs_of self.old }
+        ensures openings { openings_of self.new ≡ openings_of self.old }
+        ensures applies { HasApplied self.old op.now self.new result }
+    {
+        op.known();
+        let mut places = Vec::new(alloc);
+        match self.apply_onto(alloc, &mut places, op) {
+            Ok(()) => Ok(Applied { places }),
+            Err(fault) => Err(fault),
+        }
+    }
+
+    /// Applies operations in order, and stops at the first fault.
+    pub fn run(&mut self, alloc: Global, ops: &[Op<'_>]) -> RunReport
+        ensures block { block_size_of self.new ≡ block_size_of self.old }
+        ensures blocks { blocks_of self.new ≡ blocks_of self.old }
+        ensures page { page_of self.new ≡ page_of self.old }
+        ensures packs { packs_of self.new ≡ packs_of self.old }
+        ensures openings { openings_of self.new ≡ openings_of self.old }
+        ensures runs { HasRun self.old ops.now self.new result.accepted result.places.items
+            result.stopped }
+    {
+        let mut places = Vec::new(alloc);
+        let mut accepted = 0;
+        while accepted < ops.len() {
+            let op = &ops[accepted];
+            op.known();
+            match self.apply_onto(alloc, &mut places, op) {
+                Ok(()) => accepted += 1,
+                Err(fault) => {
+                    return RunReport {
+                        accepted,
+                        places,
+                        stopped: Some(fault),
+                    };
+                }
+            }
+        }
+        RunReport {
+            accepted,
+            places,
+            stopped: None,
+        }
+    }
+
+    /// Applies one operation, and appends the places of its nodes.
+    fn apply_onto(
+        &mut self,
+        alloc: Global,
+        places: &mut Vec<Place>,
+        op: &Op<'_>,
+    ) -> Result<(), SessionFault>
+        ensures block { self.new.block ≡ self.old.block }
+        ensures blocks { self.new.blocks ≡ self.old.blocks }
+        ensures page { self.new.page ≡ self.old.page }
+        ensures packs { is_some self.new.packing ≡ is_some self.old.packing }
+        ensures openings { begins_of self.new.log.stretches.items
+            ≡ begins_of self.old.log.stretches.items }
+        ensures applies { AppliesTo self.old op.now self.new places.old.items places.new.items
+            result }
+    {
+        if self.broken {
+            return Err(SessionFault::Broken);
+        }
+        op.known();
+        let flash = Blocks {
+            size: self.block,
+            count: self.blocks,
+        };
+        let room = Room {
+            flash,
+            page: self.page,
+            cursor: begin_of(flash, &self.log.stretches, self.log.passed),
+            held: self.held,
+        };
+        let Taken { steps, chosen } = accept::<E>(
+            alloc,
+            &self.log.index,
+            &room,
+            &self.log.stretches,
+            op,
+            &mut self.packing,
+        )?;
+        places.reserve(steps.len())?;
+        match put_steps::<E, S>(&mut self.log, places, flash, &steps, &chosen.streams) {
+            Ok(()) => {
+                self.held = chosen.held;
+                Ok(())
+            }
+            Err(Stop::Unbegun) => Err(SessionFault::OutOfMemory),
+            Err(Stop::Begun) => {
+                self.broken = true;
+                Err(SessionFault::OutOfMemory)
+            }
+            Err(Stop::Sink) => {
+                self.broken = true;
+                Err(SessionFault::Sink)
+            }
+        }
+    }
+}
