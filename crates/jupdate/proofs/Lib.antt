@@ -11,3 +11,4 @@ pub mod RunLemmas
 pub mod StretchLemmas
 pub mod SurviveLemmas
 pub mod TurnLemmas
+pub mod UpdateLemmas

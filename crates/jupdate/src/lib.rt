@@ -11,11 +11,12 @@
 //! each, and `Place` the address on the flash of each node.
 //!
 //! `specs/Rows.antt` says where the next node goes in a row, `specs/Writing.antt` what is put for
-//! nodes, `specs/SessionIn.antt` what an operation and a run do, and `specs/View.antt` what a
-//! session promises.
+//! nodes, `specs/SessionIn.antt` what an operation and a run do, `specs/View.antt` what a session
+//! promises, and `specs/Updates.antt` a law of updates.
 #![tactic(auto)]
 
 mod accepting;
+pub mod laws;
 mod room;
 mod row;
 mod session;
