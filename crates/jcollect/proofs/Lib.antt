@@ -1,0 +1,4 @@
+pub mod CleanLemmas
+pub mod WalkLemmas
+pub mod TileLemmas
+pub mod ImageLemmas

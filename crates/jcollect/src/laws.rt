@@ -1,0 +1,19 @@
+//! Laws of what is written. Each function's contract is a law, and its body is empty.
+
+ghost use Rattle.jcollect.specs.Clean.{CleanBlocks};
+ghost use Rattle.jcollect.specs.Tiles as tiles;
+
+/// An image has no findings where none of its blocks has one.
+pub fn blocks_are_clean()
+    ensures { CleanBlocks }
+{}
+
+/// Where a sound node is sighted its tile stands, which is seen as that node wherever it is copied.
+pub fn sighted_is_tile()
+    ensures { tiles.SightedIsTile }
+{}
+
+/// What goes out for tiles has just these, at their places, and no finding.
+pub fn output_has_tiles()
+    ensures { tiles.OutputHasTiles }
+{}
