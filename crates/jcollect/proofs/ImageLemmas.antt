@@ -104,7 +104,7 @@ clean_each e size n (suc k) flash placed shows less = clean_at e flash 1 n (suc 
 
 -- ---- no blocks
 
-no_sightings : (e : Endian) (size : ℕ) → 0 < size → sightings e size [] ≡ []
+pub no_sightings : (e : Endian) (size : ℕ) → 0 < size → sightings e size [] ≡ []
 no_sightings e size some =
     let most : block_count size [] ≤ 0 = count_within size 0 [] some (omega arith) in
     let none : block_count size [] ≡ 0 = omega (arith, most) in

@@ -2,3 +2,4 @@ pub mod CleanLemmas
 pub mod WalkLemmas
 pub mod TileLemmas
 pub mod ImageLemmas
+pub mod CollectLemmas

@@ -1,6 +1,7 @@
 //! Laws of what is written. Each function's contract is a law, and its body is empty.
 
 ghost use Rattle.jcollect.specs.Clean.{CleanBlocks};
+ghost use Rattle.jcollect.specs.Collecting as law;
 ghost use Rattle.jcollect.specs.Tiles as tiles;
 
 /// An image has no findings where none of its blocks has one.
@@ -16,4 +17,12 @@ pub fn sighted_is_tile()
 /// What goes out for tiles has just these, at their places, and no finding.
 pub fn output_has_tiles()
     ensures { tiles.OutputHasTiles }
+{}
+
+/// The image of the nodes that matter has just these and no findings, so that it shows the same
+/// tree. It is no longer than the blocks, may be written on, and mounts.
+pub fn collected_is_compact()
+    ensures compact { law.CollectedIsCompact }
+    ensures within { law.CollectedIsWithin }
+    ensures mounts { law.CollectedMounts }
 {}
