@@ -16,7 +16,8 @@ use Rattle.jscan.specs.Image.{is_block_size, block_of, sightings_in, sightings, 
 use Rattle.jscan.specs.Scans.{findings, forbids_writing, is_read_only}
 use Rattle.jmount.specs.Clash.{NoneClash}
 use Rattle.jmount.specs.Collected.{without_addresses}
-use Rattle.jmount.specs.Mounts.{IsSound, IsFaultAt, MountsAs, plain_nodes, state}
+use Rattle.jmount.specs.Mount.{Mount}
+use Rattle.jmount.specs.Mounts.{IsSound, IsFaultAt, IsMountOf, MountsAs, plain_nodes, state}
 use Rattle.jmount.specs.StateOf.{state_of}
 use Rattle.jmount.specs.Tree.{State, is_directory, has_bits, directory_bits, object}
 use Rattle.jmount.specs.declared.fault.MountFault.{MountFault}
@@ -24,6 +25,7 @@ use Rattle.jmount.specs.declared.fault.MountFault.TheVariants as fault
 use Rattle.jlog.specs.Places.{place_after, end_after}
 use Rattle.jlog.specs.LeftLaws.{tells, sighting_of, RefusesAs}
 use Rattle.jlog.specs.Forms.{placed_forms}
+use Rattle.jlog.proofs.CodeLemmas.{flash_limits}
 use Rattle.jlog.proofs.ImageLemmas.{block_size}
 use Rattle.jlog.proofs.SoundLemmas.{sound_from, sound_nodes_are_apart, with_address}
 use Rattle.jlog.proofs.TellLemmas.{nodes_told, refuses_as, cons_cases}
@@ -32,7 +34,9 @@ use Rattle.jcompact.specs.Matters.{Placed, AreWhatMatters, matters}
 use Rattle.jcompact.proofs.CompactedLemmas.{compact_objects}
 use Rattle.jcollect.specs.Tiles.{tile_in, tiles_at, copied_image, IsSoundTile, IsStorableTile, tile_sighted, IsImageOfTiles}
 use Rattle.jcollect.specs.Collecting.{addresses_of, HaveRoom, MayCollect, CollectedIsCompact, IsWithin, CollectedIsWithin, CollectedMounts}
+use Rattle.jcollect.specs.Planning.{IsNodeAt, IsFound, IsPlanned, MayPut}
 use Rattle.jcollect.proofs.ImageLemmas.{no_sightings, output_has_tiles}
+use Rattle.jcollect.proofs.RoomLemmas.{flash_readable}
 use Rattle.jcollect.proofs.TileLemmas.{sighted_is_tile}
 
 -- ---- a node of an image and its tile
@@ -65,6 +69,14 @@ node_has_tile e size image n size_is has =
       tile = subst (λ (a : ℕ). IsSoundTile e (tile_in e size image a)) at got.0;
       seen = sym (ap (λ (x : ℕ × Seen). x.1) is.1) ∙ (got.1 ∙ ap (λ (a : ℕ). seen_of e (tile_in e size image a)) at);
     }
+
+node_at : (e : Endian) (size : ℕ) (image : List ℕ) (n : Placed) → Contains (nodes e size image) n → IsNodeAt e size image n.0
+node_at e size image n has =
+    let it = Contains-filter_map_from node_sighted (sightings e size image) n has in
+    let s : ℕ × Seen = it.0 in
+    let is = seen_node s n it.2 in
+    let at : s.0 ≡ n.0 = ap (λ (x : ℕ × Seen). x.0) is.1 ∙ sighting_at n in
+    (s.1, subst (λ (a : ℕ). Contains (sightings e size image) (a, s.1)) at it.1, is.0)
 
 -- ---- so each of some of the nodes
 
@@ -193,3 +205,35 @@ collected_mounts e size blocks image kept s may small mounts =
       root = ap (has_bits directory_bits) root ∙ mounts.root;
       same = refl;
     }
+
+-- ---- what is found and planned
+
+each_at : (e : Endian) (size : ℕ) (image : List ℕ) (ns : List Placed) → AllByRecursion (λ (n : Placed). IsNodeAt e size image n.0) ns → AllByRecursion (IsNodeAt e size image) (addresses_of ns)
+each_at e size image [] all = tt
+each_at e size image (n ∷ ns) all = (all.0, each_at e size image ns all.1)
+
+pub found_nodes : (e : Endian) (size : ℕ) (image addresses : List ℕ) (count : ℕ) → IsFound e size image addresses count → AllByRecursion (IsNodeAt e size image) addresses
+found_nodes e size image addresses count found =
+    subst (AllByRecursion (IsNodeAt e size image)) (sym found.addresses_are)
+    (each_at e size image found.kept
+    (all_from (λ (n : Placed). IsNodeAt e size image n.0) found.kept (λ n has. node_at e size image n (kept_part e size image found.kept found.matter n has))))
+
+pub planned_may : (e : Endian) (size blocks : ℕ) (m : Mount) (addresses : List ℕ) (count bytes : ℕ) → IsPlanned e size blocks m addresses count bytes → MayPut e size m.image addresses
+planned_may e size blocks m addresses count bytes plan = record {
+  readable = flash_readable size blocks plan.flash;
+  nodes = found_nodes e size m.image addresses count plan.found;
+  blocks = blocks;
+  small = (flash_limits size blocks plan.flash).small;
+  room = plan.room;
+}
+
+pub planned_is_compact : (e : Endian) (size blocks : ℕ) (m : Mount) (addresses : List ℕ) (count bytes : ℕ) → IsMountOf e size m → IsPlanned e size blocks m addresses count bytes
+    → IsCompactOf e size m.image (copied_image e size m.image addresses)
+planned_is_compact e size blocks m addresses count bytes mount plan =
+    let same : addresses_of plan.found.kept ≡ addresses = sym plan.found.addresses_are in
+    subst (λ (a : List ℕ). IsCompactOf e size m.image (copied_image e size m.image a)) same
+    (collected_is_compact e size blocks m.image plan.found.kept (record {
+      sound = mount.mounts.sound;
+      matter = plan.found.matter;
+      room = subst (HaveRoom e size blocks m.image) plan.found.addresses_are plan.room;
+    }))

@@ -3,3 +3,6 @@ pub mod WalkLemmas
 pub mod TileLemmas
 pub mod ImageLemmas
 pub mod CollectLemmas
+pub mod NodeLemmas
+pub mod RoomLemmas
+pub mod PutLemmas

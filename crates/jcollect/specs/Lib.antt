@@ -1,3 +1,4 @@
 pub mod Clean
 pub mod Tiles
 pub mod Collecting
+pub mod Planning
