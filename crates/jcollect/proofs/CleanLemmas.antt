@@ -1,5 +1,5 @@
 -- Where there are sound nodes and erased flash alone, nothing is a finding.
-use Rattle.std.proofs.Common.{◌≡◌, ℕ, zero, suc, ◌+◌, ◌-◌, ◌*◌, ◌<◌, ◌≤◌, Bool, true, false, cond, leb, List, [], ◌∷◌, ◌++◌, length, take, drop, map, refl, sym, ap, ap₂, subst, ◌∙◌, arith, inl, inr, Option, None, Some}
+use Rattle.std.proofs.Common.{◌≡◌, ℕ, zero, suc, ◌+◌, ◌-◌, ◌*◌, ◌<◌, ◌≤◌, true, false, List, [], ◌∷◌, ◌++◌, length, drop, map, refl, sym, ap, ap₂, subst, ◌∙◌, arith, inl, inr, Option, None}
 use Rattle.std.specs.Prelude.{filter_map, flat_map, ◌==◌}
 use Rattle.std.specs.List.{AllByRecursion, list_all, cons_option}
 use Rattle.std.proofs.lemmas.Bool.{cases_Bool, cond-true, both_ways, leb-true}
@@ -13,16 +13,14 @@ use Rattle.jnode.specs.Reading.{seen_of, tile_of}
 use Rattle.jnode.specs.declared.order.Endian.{Endian}
 use Rattle.jnode.proofs.HeaderLemmas.{good_found}
 use Rattle.jscan.specs.Counts.{extents_of_block, extents_below}
-use Rattle.jscan.specs.Extents.{class_of, extent_kind_of, extent_of, in_front, is_one_run, runs_joined, extents, extents_from}
+use Rattle.jscan.specs.Extents.{class_of, extent_of, in_front, is_one_run, runs_joined, extents, extents_from}
 use Rattle.jscan.specs.Findings.{found, found_node, finding_of}
 use Rattle.jscan.specs.Image.{block_of, block_count}
-use Rattle.jscan.specs.Scans.{findings}
 use Rattle.jscan.specs.Tiling.{Tile, tile_at, tiling_from}
 use Rattle.jscan.specs.declared.extent.Extent.{Extent}
-use Rattle.jscan.specs.declared.extent.ExtentKind.{ExtentKind}
 use Rattle.jscan.specs.declared.extent.ExtentKind.TheVariants.{Erased}
 use Rattle.jscan.specs.declared.finding.Finding.{Finding}
-use Rattle.jscan.specs.declared.tiles.TileKind.TheVariants.{Node, Word, Rest}
+use Rattle.jscan.specs.declared.tiles.TileKind.TheVariants.{Node}
 use Rattle.jscan.proofs.HeaderlessLemmas.{erased_not_good}
 use Rattle.jscan.proofs.TileLemmas.{tile_good, tile_cases, tile_some, tile_then_rest}
 use Rattle.jcollect.specs.Clean.{IsCleanTile, IsClean, CleanBlocks}
@@ -64,7 +62,7 @@ pub node_clean : (e : Endian) (place : ℕ) (rest : List ℕ) → is_good e rest
 node_clean e place rest good none later =
     let some : 0 < length rest = omega (arith, (good_found e rest good).room) in
     let all : tiling_from e place 0 rest
-        ≡ record { place = place; kind = Node (header_of e rest); bytes = tile_of e rest } ∷ tiling_from e (place + length (tile_of e rest)) 0 (drop (length (tile_of e rest)) rest) =
+    ≡ record { place = place; kind = Node (header_of e rest); bytes = tile_of e rest } ∷ tiling_from e (place + length (tile_of e rest)) 0 (drop (length (tile_of e rest)) rest) =
     subst (λ (t : Tile). tiling_from e place 0 rest ≡ t ∷ tiling_from e (place + length t.bytes) 0 (drop (length t.bytes) rest)) (tile_good e place rest good) (tile_then_rest e place rest some) in
     subst (AllByRecursion (IsCleanTile e)) (sym all) (none, later)
 

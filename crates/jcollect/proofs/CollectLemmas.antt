@@ -1,6 +1,6 @@
 -- The image of the nodes that matter has just these.
-use Rattle.std.proofs.Common.{◌≡◌, ℕ, ◌+◌, ◌*◌, ◌<◌, ◌≤◌, Bool, true, false, List, [], ◌∷◌, ◌++◌, length, map, refl, sym, ap, ap₂, subst, ◌∙◌, arith, inl, inr, Option, None, Some, Contains}
-use Rattle.std.specs.Prelude.{IsTrue, filter, filter_map, flat_map, Ok}
+use Rattle.std.proofs.Common.{◌≡◌, ℕ, ◌+◌, ◌*◌, ◌<◌, ◌≤◌, true, List, [], ◌∷◌, ◌++◌, length, map, refl, sym, ap, ap₂, subst, ◌∙◌, arith, inl, inr, None, Some, Contains}
+use Rattle.std.specs.Prelude.{IsTrue, filter, filter_map}
 use Rattle.std.specs.List.{AllByRecursion, list_any}
 use Rattle.std.proofs.lemmas.List.Elements.{Contains-append_left, Contains-append_right, Contains-push}
 use Rattle.flashbase.proofs.MemberLemmas.{Contains-filter_from, Contains-filter_map_from}
@@ -12,14 +12,13 @@ use Rattle.jnode.specs.declared.node.NodeRef.TheVariants as node
 use Rattle.jnode.specs.declared.node.Seen.{Seen}
 use Rattle.jnode.specs.declared.node.Seen.TheVariants as seen
 use Rattle.jnode.specs.declared.order.Endian.{Endian}
-use Rattle.jscan.specs.Image.{is_block_size, block_of, sightings_in, sightings, nodes, node_sighted}
-use Rattle.jscan.specs.Scans.{findings, forbids_writing, is_read_only}
+use Rattle.jscan.specs.Image.{is_block_size, sightings, nodes, node_sighted}
+use Rattle.jscan.specs.Scans.{findings, forbids_writing}
 use Rattle.jmount.specs.Clash.{NoneClash}
 use Rattle.jmount.specs.Collected.{without_addresses}
 use Rattle.jmount.specs.Mount.{Mount}
-use Rattle.jmount.specs.Mounts.{IsSound, IsFaultAt, IsMountOf, MountsAs, plain_nodes, state}
-use Rattle.jmount.specs.StateOf.{state_of}
-use Rattle.jmount.specs.Tree.{State, is_directory, has_bits, directory_bits, object}
+use Rattle.jmount.specs.Mounts.{IsSound, IsFaultAt, IsMountOf, plain_nodes, state}
+use Rattle.jmount.specs.Tree.{has_bits, directory_bits, object}
 use Rattle.jmount.specs.declared.fault.MountFault.{MountFault}
 use Rattle.jmount.specs.declared.fault.MountFault.TheVariants as fault
 use Rattle.jlog.specs.Places.{place_after, end_after}
@@ -33,7 +32,7 @@ use Rattle.jcompact.specs.Compacted.{IsCompactOf}
 use Rattle.jcompact.specs.Matters.{Placed, AreWhatMatters, matters}
 use Rattle.jcompact.proofs.CompactedLemmas.{compact_objects}
 use Rattle.jcollect.specs.Tiles.{tile_in, tiles_at, copied_image, IsSoundTile, IsStorableTile, tile_sighted, IsImageOfTiles}
-use Rattle.jcollect.specs.Collecting.{addresses_of, HaveRoom, MayCollect, CollectedIsCompact, IsWithin, CollectedIsWithin, CollectedMounts}
+use Rattle.jcollect.specs.Collecting.{addresses_of, HaveRoom, MayCollect, CollectedIsCompact, CollectedIsWithin, CollectedMounts}
 use Rattle.jcollect.specs.Planning.{IsNodeAt, IsFound, IsPlanned, MayPut}
 use Rattle.jcollect.proofs.ImageLemmas.{no_sightings, output_has_tiles}
 use Rattle.jcollect.proofs.RoomLemmas.{flash_readable}

@@ -1,15 +1,13 @@
 -- An image of tiles has these tiles, their markers and erased flash.
-use Rattle.std.proofs.Common.{◌≡◌, ℕ, zero, suc, ◌+◌, ◌-◌, ◌*◌, ◌/◌, ◌%◌, ◌<◌, ◌≤◌, true, List, [], ◌∷◌, ◌++◌, length, take, drop, get_or, map, refl, sym, ap, ap₂, subst, ◌∙◌, arith, inl, inr}
+use Rattle.std.proofs.Common.{◌≡◌, ℕ, zero, suc, ◌+◌, ◌*◌, ◌<◌, ◌≤◌, List, [], ◌∷◌, ◌++◌, length, get_or, map, refl, sym, ap, ap₂, subst, ◌∙◌, arith, inl, inr}
 use Rattle.std.specs.Prelude.{IsTrue, filter, flat_map}
 use Rattle.std.specs.List.{AllByRecursion}
 use Rattle.std.proofs.lemmas.Bool.{cases_lt, and_parts, leb-true}
 use Rattle.flashbase.specs.Lists.{below}
 use Rattle.jnode.specs.Reading.{seen_of, tile_of}
-use Rattle.jnode.specs.Writing.{filled}
 use Rattle.jnode.specs.declared.node.Seen.{Seen}
 use Rattle.jnode.specs.declared.order.Endian.{Endian}
 use Rattle.jscan.specs.Image.{is_block_size, block_of, block_count, sightings_in, sightings}
-use Rattle.jscan.specs.Scans.{findings}
 use Rattle.jscan.proofs.BlockLemmas.{count_within}
 use Rattle.jlog.specs.Places.{place_after, end_after, end_of_all, fit}
 use Rattle.jlog.specs.Output.{output}

@@ -1,29 +1,26 @@
 -- A sound tile is a tile of its own whatever follows, and a sighted sound node has one.
-use Rattle.std.proofs.Common.{◌≡◌, ◌≢◌, ℕ, ◌+◌, ◌*◌, ◌-◌, ◌%◌, ◌<◌, ◌≤◌, true, List, [], ◌∷◌, ◌++◌, length, take, drop, slice_index, refl, sym, ap, subst, ◌∙◌, arith, length-append, Contains}
-use Rattle.std.specs.Prelude.{IsTrue}
+use Rattle.std.proofs.Common.{◌≡◌, ◌≢◌, ℕ, ◌+◌, ◌*◌, ◌-◌, ◌%◌, ◌≤◌, true, List, [], ◌∷◌, ◌++◌, length, take, slice_index, sym, ap, ◌∙◌, arith, length-append}
 use Rattle.std.specs.List.{AllByRecursion}
 use Rattle.std.proofs.Math.Seq.{take-append_seam}
 use Rattle.std.proofs.lemmas.Bool.{and_parts, eqb-true}
 use Rattle.std.proofs.lemmas.List.{append-nil, take-append-le}
 use Rattle.flashbase.specs.Bytes.{pad4_of, erased}
-use Rattle.flashbase.proofs.BytesLemmas.{pad4_words, le_pad4}
+use Rattle.flashbase.proofs.BytesLemmas.{pad4_words}
 use Rattle.jnode.specs.Order.{number_in}
-use Rattle.jnode.specs.Header.{header_len, magic_of, totlen_of, has_header, is_good}
+use Rattle.jnode.specs.Header.{magic_of, totlen_of, has_header, is_good}
 use Rattle.jnode.specs.Reading.{seen_of, tile_of}
 use Rattle.jnode.specs.Weak.{is_sound}
 use Rattle.jnode.specs.Writing.{filled}
 use Rattle.jnode.specs.declared.header.Header.{Header}
-use Rattle.jnode.specs.declared.node.Seen.{Seen}
 use Rattle.jnode.specs.declared.order.Endian.{Endian}
 use Rattle.jnode.specs.declared.order.Endian.TheVariants.{Little, Big}
 use Rattle.jnode.proofs.HeaderLemmas.{header_is_twelve_bytes, header_holds, good_from}
 use Rattle.jnode.proofs.TileLemmas.{tile_headed}
-use Rattle.jscan.specs.Image.{sightings}
 use Rattle.jexpand.specs.Expanded.{rest_at}
 use Rattle.jexpand.proofs.SightedLemmas.{sighted_at, size_words}
 use Rattle.jlog.proofs.PlaceLemmas.{pad4_same}
 use Rattle.jlog.specs.Laws.{FitsBlock}
-use Rattle.jcollect.specs.Tiles.{tile_in, IsSoundTile, IsStorableTile, SightedIsTile}
+use Rattle.jcollect.specs.Tiles.{IsSoundTile, IsStorableTile, SightedIsTile}
 use Rattle.jcollect.proofs.WalkLemmas.{Copy}
 
 -- ---- a tile is words, so none is added to it

@@ -3,7 +3,7 @@ use Rattle.std.specs.Prelude.{◌≡◌, ℕ, ◌+◌, ◌*◌, ◌≤◌, false
 use Rattle.std.specs.List.{AllByRecursion}
 use Rattle.jnode.specs.Header.{header_len}
 use Rattle.jnode.specs.declared.order.Endian.{Endian}
-use Rattle.jscan.specs.Image.{is_block_size, greatest_image, nodes}
+use Rattle.jscan.specs.Image.{greatest_image, nodes}
 use Rattle.jscan.specs.Scans.{is_read_only}
 use Rattle.jmount.specs.Mounts.{IsSound, MountsAs, state}
 use Rattle.jmount.specs.Tree.{State}

@@ -1,5 +1,5 @@
 -- What is known before the image of nodes goes out, why none does, and what goes out.
-use Rattle.std.specs.Prelude.{◌≡◌, ℕ, ◌+◌, ◌*◌, ◌%◌, ◌≤◌, Bool, true, false, nat_le, IsTrue, IsFalse, List, [], ◌∷◌, ◌++◌, length, Contains, Option, Some, None, option_map, Result, Ok, Err, ⊤, if◌then◌else◌}
+use Rattle.std.specs.Prelude.{◌≡◌, ℕ, ◌+◌, ◌*◌, ◌%◌, ◌≤◌, true, false, nat_le, IsTrue, IsFalse, List, [], ◌∷◌, ◌++◌, length, Contains, Option, Some, None, option_map, Result, Ok, Err, ⊤, if◌then◌else◌}
 use Rattle.std.specs.List.{AllByRecursion}
 use Rattle.std.specs.Option.{option_or}
 use Rattle.std.specs.Io.KnownBytes.{Appends}

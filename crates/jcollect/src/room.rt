@@ -40,12 +40,7 @@ fn room_after(geometry: Geometry, blocks: u32, room: Option<u32>, len: u32) -> O
 
 /// What is known with a node of `len` bytes more. More than 64 bits count take more memory than
 /// there is.
-fn with_node(
-    tally: Tally,
-    geometry: Geometry,
-    blocks: u32,
-    len: u32,
-) -> Result<Tally, CollectFault>
+fn with_node(tally: Tally, geometry: Geometry, blocks: u32, len: u32) -> Result<Tally, CollectFault>
     requires flash { IsTrue (is_writable_flash geometry.block blocks) }
     requires room { IfSome tally.room (IsCursor geometry.block blocks) }
     requires len { len ≤ totlen_most }

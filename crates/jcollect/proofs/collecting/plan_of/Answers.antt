@@ -1,8 +1,6 @@
-use Rattle.std.proofs.Common.{◌≡◌, ℕ, List, sym, ap, ap₂, subst, ◌∙◌}
-use Rattle.std.specs.Prelude.{◌≢◌, Some}
+use Rattle.std.proofs.Common.{◌≡◌, ℕ, List, sym, ap₂, subst, ◌∙◌}
 use Rattle.std.specs.List.{AllByRecursion}
 use Rattle.jcollect.specs.Planning.{IsNodeAt, tiles_fault}
-use Rattle.jcollect.specs.declared.fault.CollectFault.TheVariants.{OutOfMemory}
 use Rattle.jcollect.proofs.CollectLemmas.{found_nodes}
 use Rattle.jcollect.proofs.RoomLemmas.{unplanned}
 use Rattle.jcollect.proofs.collecting.plan_of.Goals as goal

@@ -1,4 +1,4 @@
-use Rattle.std.proofs.Common.{◌≡◌, ◌≤◌, ◌+◌, ℕ, List, Some, drop, slice_index, length, sym, ap, subst, ◌∙◌, arith}
+use Rattle.std.proofs.Common.{◌≡◌, ◌+◌, ℕ, List, drop, slice_index, length, ap, subst, ◌∙◌, arith}
 use Rattle.jcollect.specs.Tiles.{tile_in}
 use Rattle.jcollect.proofs.PutLemmas.{slice_left, slice_end}
 use Rattle.jcollect.proofs.RoomLemmas.{Counting, flash_readable, flash_words, counting_next, counting_done, counting_bytes}

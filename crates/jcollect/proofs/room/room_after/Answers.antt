@@ -1,5 +1,4 @@
-use Rattle.std.proofs.Common.{rules, ◌≡◌, ◌≤◌, ◌+◌, ◌*◌, ◌%◌, ℕ, Some, sym, ap, subst, ◌∙◌, arith}
-use Rattle.std.specs.Prelude.{IsTrue}
+use Rattle.std.proofs.Common.{rules, ◌≡◌, ◌≤◌, ◌+◌, ◌*◌, ℕ, Some, sym, ◌∙◌, arith}
 use Rattle.flashbase.specs.Bytes.{pad4_of}
 use Rattle.jlog.specs.Places.{place_within}
 use Rattle.jlog.proofs.CodeLemmas.{flash_limits}

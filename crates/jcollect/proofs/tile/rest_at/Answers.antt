@@ -1,7 +1,6 @@
-use Rattle.std.proofs.Common.{◌≡◌, ℕ, ◌+◌, ◌-◌, ◌*◌, ◌/◌, ◌%◌, ◌<◌, ◌≤◌, List, length, take, drop, refl, sym, ap, subst, ◌∙◌, arith, length-drop}
+use Rattle.std.proofs.Common.{◌≡◌, ℕ, ◌-◌, ◌/◌, ◌%◌, ◌≤◌, List, length, take, drop, refl, ap, ◌∙◌, arith}
 use Rattle.jscan.specs.Image.{block_of}
 use Rattle.jscan.proofs.PartLemmas.{block_length}
-use Rattle.jexpand.specs.Expanded.{rest_at}
 use Rattle.jexpand.proofs.SightedLemmas.{size_some, block_begins, rest_is}
 use Rattle.jcollect.proofs.NodeLemmas.{node_here}
 use Rattle.jcollect.proofs.tile.rest_at.Goals as goal

@@ -1,12 +1,11 @@
-use Rattle.std.proofs.Common.{◌≡◌, ℕ, ◌+◌, ◌%◌, ◌≤◌, List, length, take, drop, refl, sym, ap, subst, ◌∙◌, arith}
+use Rattle.std.proofs.Common.{◌≡◌, ℕ, ◌+◌, ◌≤◌, List, length, sym, ap, subst, ◌∙◌, arith}
 use Rattle.std.proofs.lemmas.Bool.{false≢true}
 use Rattle.flashbase.specs.Bytes.{pad4_of}
 use Rattle.flashbase.proofs.BytesLemmas.{pad4_least}
 use Rattle.jnode.specs.Header.{IsGood, totlen_of}
 use Rattle.jnode.specs.declared.header.Header.{Header}
 use Rattle.jexpand.specs.Expanded.{rest_at}
-use Rattle.jcollect.specs.Tiles.{tile_in}
-use Rattle.jcollect.proofs.NodeLemmas.{node_here, rest_long, tile_long}
+use Rattle.jcollect.proofs.NodeLemmas.{node_here}
 use Rattle.jcollect.proofs.tile.tile_at.Goals as goal
 
 pub slice-requires : goal.slice-requires

@@ -1,4 +1,4 @@
-use Rattle.std.proofs.Common.{◌≡◌, ◌≤◌, ◌+◌, ◌∙◌, ◌*◌, ℕ, List, drop, slice_index, ap, arith}
+use Rattle.std.proofs.Common.{◌+◌, ◌∙◌, ℕ, List, drop, slice_index, ap, arith}
 use Rattle.flashbase.specs.Device.{next_count}
 use Rattle.jcollect.proofs.PutLemmas.{putting_next, putting_failed, putting_end, slice_left, slice_end}
 use Rattle.jcollect.proofs.writing.put.Goals as goal

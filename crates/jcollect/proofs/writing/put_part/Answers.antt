@@ -1,4 +1,4 @@
-use Rattle.std.proofs.Common.{◌≡◌, ℕ, ◌-◌, List, ◌++◌, length, sym, ap, subst, ◌∙◌}
+use Rattle.std.proofs.Common.{◌≡◌, ℕ, ◌-◌, List, length, sym, ap, subst}
 use Rattle.flashbase.specs.Bytes.{erased}
 use Rattle.flashbase.specs.Device.{Puts}
 use Rattle.flashbase.proofs.DeviceLemmas.{first_failed, then_puts}

@@ -1,10 +1,10 @@
-use Rattle.std.proofs.Common.{◌≡◌, ◌≤◌, ◌+◌, ℕ, List, ◌++◌, length, sym, ap, ap₂, subst, ◌∙◌, arith}
+use Rattle.std.proofs.Common.{◌≡◌, ◌+◌, ℕ, List, ◌++◌, length, sym, ap, ap₂, subst, ◌∙◌, arith}
 use Rattle.flashbase.specs.Bytes.{pad4_of}
 use Rattle.flashbase.specs.Device.{Puts}
 use Rattle.flashbase.proofs.DeviceLemmas.{first_failed, then_failed}
 use Rattle.jexpand.proofs.SightedLemmas.{size_some}
 use Rattle.jlog.specs.Output.{gap}
-use Rattle.jlog.specs.Places.{place_after, end_after}
+use Rattle.jlog.specs.Places.{place_after}
 use Rattle.jlog.proofs.PlaceLemmas.{pad4_same}
 use Rattle.jcollect.specs.Tiles.{tile_in}
 use Rattle.jcollect.proofs.NodeLemmas.{node_is_tile}
