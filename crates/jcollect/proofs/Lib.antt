@@ -6,3 +6,4 @@ pub mod CollectLemmas
 pub mod NodeLemmas
 pub mod RoomLemmas
 pub mod PutLemmas
+pub mod ThroughLemmas

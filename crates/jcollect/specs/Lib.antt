@@ -2,3 +2,4 @@ pub mod Clean
 pub mod Tiles
 pub mod Collecting
 pub mod Planning
+pub mod Through

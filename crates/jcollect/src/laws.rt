@@ -2,6 +2,7 @@
 
 ghost use Rattle.jcollect.specs.Clean.{CleanBlocks};
 ghost use Rattle.jcollect.specs.Collecting as law;
+ghost use Rattle.jcollect.specs.Through as through;
 ghost use Rattle.jcollect.specs.Tiles as tiles;
 
 /// An image has no findings where none of its blocks has one.
@@ -25,4 +26,10 @@ pub fn collected_is_compact()
     ensures compact { law.CollectedIsCompact }
     ensures within { law.CollectedIsWithin }
     ensures mounts { law.CollectedMounts }
+{}
+
+/// Compressed nodes are copied as they stand: what goes out has just the nodes that are copied, seen
+/// through the compression, and no findings.
+pub fn copied_expands()
+    ensures { through.CopiedExpands }
 {}
