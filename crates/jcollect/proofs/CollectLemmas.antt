@@ -79,7 +79,7 @@ node_at e size image n has =
 
 -- ---- so each of some of the nodes
 
-all_from : {X : Type 0} (P : X → Type 0) (xs : List X) → ((x : X) → Contains xs x → P x) → AllByRecursion P xs
+pub all_from : {X : Type 0} (P : X → Type 0) (xs : List X) → ((x : X) → Contains xs x → P x) → AllByRecursion P xs
 all_from P [] each = tt
 all_from P (x ∷ xs) each = (each x (Contains-append_left (x ∷ []) xs x (Contains-push [] x)), all_from P xs (λ y has. each y (Contains-append_right (x ∷ []) xs y has)))
 
@@ -184,7 +184,7 @@ plain_has (m ∷ ns) n has = elim (cons_cases m ns n has) [
 ]
 
 -- a part of nodes that do not clash
-part_apart : (ns kept : List Placed) → ((n : Placed) → Contains kept n → Contains ns n) → NoneClash (without_addresses ns) → NoneClash (without_addresses kept)
+pub part_apart : (ns kept : List Placed) → ((n : Placed) → Contains kept n → Contains ns n) → NoneClash (without_addresses ns) → NoneClash (without_addresses kept)
 part_apart ns kept part apart a b has_a has_b clash =
     let one = with_address kept a has_a in
     let two = with_address kept b has_b in

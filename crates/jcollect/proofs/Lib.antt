@@ -7,3 +7,4 @@ pub mod NodeLemmas
 pub mod RoomLemmas
 pub mod PutLemmas
 pub mod ThroughLemmas
+pub mod CompactThroughLemmas

@@ -33,3 +33,10 @@ pub fn collected_is_compact()
 pub fn copied_expands()
     ensures { through.CopiedExpands }
 {}
+
+/// So through the compression the image of the nodes that matter has just these and no findings, and
+/// shows the same tree; and it mounts through.
+pub fn collected_through_is_compact()
+    ensures compact { through.CollectedThroughIsCompact }
+    ensures mounts { through.CollectedMountsThrough }
+{}
