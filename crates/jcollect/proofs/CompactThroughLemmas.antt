@@ -1,13 +1,12 @@
 -- The image of the nodes that matter through compression shows the same tree, and mounts through.
-use Rattle.std.proofs.Common.{◌≡◌, ℕ, ◌+◌, ◌*◌, ◌<◌, ◌≤◌, Bool, true, false, cond, List, [], ◌∷◌, ◌++◌, length, map, refl, sym, ap, ap₂, subst, ◌∙◌, arith, inl, inr, Option, None, Some, option_map, Contains, length-append}
+use Rattle.std.proofs.Common.{◌≡◌, ℕ, ◌+◌, ◌*◌, ◌≤◌, Bool, true, false, cond, List, [], ◌∷◌, ◌++◌, length, map, refl, sym, ap, ap₂, subst, ◌∙◌, arith, inl, inr, Option, None, Some, option_map, Contains, length-append}
 use Rattle.std.specs.Prelude.{IsTrue, filter, filter_map}
 use Rattle.std.specs.List.{AllByRecursion, cons_option, flat_map}
 use Rattle.std.specs.Option.{is_none, option_or}
 use Rattle.std.proofs.lemmas.Bool.{cases_Bool}
 use Rattle.flashbase.proofs.MemberLemmas.{Contains-here, Contains-there, Contains-filter_from, Contains-filter_map_from}
 use Rattle.jnode.specs.Compressed.{compressed_of}
-use Rattle.jnode.specs.Reading.{seen_of, inode_len}
-use Rattle.jnode.specs.Header.{header_len}
+use Rattle.jnode.specs.Reading.{seen_of}
 use Rattle.jnode.specs.Weak.{is_sound}
 use Rattle.jnode.specs.declared.node.CompressedNode.{CompressedNode}
 use Rattle.jnode.specs.declared.node.NodeRef.{NodeRef}
@@ -18,7 +17,6 @@ use Rattle.jcompr.specs.Content.{method_of}
 use Rattle.jscan.specs.Image.{is_block_size, sightings}
 use Rattle.jexpand.specs.Expanded.{expanded_node, expanded_nodes, node_content, unpacked_bytes}
 use Rattle.jexpand.specs.Expanded as expanded
-use Rattle.jexpand.specs.Refused.{compressed_fault, too_long}
 use Rattle.jexpand.specs.declared.fault.ConvertFault.{ConvertFault}
 use Rattle.jexpand.specs.declared.fault.ConvertFault.TheVariants as fault
 use Rattle.jmount.specs.Clash.{NoneClash}
@@ -27,16 +25,16 @@ use Rattle.jmount.specs.Find.{find, path_names}
 use Rattle.jmount.specs.StateOf.{state_of}
 use Rattle.jmount.specs.Tree.{State, has_bits, directory_bits, object}
 use Rattle.jmount.proofs.NumbersLemmas.{object-state_of}
-use Rattle.jview.specs.Through.{node_by, content_by, fault_by, through_fault, through_fault_among, first_fault, IsSoundThrough, MountsThroughAs}
+use Rattle.jview.specs.Through.{node_by, content_by, fault_by, through_fault, through_fault_among, first_fault}
 use Rattle.jlog.specs.HeadlineThrough.{state_through}
 use Rattle.jlog.proofs.TellLemmas.{cons_cases}
-use Rattle.jcompact.specs.Matters.{Placed, AreWhatMatters, NamesLeadTo, matters}
+use Rattle.jcompact.specs.Matters.{Placed, NamesLeadTo, matters}
 use Rattle.jcompact.proofs.ObjectLemmas.{object_kept}
 use Rattle.jcompact.proofs.PathLemmas.{find_same}
-use Rattle.jcollect.specs.Collecting.{addresses_of, HaveRoom}
+use Rattle.jcollect.specs.Collecting.{addresses_of}
 use Rattle.jcollect.specs.Planning.{IsNodeAt}
-use Rattle.jcollect.specs.Tiles.{tile_in, tiles_at, copied_image, IsImageOfTiles}
-use Rattle.jcollect.specs.Through.{tile_node, tile_content, IsReadTile, Expands, placed_node, placed_nodes, MayCollectThrough, IsCompactThrough, CollectedThroughIsCompact, CollectedMountsThrough}
+use Rattle.jcollect.specs.Tiles.{tile_in, tiles_at, copied_image}
+use Rattle.jcollect.specs.Through.{tile_node, tile_content, IsReadTile, Expands, placed_node, placed_nodes, MayCollectThrough, CollectedThroughIsCompact, CollectedMountsThrough}
 use Rattle.jcollect.proofs.CollectLemmas.{all_from, part_apart}
 use Rattle.jcollect.proofs.ImageLemmas.{output_has_tiles}
 use Rattle.jcollect.proofs.NodeLemmas.{nodes_storable}

@@ -1,10 +1,9 @@
 -- The image of copied nodes, seen through its compression.
-use Rattle.std.proofs.Common.{◌≡◌, ℕ, ◌+◌, ◌*◌, ◌<◌, ◌≤◌, Bool, true, false, List, [], ◌∷◌, ◌++◌, length, map, refl, sym, ap, ap₂, subst, ◌∙◌, arith, inl, inr, Option, None, Some, option_map, Contains, Ok, length-append}
-use Rattle.std.specs.Prelude.{IsTrue, filter, filter_map, ◌||◌}
+use Rattle.std.proofs.Common.{◌≡◌, ℕ, Bool, true, false, List, [], ◌∷◌, ◌++◌, length, map, refl, ap, ap₂, ◌∙◌, inl, inr, Option, None}
+use Rattle.std.specs.Prelude.{filter, filter_map, ◌||◌}
 use Rattle.std.specs.List.{AllByRecursion, cons_option, flat_map, list_any}
 use Rattle.std.specs.Option.{option_or}
 use Rattle.std.proofs.lemmas.Bool.{cases_Bool, true≢false, false≢true}
-use Rattle.flashbase.proofs.MemberLemmas.{Contains-filter_from, Contains-filter_map_from}
 use Rattle.jnode.specs.Compressed.{compressed_of}
 use Rattle.jnode.specs.Reading.{seen_of}
 use Rattle.jnode.specs.Weak.{is_sound}
@@ -13,19 +12,17 @@ use Rattle.jnode.specs.declared.node.NodeRef.{NodeRef}
 use Rattle.jnode.specs.declared.node.Seen.{Seen}
 use Rattle.jnode.specs.declared.node.Seen.TheVariants as seen
 use Rattle.jnode.specs.declared.order.Endian.{Endian}
-use Rattle.jscan.specs.Image.{is_block_size, sightings}
-use Rattle.jscan.specs.Scans.{findings, forbids_writing, is_read_only}
-use Rattle.jexpand.specs.Expanded.{compressed_node_at, expanded_node, expanded_nodes, node_content, with_content, unpacked_bytes, rest_at} 
+use Rattle.jscan.specs.Image.{sightings}
+use Rattle.jscan.specs.Scans.{forbids_writing}
+use Rattle.jexpand.specs.Expanded.{compressed_node_at, expanded_node, expanded_nodes, node_content, with_content, unpacked_bytes, rest_at}
 use Rattle.jexpand.specs.Expanded as expanded
 use Rattle.jexpand.specs.declared.fault.ConvertFault.{ConvertFault}
-use Rattle.jview.specs.Through.{node_by, content_by, fault_by, through_fault, through_fault_among, first_fault}
+use Rattle.jview.specs.Through.{node_by, content_by, fault_by, through_fault, through_fault_among}
 use Rattle.jlog.specs.LeftLaws.{tells}
 use Rattle.jlog.specs.Forms.{placed_forms}
 use Rattle.jlog.specs.Places.{place_after, end_after}
-use Rattle.jcollect.specs.Collecting.{HaveRoom}
-use Rattle.jcollect.specs.Planning.{IsNodeAt}
-use Rattle.jcollect.specs.Tiles.{tile_in, tiles_at, copied_image, IsSoundTile, IsStorableTile, tile_sighted}
-use Rattle.jcollect.specs.Through.{tile_node, tile_content, IsReadTile, Expands, CopiedExpands}
+use Rattle.jcollect.specs.Tiles.{tile_in, tiles_at, copied_image, IsStorableTile, tile_sighted}
+use Rattle.jcollect.specs.Through.{tile_node, tile_content, IsReadTile, CopiedExpands}
 use Rattle.jcollect.proofs.ImageLemmas.{output_has_tiles}
 use Rattle.jcollect.proofs.NodeLemmas.{nodes_storable}
 

@@ -12,14 +12,13 @@ use Rattle.jscan.specs.Scans.{findings, is_read_only}
 use Rattle.jexpand.specs.Expanded.{expanded_node, expanded_nodes, unpacked_bytes}
 use Rattle.jmount.specs.Collected.{without_addresses}
 use Rattle.jmount.specs.Find.{find}
-use Rattle.jmount.specs.StateOf.{state_of}
 use Rattle.jmount.specs.Tree.{State, object}
 use Rattle.jview.specs.Through.{node_by, content_by, fault_by, first_fault, IsSoundThrough, MountsThroughAs}
 use Rattle.jlog.specs.HeadlineThrough.{state_through}
 use Rattle.jcompact.specs.Matters.{Placed, AreWhatMatters, NamesLeadTo}
 use Rattle.jcollect.specs.Collecting.{addresses_of, HaveRoom}
 use Rattle.jcollect.specs.Planning.{IsNodeAt}
-use Rattle.jcollect.specs.Tiles.{tile_in, tiles_at, copied_image}
+use Rattle.jcollect.specs.Tiles.{tiles_at, copied_image}
 
 -- ---- what tiles give
 
