@@ -1,0 +1,11 @@
+//! Tests of the crate that writes an image of the nodes that matter, a module for each.
+#![tactic(auto)]
+
+#[cfg(test)]
+mod checks;
+#[cfg(test)]
+mod images;
+#[cfg(test)]
+mod refused;
+#[cfg(test)]
+mod written;

@@ -1,0 +1,10 @@
+pub mod CleanLemmas
+pub mod WalkLemmas
+pub mod TileLemmas
+pub mod ImageLemmas
+pub mod CollectLemmas
+pub mod NodeLemmas
+pub mod RoomLemmas
+pub mod PutLemmas
+pub mod ThroughLemmas
+pub mod CompactThroughLemmas

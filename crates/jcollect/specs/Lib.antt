@@ -1,0 +1,5 @@
+pub mod Clean
+pub mod Tiles
+pub mod Collecting
+pub mod Planning
+pub mod Through
