@@ -132,8 +132,7 @@ fn refused_growth_is_want_of_memory(rt: HostRuntime) {
     let Ok(wanted) = compact_of::<LittleEndian>(rt.alloc(), ROWS) else {
         return;
     };
-    let answer =
-        told(rt.alloc(), &image, &wanted).or_else(|| told(rt.alloc(), &image, &wanted));
+    let answer = told(rt.alloc(), &image, &wanted).or_else(|| told(rt.alloc(), &image, &wanted));
     let bytes = u32::try_from(wanted.len()).unwrap_or(u32::MAX);
     let done = Collected {
         kept: 5,
@@ -150,7 +149,10 @@ fn plans_tell_what_goes_out(rt: HostRuntime) -> Result<(), Fail> {
     let wanted = compact_of::<LittleEndian>(rt.alloc(), ROWS)?;
     let mounted = mount::<LittleEndian>(rt.alloc(), &image, GEOMETRY)?;
     let plan = plan_of::<LittleEndian>(rt.alloc(), &mounted, GEOMETRY, 1)?;
-    expect(&rt, plan.addresses.as_slice() == [0, 68, 212, 356, 400].as_slice());
+    expect(
+        &rt,
+        plan.addresses.as_slice() == [0, 68, 212, 356, 400].as_slice(),
+    );
     equal(&rt, plan.bytes as usize, wanted.len());
     Ok(())
 }

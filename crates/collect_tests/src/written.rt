@@ -108,9 +108,7 @@ fn leads_alike(one: &Mounted<'_>, other: &Mounted<'_>) -> bool {
         "/", "/a", "/ab", "/abc", "/abcd", "/d", "/d/a", "/d/hard", "/d/r/r", "/far", "/q",
         "/zeros",
     ];
-    paths
-        .iter()
-        .all(|path| one.find(path.as_bytes()) == other.find(path.as_bytes()))
+    paths.iter().all(|path| one.find(path.as_bytes()) == other.find(path.as_bytes()))
 }
 
 /// Whether an image that went out has no finding, and shows what the other one does.
@@ -172,8 +170,13 @@ fn sinks_fail_at_each_byte(rt: HostRuntime) -> Result<(), Fail> {
     let mounted = mount::<LittleEndian>(rt.alloc(), &image, GEOMETRY)?;
     for limit in 0..wanted.len() {
         let mut sink = Taker::limited(rt.alloc(), 7, limit);
-        let told =
-            compact_into::<LittleEndian, Taker>(rt.alloc(), &mounted, GEOMETRY, 1, &mut sink);
+        let told = compact_into::<LittleEndian, Taker>(
+            rt.alloc(),
+            &mounted,
+            GEOMETRY,
+            1,
+            &mut sink,
+        );
         let begun = wanted.get(..limit).unwrap_or(&[]);
         expect_at(&rt, told == Err(CollectFault::Sink), limit);
         expect_at(&rt, sink.took(1, begun), limit);

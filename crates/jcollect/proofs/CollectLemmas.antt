@@ -32,8 +32,8 @@ use Rattle.jcompact.specs.Compacted.{IsCompactOf}
 use Rattle.jcompact.specs.Matters.{Placed, AreWhatMatters, matters}
 use Rattle.jcompact.proofs.CompactedLemmas.{compact_objects}
 use Rattle.jcollect.specs.Tiles.{tile_in, tiles_at, copied_image, IsSoundTile, IsStorableTile, tile_sighted, IsImageOfTiles}
-use Rattle.jcollect.specs.Collecting.{addresses_of, HaveRoom, MayCollect, CollectedIsCompact, CollectedIsWithin, CollectedMounts}
-use Rattle.jcollect.specs.Planning.{IsNodeAt, IsFound, IsPlanned, MayPut}
+use Rattle.jcollect.specs.Collecting.{addresses_of, FitBlocks, MayCollect, CollectedIsCompact, CollectedIsWithin, CollectedMounts}
+use Rattle.jcollect.specs.Planning.{IsSoundNodeAt, IsFound, ArePlanned, MayPut}
 use Rattle.jcollect.proofs.ImageLemmas.{no_sightings, output_has_tiles}
 use Rattle.jcollect.proofs.RoomLemmas.{flash_readable}
 use Rattle.jcollect.proofs.TileLemmas.{sighted_is_tile}
@@ -69,7 +69,7 @@ node_has_tile e size image n size_is has =
       seen = sym (ap (λ (x : ℕ × Seen). x.1) is.1) ∙ (got.1 ∙ ap (λ (a : ℕ). seen_of e (tile_in e size image a)) at);
     }
 
-node_at : (e : Endian) (size : ℕ) (image : List ℕ) (n : Placed) → Contains (nodes e size image) n → IsNodeAt e size image n.0
+node_at : (e : Endian) (size : ℕ) (image : List ℕ) (n : Placed) → Contains (nodes e size image) n → IsSoundNodeAt e size image n.0
 node_at e size image n has =
     let it = Contains-filter_map_from node_sighted (sightings e size image) n has in
     let s : ℕ × Seen = it.0 in
@@ -118,7 +118,7 @@ record Collects (e : Endian) (size blocks : ℕ) (image compact : List ℕ) (kep
   clean : findings e size compact ≡ []
 
 collects : (e : Endian) (size blocks : ℕ) (image : List ℕ) (kept : List Placed) → IsTrue (is_block_size size) → ((n : Placed) → Contains kept n → Contains (nodes e size image) n)
-    → HaveRoom e size blocks image (addresses_of kept) → Collects e size blocks image (copied_image e size image (addresses_of kept)) kept
+    → FitBlocks e size blocks image (addresses_of kept) → Collects e size blocks image (copied_image e size image (addresses_of kept)) kept
 collects e size blocks image kept size_is part room =
     let some : 0 < size = omega (arith, (block_size size size_is).least) in
     let compact : List ℕ = copied_image e size image (addresses_of kept) in
@@ -207,17 +207,17 @@ collected_mounts e size blocks image kept s may small mounts =
 
 -- ---- what is found and planned
 
-each_at : (e : Endian) (size : ℕ) (image : List ℕ) (ns : List Placed) → AllByRecursion (λ (n : Placed). IsNodeAt e size image n.0) ns → AllByRecursion (IsNodeAt e size image) (addresses_of ns)
+each_at : (e : Endian) (size : ℕ) (image : List ℕ) (ns : List Placed) → AllByRecursion (λ (n : Placed). IsSoundNodeAt e size image n.0) ns → AllByRecursion (IsSoundNodeAt e size image) (addresses_of ns)
 each_at e size image [] all = tt
 each_at e size image (n ∷ ns) all = (all.0, each_at e size image ns all.1)
 
-pub found_nodes : (e : Endian) (size : ℕ) (image addresses : List ℕ) (count : ℕ) → IsFound e size image addresses count → AllByRecursion (IsNodeAt e size image) addresses
+pub found_nodes : (e : Endian) (size : ℕ) (image addresses : List ℕ) (count : ℕ) → IsFound e size image addresses count → AllByRecursion (IsSoundNodeAt e size image) addresses
 found_nodes e size image addresses count found =
-    subst (AllByRecursion (IsNodeAt e size image)) (sym found.addresses_are)
+    subst (AllByRecursion (IsSoundNodeAt e size image)) (sym found.addresses_are)
     (each_at e size image found.kept
-    (all_from (λ (n : Placed). IsNodeAt e size image n.0) found.kept (λ n has. node_at e size image n (kept_part e size image found.kept found.matter n has))))
+    (all_from (λ (n : Placed). IsSoundNodeAt e size image n.0) found.kept (λ n has. node_at e size image n (kept_part e size image found.kept found.matter n has))))
 
-pub planned_may : (e : Endian) (size blocks : ℕ) (m : Mount) (addresses : List ℕ) (count bytes : ℕ) → IsPlanned e size blocks m addresses count bytes → MayPut e size m.image addresses
+pub planned_may : (e : Endian) (size blocks : ℕ) (m : Mount) (addresses : List ℕ) (count bytes : ℕ) → ArePlanned e size blocks m addresses count bytes → MayPut e size m.image addresses
 planned_may e size blocks m addresses count bytes plan = record {
   readable = flash_readable size blocks plan.flash;
   nodes = found_nodes e size m.image addresses count plan.found;
@@ -226,7 +226,7 @@ planned_may e size blocks m addresses count bytes plan = record {
   room = plan.room;
 }
 
-pub planned_is_compact : (e : Endian) (size blocks : ℕ) (m : Mount) (addresses : List ℕ) (count bytes : ℕ) → IsMountOf e size m → IsPlanned e size blocks m addresses count bytes
+pub planned_is_compact : (e : Endian) (size blocks : ℕ) (m : Mount) (addresses : List ℕ) (count bytes : ℕ) → IsMountOf e size m → ArePlanned e size blocks m addresses count bytes
     → IsCompactOf e size m.image (copied_image e size m.image addresses)
 planned_is_compact e size blocks m addresses count bytes mount plan =
     let same : addresses_of plan.found.kept ≡ addresses = sym plan.found.addresses_are in
@@ -234,5 +234,5 @@ planned_is_compact e size blocks m addresses count bytes mount plan =
     (collected_is_compact e size blocks m.image plan.found.kept (record {
       sound = mount.mounts.sound;
       matter = plan.found.matter;
-      room = subst (HaveRoom e size blocks m.image) plan.found.addresses_are plan.room;
+      room = subst (FitBlocks e size blocks m.image) plan.found.addresses_are plan.room;
     }))

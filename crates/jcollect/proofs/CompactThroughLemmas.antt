@@ -32,9 +32,9 @@ use Rattle.jcompact.specs.Matters.{Placed, NamesLeadTo, matters}
 use Rattle.jcompact.proofs.ObjectLemmas.{object_kept}
 use Rattle.jcompact.proofs.PathLemmas.{find_same}
 use Rattle.jcollect.specs.Collecting.{addresses_of}
-use Rattle.jcollect.specs.Planning.{IsNodeAt}
+use Rattle.jcollect.specs.Planning.{IsSoundNodeAt}
 use Rattle.jcollect.specs.Tiles.{tile_in, tiles_at, copied_image}
-use Rattle.jcollect.specs.Through.{tile_node, tile_content, IsReadTile, Expands, placed_node, placed_nodes, MayCollectThrough, CollectedThroughIsCompact, CollectedMountsThrough}
+use Rattle.jcollect.specs.Through.{tile_node, content_of_tile, IsReadTile, ShowsTiles, addressed_node, addressed_nodes, MayCollectThrough, CollectedThroughIsCompact, CollectedMountsThrough}
 use Rattle.jcollect.proofs.CollectLemmas.{all_from, part_apart}
 use Rattle.jcollect.proofs.ImageLemmas.{output_has_tiles}
 use Rattle.jcollect.proofs.NodeLemmas.{nodes_storable}
@@ -86,7 +86,7 @@ gives_sound e size image (addr, seen.Compressed compr) n is = refl
 gives_sound e size image (addr, _) n is = let no : None ≡ Some n = is in absurd (cc)
 
 record HasNode (e : Endian) (size : ℕ) (image : List ℕ) (s : ℕ × Seen) (n : NodeRef) : Type 0 where
-  at : IsNodeAt e size image s.0
+  at : IsSoundNodeAt e size image s.0
   seen : s.1 ≡ seen_of e (tile_in e size image s.0)
   gives : tile_node e (tile_in e size image s.0) ≡ Some n
 
@@ -107,19 +107,19 @@ mapped_to addr None n h = absurd (cc)
 mapped_to addr (Some x) n h = let same : (addr, x) ≡ n = cc in (ap (λ (p : Placed). p.0) same, ap (λ (p : Placed). Some p.1) same)
 
 record KeptNode (e : Endian) (size : ℕ) (image : List ℕ) (n : Placed) : Type 0 where
-  at : IsNodeAt e size image n.0
+  at : IsSoundNodeAt e size image n.0
   gives : tile_node e (tile_in e size image n.0) ≡ Some n.1
   read : IsReadTile e size (tile_in e size image n.0)
 
-kept_node : (e : Endian) (size : ℕ) (image : List ℕ) (n : Placed) → IsTrue (is_block_size size) → first_fault e size image ≡ None → Contains (placed_nodes e size image) n → KeptNode e size image n
+kept_node : (e : Endian) (size : ℕ) (image : List ℕ) (n : Placed) → IsTrue (is_block_size size) → first_fault e size image ≡ None → Contains (addressed_nodes e size image) n → KeptNode e size image n
 kept_node e size image n size_is none has =
-    let it = Contains-filter_map_from (placed_node e size image) (sightings e size image) n has in
+    let it = Contains-filter_map_from (addressed_node e size image) (sightings e size image) n has in
     let s : ℕ × Seen = it.0 in
     let is = mapped_to s.0 (expanded_node e size image s) n it.2 in
     let got = has_node e size image s n.1 size_is it.1 is.1 in
     let no : fault_by size s.0 (compressed_of e (tile_in e size image s.0)) s.1 ≡ None = none_among e size image (sightings e size image) s none it.1 in
     record {
-      at = subst (IsNodeAt e size image) is.0 got.at;
+      at = subst (IsSoundNodeAt e size image) is.0 got.at;
       gives = subst (λ (a : ℕ). tile_node e (tile_in e size image a) ≡ Some n.1) is.0 got.gives;
       read = subst (λ (a : ℕ). IsReadTile e size (tile_in e size image a)) is.0 (λ addr.
           subst (λ (x : Seen). fault_by size addr (compressed_of e (tile_in e size image s.0)) x ≡ None) got.seen
@@ -128,7 +128,7 @@ kept_node e size image n size_is none has =
 
 -- ---- those that are kept
 
-kept_at : (e : Endian) (size : ℕ) (image : List ℕ) (ns : List Placed) → AllByRecursion (KeptNode e size image) ns → AllByRecursion (IsNodeAt e size image) (addresses_of ns)
+kept_at : (e : Endian) (size : ℕ) (image : List ℕ) (ns : List Placed) → AllByRecursion (KeptNode e size image) ns → AllByRecursion (IsSoundNodeAt e size image) (addresses_of ns)
 kept_at e size image [] all = tt
 kept_at e size image (n ∷ ns) all = (all.0.at, kept_at e size image ns all.1)
 
@@ -147,24 +147,24 @@ placed_one : (addr : ℕ) (o : Option NodeRef) (placed : List Placed) (nodes : L
 placed_one addr None placed nodes same = same
 placed_one addr (Some n) placed nodes same = ap (λ (l : List NodeRef). n ∷ l) same
 
-placed_are : (e : Endian) (size : ℕ) (image : List ℕ) (ss : List (ℕ × Seen)) → without_addresses (filter_map (placed_node e size image) ss) ≡ filter_map (expanded_node e size image) ss
+placed_are : (e : Endian) (size : ℕ) (image : List ℕ) (ss : List (ℕ × Seen)) → without_addresses (filter_map (addressed_node e size image) ss) ≡ filter_map (expanded_node e size image) ss
 placed_are e size image [] = refl
 placed_are e size image (s ∷ ss) =
-    placed_one s.0 (expanded_node e size image s) (filter_map (placed_node e size image) ss) (filter_map (expanded_node e size image) ss) (placed_are e size image ss)
+    placed_one s.0 (expanded_node e size image s) (filter_map (addressed_node e size image) ss) (filter_map (expanded_node e size image) ss) (placed_are e size image ss)
 
 record Through (e : Endian) (size blocks : ℕ) (image compact : List ℕ) (kept : List Placed) : Type 0 where
-  part : (n : Placed) → Contains kept n → Contains (placed_nodes e size image) n
+  part : (n : Placed) → Contains kept n → Contains (addressed_nodes e size image) n
   within : length compact ≤ blocks * size
-  has : Expands e size compact (tiles_at e size image (addresses_of kept))
+  has : ShowsTiles e size compact (tiles_at e size image (addresses_of kept))
   same : expanded_nodes e size compact ≡ without_addresses kept
-  apart : NoneClash (without_addresses (placed_nodes e size image))
+  apart : NoneClash (without_addresses (addressed_nodes e size image))
 
 through : (e : Endian) (size blocks : ℕ) (image : List ℕ) (kept : List Placed) → MayCollectThrough e size blocks image kept
     → Through e size blocks image (copied_image e size image (addresses_of kept)) kept
 through e size blocks image kept may =
     let size_is : IsTrue (is_block_size size) = may.sound.scannable.0 in
-    let part : (n : Placed) → Contains kept n → Contains (placed_nodes e size image) n = λ n has.
-    (Contains-filter_from (matters (placed_nodes e size image) may.matter.0) (placed_nodes e size image) n (subst (λ (ns : List Placed). Contains ns n) may.matter.2 has)).0 in
+    let part : (n : Placed) → Contains kept n → Contains (addressed_nodes e size image) n = λ n has.
+    (Contains-filter_from (matters (addressed_nodes e size image) may.matter.0) (addressed_nodes e size image) n (subst (λ (ns : List Placed). Contains ns n) may.matter.2 has)).0 in
     let all : AllByRecursion (KeptNode e size image) kept = all_from (KeptNode e size image) kept (λ n has. kept_node e size image n size_is may.sound.none (part n has)) in
     let nodes = kept_at e size image kept all in
     let has = copied_expands e size blocks image (addresses_of kept) size_is nodes may.room (kept_read e size image kept all) in
@@ -179,7 +179,7 @@ through e size blocks image kept may =
 pub collected_through_is_compact : CollectedThroughIsCompact
 collected_through_is_compact e size blocks image kept may =
     let it = through e size blocks image kept may in
-    let ns : List Placed = placed_nodes e size image in
+    let ns : List Placed = addressed_nodes e size image in
     let old : state_of (without_addresses ns) ≡ state_through e size image = ap state_of (placed_are e size image (sightings e size image)) in
     let compact : List ℕ = copied_image e size image (addresses_of kept) in
     let new : state_through e size compact ≡ state_of (without_addresses kept) = ap state_of it.same in
@@ -212,28 +212,28 @@ fewer f g p (n ∷ ns) =
     ]
 
 content_at : (e : Endian) (size : ℕ) (image : List ℕ) (s : ℕ × Seen) (n : NodeRef) → IsTrue (is_block_size size) → Contains (sightings e size image) s → expanded_node e size image s ≡ Some n
-    → tile_content e (tile_in e size image s.0) ≡ expanded.tile_content e size image s
+    → content_of_tile e (tile_in e size image s.0) ≡ expanded.content_of_tile e size image s
 content_at e size image s n size_is has is =
     let got = has_node e size image s n size_is has is in
     ap (content_by (compressed_of e (tile_in e size image s.0))) (sym got.seen) ∙ sym (content_is e size image s)
 
 one_content : (e : Endian) (size : ℕ) (image : List ℕ) (s : ℕ × Seen) (rest : List Placed) (others : List ℕ) (o : Option NodeRef) → IsTrue (is_block_size size)
-    → Contains (sightings e size image) s → expanded_node e size image s ≡ o → length (flat_map (tile_content e) (tiles_at e size image (addresses_of rest))) ≤ length others
-    → length (flat_map (tile_content e) (tiles_at e size image (addresses_of (cons_option (option_map (λ n. (s.0, n)) o) rest)))) ≤ length (expanded.tile_content e size image s ++ others)
-one_content e size image s rest others None size_is has is fewer = omega (arith, fewer, length-append (expanded.tile_content e size image s) others)
+    → Contains (sightings e size image) s → expanded_node e size image s ≡ o → length (flat_map (content_of_tile e) (tiles_at e size image (addresses_of rest))) ≤ length others
+    → length (flat_map (content_of_tile e) (tiles_at e size image (addresses_of (cons_option (option_map (λ n. (s.0, n)) o) rest)))) ≤ length (expanded.content_of_tile e size image s ++ others)
+one_content e size image s rest others None size_is has is fewer = omega (arith, fewer, length-append (expanded.content_of_tile e size image s) others)
 one_content e size image s rest others (Some n) size_is has is fewer =
-    let own : List ℕ = expanded.tile_content e size image s in
-    let before : List ℕ = flat_map (tile_content e) (tiles_at e size image (addresses_of rest)) in
-    let tile : List ℕ = tile_content e (tile_in e size image s.0) in
+    let own : List ℕ = expanded.content_of_tile e size image s in
+    let before : List ℕ = flat_map (content_of_tile e) (tiles_at e size image (addresses_of rest)) in
+    let tile : List ℕ = content_of_tile e (tile_in e size image s.0) in
     let one : length tile ≡ length own = ap (λ (xs : List ℕ). length xs) (content_at e size image s n size_is has is) in
     let sum : length (tile ++ before) ≡ length tile + length before = length-append tile before in
     omega (arith, fewer, length-append own others, one, sum)
 
 placed_contents : (e : Endian) (size : ℕ) (image : List ℕ) (ss : List (ℕ × Seen)) → IsTrue (is_block_size size) → ((s : ℕ × Seen) → Contains ss s → Contains (sightings e size image) s)
-    → length (flat_map (tile_content e) (tiles_at e size image (addresses_of (filter_map (placed_node e size image) ss)))) ≤ length (flat_map (expanded.tile_content e size image) ss)
+    → length (flat_map (content_of_tile e) (tiles_at e size image (addresses_of (filter_map (addressed_node e size image) ss)))) ≤ length (flat_map (expanded.content_of_tile e size image) ss)
 placed_contents e size image [] size_is among = omega arith
 placed_contents e size image (s ∷ ss) size_is among =
-    one_content e size image s (filter_map (placed_node e size image) ss) (flat_map (expanded.tile_content e size image) ss) (expanded_node e size image s) size_is
+    one_content e size image s (filter_map (addressed_node e size image) ss) (flat_map (expanded.content_of_tile e size image) ss) (expanded_node e size image s) size_is
     (among s (Contains-here s ss)) refl (placed_contents e size image ss size_is (λ t has. among t (Contains-there s ss t has)))
 
 -- ---- it mounts through
@@ -245,12 +245,12 @@ collected_mounts_through e size blocks image kept s may small mounts =
     let compact : List ℕ = copied_image e size image (addresses_of kept) in
     let is = collected_through_is_compact e size blocks image kept may in
     let root : object (state_through e size compact) 1 ≡ object (state_through e size image) 1 = is.objects 1 ([], refl) in
-    let ns : List Placed = placed_nodes e size image in
-    let some : length (flat_map (tile_content e) (tiles_at e size image (addresses_of kept))) ≤ length (flat_map (tile_content e) (tiles_at e size image (addresses_of ns))) =
-    subst (λ (l : List Placed). length (flat_map (tile_content e) (tiles_at e size image (addresses_of l))) ≤ length (flat_map (tile_content e) (tiles_at e size image (addresses_of ns))))
-    (sym may.matter.2) (fewer (tile_content e) (tile_in e size image) (matters ns may.matter.0) ns) in
+    let ns : List Placed = addressed_nodes e size image in
+    let some : length (flat_map (content_of_tile e) (tiles_at e size image (addresses_of kept))) ≤ length (flat_map (content_of_tile e) (tiles_at e size image (addresses_of ns))) =
+    subst (λ (l : List Placed). length (flat_map (content_of_tile e) (tiles_at e size image (addresses_of l))) ≤ length (flat_map (content_of_tile e) (tiles_at e size image (addresses_of ns))))
+    (sym may.matter.2) (fewer (content_of_tile e) (tile_in e size image) (matters ns may.matter.0) ns) in
     let all = placed_contents e size image (sightings e size image) size_is (λ t has. has) in
-    let own : length (unpacked_bytes e size compact) ≡ length (flat_map (tile_content e) (tiles_at e size image (addresses_of kept))) = ap (λ (xs : List ℕ). length xs) it.has.contents in
+    let own : length (unpacked_bytes e size compact) ≡ length (flat_map (content_of_tile e) (tiles_at e size image (addresses_of kept))) = ap (λ (xs : List ℕ). length xs) it.has.contents in
     record {
       sound = record {
         scannable = (size_is, omega (arith, it.within, small));

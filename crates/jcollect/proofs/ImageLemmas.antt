@@ -21,7 +21,7 @@ use Rattle.jlog.proofs.IntactLemmas.{output_is_long}
 use Rattle.jlog.proofs.PlaceLemmas.{place_front}
 use Rattle.jlog.proofs.RoomLemmas.{end_is_within}
 use Rattle.jcollect.specs.Clean.{IsClean}
-use Rattle.jcollect.specs.Tiles.{tile_in, IsStorableTile, tile_sighted, HasTiles, OutputHasTiles}
+use Rattle.jcollect.specs.Tiles.{tile_in, IsStorableTile, tile_sighted, HasTilesAt, OutputHasTiles}
 use Rattle.jcollect.proofs.CleanLemmas.{clean_blocks}
 use Rattle.jcollect.proofs.TileLemmas.{filled_tile, tile_copies, tiles_copy, tiles_fit}
 use Rattle.jcollect.proofs.WalkLemmas.{Copy, IsCleanUp, Lies, Shows, walks_all}
@@ -116,12 +116,12 @@ told_none e size flash some =
 -- ---- the whole
 
 has_tiles : (e : Endian) (size blocks : ℕ) (tiles : List (List ℕ)) → IsTrue (is_block_size size) → AllByRecursion (IsStorableTile e size) tiles → IsTrue (fit size blocks 0 tiles)
-    → HasTiles e size (output e size 0 tiles) (placed_forms size 0 tiles)
+    → HasTilesAt e size (output e size 0 tiles) (placed_forms size 0 tiles)
 has_tiles e size zero tiles size_is ok room =
     let limits = block_size size size_is in
     let none : tiles ≡ [] = no_blocks e size tiles size_is ok room in
     let count : block_count size [] ≤ 0 = count_within size 0 [] (omega (arith, limits.least)) (omega arith) in
-    subst (λ (ts : List (List ℕ)). HasTiles e size (output e size 0 ts) (placed_forms size 0 ts)) (sym none) (record {
+    subst (λ (ts : List (List ℕ)). HasTilesAt e size (output e size 0 ts) (placed_forms size 0 ts)) (sym none) (record {
       sighted = ap (filter tells) (no_sightings e size (omega (arith, limits.least)));
       stand = tt;
       clean = clean_blocks e size [] (λ k less. absurd (omega (arith, count, less)));

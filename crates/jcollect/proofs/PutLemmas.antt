@@ -16,8 +16,8 @@ use Rattle.jscan.specs.Image.{is_block_size}
 use Rattle.jlog.specs.Output.{gap, output}
 use Rattle.jlog.specs.Places.{place_after, end_after, fit}
 use Rattle.jlog.proofs.ImageLemmas.{block_size}
-use Rattle.jcollect.specs.Collecting.{HaveRoom}
-use Rattle.jcollect.specs.Planning.{IsNodeAt, IsCursor, tile_piece}
+use Rattle.jcollect.specs.Collecting.{FitBlocks}
+use Rattle.jcollect.specs.Planning.{IsSoundNodeAt, IsWriteCursor, tile_piece}
 use Rattle.jcollect.specs.Tiles.{tile_in, tiles_at, copied_image}
 use Rattle.jcollect.proofs.NodeLemmas.{node_is_tile}
 use Rattle.jcollect.proofs.RoomLemmas.{next_cursor}
@@ -25,22 +25,22 @@ use Rattle.jcollect.proofs.TileLemmas.{filled_tile}
 
 -- what went out so far, and the nodes that are left
 pub record Putting (e : Endian) (size blocks : ℕ) (image all left : List ℕ) (from : ℕ) (old now : Option (List ℕ)) : Type 0 where
-  pub among : AllByRecursion (IsNodeAt e size image) left
+  pub among : AllByRecursion (IsSoundNodeAt e size image) left
   pub each : AllByRecursion (λ (addr : ℕ). header_len + length (tile_in e size image addr) ≤ size) left
   pub room : IsTrue (fit size blocks from (tiles_at e size image left))
-  pub cursor : IsCursor size blocks from
+  pub cursor : IsWriteCursor size blocks from
   pub done : List ℕ
   pub appended : Appends old now done
   pub whole : copied_image e size image all ≡ done ++ output e size from (tiles_at e size image left)
 
 pub putting_at : (e : Endian) (size blocks : ℕ) (image all left rest : List ℕ) (addr from : ℕ) (old now : Option (List ℕ)) → Putting e size blocks image all left from old now → left ≡ addr ∷ rest
-    → IsNodeAt e size image addr × (header_len + length (tile_in e size image addr) ≤ size)
+    → IsSoundNodeAt e size image addr × (header_len + length (tile_in e size image addr) ≤ size)
 putting_at e size blocks image all left rest addr from old now it is =
     let here : Putting e size blocks image all (addr ∷ rest) from old now = subst (λ (l : List ℕ). Putting e size blocks image all l from old now) is it in
     (here.among.0, here.each.0)
 
 -- what goes out with one node more
-piece_out : (e : Endian) (size : ℕ) (image rest : List ℕ) (addr from : ℕ) (whole done : List ℕ) → IsTrue (is_block_size size) → IsNodeAt e size image addr
+piece_out : (e : Endian) (size : ℕ) (image rest : List ℕ) (addr from : ℕ) (whole done : List ℕ) → IsTrue (is_block_size size) → IsSoundNodeAt e size image addr
     → whole ≡ done ++ output e size from (tiles_at e size image (addr ∷ rest))
     → whole ≡ (done ++ tile_piece e size from (tile_in e size image addr)) ++ output e size (end_after size from (length (tile_in e size image addr))) (tiles_at e size image rest)
 piece_out e size image rest addr from whole done size_is node is =
@@ -84,7 +84,7 @@ putting_end e size blocks image all left from old now before is =
     let it : Putting e size blocks image all [] from old now = subst (λ (l : List ℕ). Putting e size blocks image all l from old now) is before in
     subst (Appends old now) (sym (it.whole ∙ append-nil it.done)) it.appended
 
-pub putting_start : (e : Endian) (size blocks : ℕ) (image all : List ℕ) (old : Option (List ℕ)) → AllByRecursion (IsNodeAt e size image) all → HaveRoom e size blocks image all → Appends old old []
+pub putting_start : (e : Endian) (size blocks : ℕ) (image all : List ℕ) (old : Option (List ℕ)) → AllByRecursion (IsSoundNodeAt e size image) all → FitBlocks e size blocks image all → Appends old old []
     → Putting e size blocks image all all 0 old old
 putting_start e size blocks image all old nodes room none = record {
   among = nodes;

@@ -16,8 +16,8 @@ use Rattle.jlog.specs.Places.{place_after, end_after, place_within, end_of_all, 
 use Rattle.jlog.proofs.ImageLemmas.{block_size}
 use Rattle.jlog.proofs.IntactLemmas.{output_is_long}
 use Rattle.jlog.proofs.PlaceLemmas.{times_words, pad4_behind, block_floor}
-use Rattle.jcollect.specs.Collecting.{HaveRoom}
-use Rattle.jcollect.specs.Planning.{IsNodeAt, IsCursor, IsRoomAfter, IsFound, IsUnplanned, long_fault, room_fault, tiles_fault}
+use Rattle.jcollect.specs.Collecting.{FitBlocks}
+use Rattle.jcollect.specs.Planning.{IsSoundNodeAt, IsWriteCursor, IsRoomBehind, IsFound, IsUnplanned, long_fault, room_fault, tiles_fault}
 use Rattle.jcollect.specs.Tiles.{tile_in, tiles_at, copied_image}
 use Rattle.jcollect.specs.declared.fault.CollectFault.{CollectFault}
 use Rattle.jcollect.specs.declared.fault.CollectFault.TheVariants as fault
@@ -55,7 +55,7 @@ pub flash_words : (size blocks : ℕ) → IsTrue (is_writable_flash size blocks)
 flash_words size blocks ok = (block_size size (flash_readable size blocks ok)).words
 
 -- where the next one may begin
-pub next_cursor : (size blocks from len : ℕ) → size % 4 ≡ 0 → place_after size from len + len ≤ blocks * size → IsCursor size blocks (end_after size from len)
+pub next_cursor : (size blocks from len : ℕ) → size % 4 ≡ 0 → place_after size from len + len ≤ blocks * size → IsWriteCursor size blocks (end_after size from len)
 next_cursor size blocks from len words ends =
     let at : ℕ = place_after size from len in
     let aligned : at % 4 ≡ 0 = place_words size from len words in
@@ -94,7 +94,7 @@ next_small size blocks from len at words found =
 abbrev RoomBefore : ℕ → ℕ → List (List ℕ) → Option ℕ → List (List ℕ) → Type 0
 RoomBefore size blocks all None left = fit size blocks 0 all ≡ false
 RoomBefore size blocks all (Some from) left =
-    (fit size blocks 0 all ≡ fit size blocks from left) × (end_of_all size 0 all ≡ end_of_all size from left) × IsCursor size blocks from
+    (fit size blocks 0 all ≡ fit size blocks from left) × (end_of_all size 0 all ≡ end_of_all size from left) × IsWriteCursor size blocks from
 
 mapped_none : {A B : Type 0} (f : A → B) (o : Option A) → None ≡ option_map f o → o ≡ None
 mapped_none f None h = refl
@@ -105,7 +105,7 @@ mapped_to f None y h = absurd (cc)
 mapped_to f (Some x) y h = (x, refl, cc)
 
 room_next : (size blocks : ℕ) (all : List (List ℕ)) (old new : Option ℕ) (tile : List ℕ) (rest : List (List ℕ)) → size % 4 ≡ 0 → RoomBefore size blocks all old (tile ∷ rest)
-    → IsRoomAfter size blocks old (length tile) new → RoomBefore size blocks all new rest
+    → IsRoomBehind size blocks old (length tile) new → RoomBefore size blocks all new rest
 room_next size blocks all None new tile rest words before after = subst (λ (o : Option ℕ). RoomBefore size blocks all o rest) (sym after) before
 room_next size blocks all (Some from) None tile rest words before after =
     let none : place_within size blocks from (length tile) ≡ None = mapped_none (λ (at : ℕ). at + pad4_of (length tile)) (place_within size blocks from (length tile)) after in
@@ -123,26 +123,26 @@ room_next size blocks all (Some from) (Some next) tile rest words before after =
 -- ---- the nodes that are left
 
 pub record Counting (e : Endian) (size blocks : ℕ) (image all left : List ℕ) (so_far : ℕ) (room : Option ℕ) : Type 0 where
-  pub among : AllByRecursion (IsNodeAt e size image) left
+  pub among : AllByRecursion (IsSoundNodeAt e size image) left
   pub long : long_fault e size image all ≡ long_fault e size image left
   pub needs : needed (tiles_at e size image all) ≡ so_far + needed (tiles_at e size image left)
   pub room_is : RoomBefore size blocks (tiles_at e size image all) room (tiles_at e size image left)
 
-pub counting_start : (e : Endian) (size blocks : ℕ) (image all : List ℕ) → AllByRecursion (IsNodeAt e size image) all → Counting e size blocks image all all 0 (Some 0)
+pub counting_start : (e : Endian) (size blocks : ℕ) (image all : List ℕ) → AllByRecursion (IsSoundNodeAt e size image) all → Counting e size blocks image all all 0 (Some 0)
 counting_start e size blocks image all nodes = record { among = nodes; long = refl; needs = omega arith; room_is = (refl, refl, (omega arith, refl)) }
 
 pub counting_at : (e : Endian) (size blocks : ℕ) (image all left rest : List ℕ) (addr so_far : ℕ) (room : Option ℕ) → Counting e size blocks image all left so_far room → left ≡ addr ∷ rest
-    → IsNodeAt e size image addr
+    → IsSoundNodeAt e size image addr
 counting_at e size blocks image all left rest addr so_far room it is =
     (subst (λ (l : List ℕ). Counting e size blocks image all l so_far room) is it).among.0
 
 -- where the next one may begin
-pub counting_cursor : (e : Endian) (size blocks : ℕ) (image all left : List ℕ) (so_far from : ℕ) → Counting e size blocks image all left so_far (Some from) → IsCursor size blocks from
+pub counting_cursor : (e : Endian) (size blocks : ℕ) (image all left : List ℕ) (so_far from : ℕ) → Counting e size blocks image all left so_far (Some from) → IsWriteCursor size blocks from
 counting_cursor e size blocks image all left so_far from it = it.room_is.2
 
 pub counting_next : (e : Endian) (size blocks : ℕ) (image all left rest : List ℕ) (addr len so_far more : ℕ) (room after : Option ℕ) → size % 4 ≡ 0
     → Counting e size blocks image all left so_far room → left ≡ addr ∷ rest → len ≡ length (tile_in e size image addr) → header_len + len ≤ size
-    → more ≡ so_far + pad4_of len → IsRoomAfter size blocks room len after → Counting e size blocks image all rest more after
+    → more ≡ so_far + pad4_of len → IsRoomBehind size blocks room len after → Counting e size blocks image all rest more after
 counting_next e size blocks image all left rest addr len so_far more room after words before is long within sum roomy =
     let it : Counting e size blocks image all (addr ∷ rest) so_far room = subst (λ (l : List ℕ). Counting e size blocks image all l so_far room) is before in
     let tile : List ℕ = tile_in e size image addr in
@@ -154,7 +154,7 @@ counting_next e size blocks image all left rest addr len so_far more room after 
       among = it.among.1;
       long = it.long ∙ cond-true (nat_le (12 + length tile) size) (long_fault e size image rest) (Some (fault.TooLong addr)) (le-leb _ _ fits);
       needs = omega (arith, it.needs, cons, padded, sum);
-      room_is = room_next size blocks (tiles_at e size image all) room after tile others words it.room_is (subst (λ (n : ℕ). IsRoomAfter size blocks room n after) long roomy);
+      room_is = room_next size blocks (tiles_at e size image all) room after tile others words it.room_is (subst (λ (n : ℕ). IsRoomBehind size blocks room n after) long roomy);
     }
 
 -- ---- what refuses them
@@ -200,12 +200,12 @@ each_fits e size image (addr ∷ addresses) none =
     (cases_Bool (nat_le (12 + length tile) size))
 
 pub counting_done : (e : Endian) (size blocks : ℕ) (image all left : List ℕ) (so_far end : ℕ) → Counting e size blocks image all left so_far (Some end) → left ≡ []
-    → HaveRoom e size blocks image all
+    → FitBlocks e size blocks image all
 counting_done e size blocks image all left so_far end before is =
     let it : Counting e size blocks image all [] so_far (Some end) = subst (λ (l : List ℕ). Counting e size blocks image all l so_far (Some end)) is before in
     record { each = each_fits e size image all it.long; room = it.room_is.0 }
 
-pub counting_bytes : (e : Endian) (size blocks : ℕ) (image all left : List ℕ) (so_far end : ℕ) → IsTrue (is_block_size size) → AllByRecursion (IsNodeAt e size image) all
+pub counting_bytes : (e : Endian) (size blocks : ℕ) (image all left : List ℕ) (so_far end : ℕ) → IsTrue (is_block_size size) → AllByRecursion (IsSoundNodeAt e size image) all
     → Counting e size blocks image all left so_far (Some end) → left ≡ [] → end ≡ length (copied_image e size image all)
 counting_bytes e size blocks image all left so_far end size_is nodes before is =
     let it : Counting e size blocks image all [] so_far (Some end) = subst (λ (l : List ℕ). Counting e size blocks image all l so_far (Some end)) is before in

@@ -18,7 +18,7 @@ addresses_of ns = map (λ n. n.0) ns
 
 -- A block holds each of the nodes at these addresses after its marker, and so many blocks have room
 -- for all.
-pub record HaveRoom (e : Endian) (size blocks : ℕ) (image : List ℕ) (addresses : List ℕ) : Type
+pub record FitBlocks (e : Endian) (size blocks : ℕ) (image : List ℕ) (addresses : List ℕ) : Type
     0 where
   pub each : AllByRecursion (λ addr. header_len + length (tile_in e size image addr) ≤ size)
       addresses
@@ -29,7 +29,7 @@ pub record MayCollect (e : Endian) (size blocks : ℕ) (image : List ℕ) (kept 
     0 where
   pub sound : IsSound e size image
   pub matter : AreWhatMatters (nodes e size image) kept
-  pub room : HaveRoom e size blocks image (addresses_of kept)
+  pub room : FitBlocks e size blocks image (addresses_of kept)
 
 -- The image of the nodes that matter has just these, in their order, and no findings,
 abbrev pub CollectedIsCompact : Type 0

@@ -15,7 +15,7 @@ use Rattle.jmount.specs.Mount.{Mount}
 use Rattle.jlog.specs.Output.{gap}
 use Rattle.jlog.specs.Places.{place_after, place_within, fit, needed, free, is_writable_flash}
 use Rattle.jcompact.specs.Matters.{Placed, AreWhatMatters}
-use Rattle.jcollect.specs.Collecting.{addresses_of, HaveRoom}
+use Rattle.jcollect.specs.Collecting.{addresses_of, FitBlocks}
 use Rattle.jcollect.specs.Tiles.{tile_in, tiles_at, copied_image}
 use Rattle.jcollect.specs.declared.collecting.Collected.{Collected}
 use Rattle.jcollect.specs.declared.collecting.Plan.{Plan}
@@ -23,20 +23,20 @@ use Rattle.jcollect.specs.declared.fault.CollectFault.{CollectFault}
 use Rattle.jcollect.specs.declared.fault.CollectFault.TheVariants as fault
 
 -- a sound node, compressed or not, is sighted at the address
-abbrev pub IsNodeAt : Endian → ℕ → List ℕ → ℕ → Type 0
-IsNodeAt e size image addr =
+abbrev pub IsSoundNodeAt : Endian → ℕ → List ℕ → ℕ → Type 0
+IsSoundNodeAt e size image addr =
     (s : Seen) × Contains (sightings e size image) (addr, s) × IsTrue (is_sound s)
 
 -- ---- room
 
 -- an address on a flash where a node may begin
-abbrev pub IsCursor : ℕ → ℕ → ℕ → Type 0
-IsCursor size blocks from = (from ≤ blocks * size) × (from % 4 ≡ 0)
+abbrev pub IsWriteCursor : ℕ → ℕ → ℕ → Type 0
+IsWriteCursor size blocks from = (from ≤ blocks * size) × (from % 4 ≡ 0)
 
 -- where the node after one of so many bytes may begin, if there is room for that one
-abbrev pub IsRoomAfter : ℕ → ℕ → Option ℕ → ℕ → Option ℕ → Type 0
-IsRoomAfter size blocks None len after = after ≡ None
-IsRoomAfter size blocks (Some from) len after =
+abbrev pub IsRoomBehind : ℕ → ℕ → Option ℕ → ℕ → Option ℕ → Type 0
+IsRoomBehind size blocks None len after = after ≡ None
+IsRoomBehind size blocks (Some from) len after =
     after ≡ option_map (λ at. at + pad4_of len) (place_within size blocks from len)
 
 -- ---- why no image goes out
@@ -67,20 +67,20 @@ pub record IsFound (e : Endian) (size : ℕ) (image addresses : List ℕ) (count
   pub count_is : count ≡ length (nodes e size image)
 
 -- The nodes at these addresses go out to so many blocks, in so many bytes.
-pub record IsPlanned (e : Endian) (size blocks : ℕ) (m : Mount) (addresses : List ℕ)
+pub record ArePlanned (e : Endian) (size blocks : ℕ) (m : Mount) (addresses : List ℕ)
     (count bytes : ℕ) : Type 0 where
   pub found : IsFound e size m.image addresses count
   pub writable : m.read_only ≡ false
   pub flash : IsTrue (is_writable_flash size blocks)
-  pub room : HaveRoom e size blocks m.image addresses
+  pub room : FitBlocks e size blocks m.image addresses
   pub length_is : bytes ≡ length (copied_image e size m.image addresses)
 
 abbrev pub IsPlanOf : Endian → ℕ → ℕ → Mount → Plan → Type 0
 IsPlanOf e size blocks m plan =
-    IsPlanned e size blocks m plan.addresses.items plan.nodes plan.bytes
+    ArePlanned e size blocks m plan.addresses.items plan.nodes plan.bytes
 
 -- or they are refused
-pub record IsRefused (e : Endian) (size blocks : ℕ) (m : Mount) (f : CollectFault) : Type 0 where
+pub record AreRefused (e : Endian) (size blocks : ℕ) (m : Mount) (f : CollectFault) : Type 0 where
   pub addresses : List ℕ
   pub count : ℕ
   pub found : IsFound e size m.image addresses count
@@ -94,9 +94,9 @@ IsUnplanned e size blocks m fault.ReadOnly = m.read_only ≡ true
 IsUnplanned e size blocks m fault.Geometry =
     (m.read_only ≡ false) × IsFalse (is_writable_flash size blocks)
 IsUnplanned e size blocks m (fault.TooLong addr) =
-    IsRefused e size blocks m (fault.TooLong addr)
+    AreRefused e size blocks m (fault.TooLong addr)
 IsUnplanned e size blocks m (fault.Full needed free) =
-    IsRefused e size blocks m (fault.Full needed free)
+    AreRefused e size blocks m (fault.Full needed free)
 IsUnplanned e size blocks m fault.Sink = ⊥
 IsUnplanned e size blocks m fault.OutOfMemory = ⊤
 
@@ -105,39 +105,39 @@ IsUnplanned e size blocks m fault.OutOfMemory = ⊤
 -- Nodes at these addresses, for which some flash has room.
 pub record MayPut (e : Endian) (size : ℕ) (image addresses : List ℕ) : Type 0 where
   pub readable : IsTrue (is_block_size size)
-  pub nodes : AllByRecursion (IsNodeAt e size image) addresses
+  pub nodes : AllByRecursion (IsSoundNodeAt e size image) addresses
   pub blocks : ℕ
   pub small : blocks * size ≤ greatest_image
-  pub room : HaveRoom e size blocks image addresses
+  pub room : FitBlocks e size blocks image addresses
 
 -- what goes out for one of them, from an address on
 abbrev pub tile_piece : Endian → ℕ → ℕ → List ℕ → List ℕ
 tile_piece e size from tile = gap e size from (place_after size from (length tile)) ++ tile
 
 -- nothing went out
-abbrev pub IsUntouched : SinkChange → Type 0
-IsUntouched sink = (sink.new ≡ sink.old) × (sink.now ≡ sink.before)
+abbrev pub IsSinkUntouched : SinkChange → Type 0
+IsSinkUntouched sink = (sink.new ≡ sink.old) × (sink.now ≡ sink.before)
 
 -- What compacting a mounted image into a sink answers: the image of the nodes that matter goes out,
 -- with what is told of it; or a beginning, where the sink failed once; or it is refused before a
 -- byte is put.
 abbrev pub Compacts : Endian → ℕ → ℕ → Mount → SinkChange → Result Collected CollectFault → Type 0
 Compacts e size blocks m sink (Ok told) =
-    (addresses : List ℕ) × IsPlanned e size blocks m addresses told.nodes told.bytes
+    (addresses : List ℕ) × ArePlanned e size blocks m addresses told.nodes told.bytes
     × (told.kept ≡ length addresses)
     × Appends sink.old sink.new (copied_image e size m.image addresses)
     × (sink.now ≡ sink.before)
 Compacts e size blocks m sink (Err fault.Sink) =
     (addresses : List ℕ) × (count : ℕ) × (bytes : ℕ)
-    × IsPlanned e size blocks m addresses count bytes
+    × ArePlanned e size blocks m addresses count bytes
     × PutsPart sink.old sink.new (copied_image e size m.image addresses)
     × (sink.now ≡ next_count sink.before)
 Compacts e size blocks m sink (Err fault.ReadOnly) =
-    IsUnplanned e size blocks m fault.ReadOnly × IsUntouched sink
+    IsUnplanned e size blocks m fault.ReadOnly × IsSinkUntouched sink
 Compacts e size blocks m sink (Err fault.Geometry) =
-    IsUnplanned e size blocks m fault.Geometry × IsUntouched sink
+    IsUnplanned e size blocks m fault.Geometry × IsSinkUntouched sink
 Compacts e size blocks m sink (Err (fault.TooLong addr)) =
-    IsUnplanned e size blocks m (fault.TooLong addr) × IsUntouched sink
+    IsUnplanned e size blocks m (fault.TooLong addr) × IsSinkUntouched sink
 Compacts e size blocks m sink (Err (fault.Full needed free)) =
-    IsUnplanned e size blocks m (fault.Full needed free) × IsUntouched sink
-Compacts e size blocks m sink (Err fault.OutOfMemory) = IsUntouched sink
+    IsUnplanned e size blocks m (fault.Full needed free) × IsSinkUntouched sink
+Compacts e size blocks m sink (Err fault.OutOfMemory) = IsSinkUntouched sink

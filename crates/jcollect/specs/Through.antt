@@ -16,8 +16,8 @@ use Rattle.jmount.specs.Tree.{State, object}
 use Rattle.jview.specs.Through.{node_by, content_by, fault_by, first_fault, IsSoundThrough, MountsThroughAs}
 use Rattle.jlog.specs.HeadlineThrough.{state_through}
 use Rattle.jcompact.specs.Matters.{Placed, AreWhatMatters, NamesLeadTo}
-use Rattle.jcollect.specs.Collecting.{addresses_of, HaveRoom}
-use Rattle.jcollect.specs.Planning.{IsNodeAt}
+use Rattle.jcollect.specs.Collecting.{addresses_of, FitBlocks}
+use Rattle.jcollect.specs.Planning.{IsSoundNodeAt}
 use Rattle.jcollect.specs.Tiles.{tiles_at, copied_image}
 
 -- ---- what tiles give
@@ -25,8 +25,8 @@ use Rattle.jcollect.specs.Tiles.{tiles_at, copied_image}
 abbrev pub tile_node : Endian → List ℕ → Option NodeRef
 tile_node e tile = node_by (compressed_of e tile) (seen_of e tile)
 
-abbrev pub tile_content : Endian → List ℕ → List ℕ
-tile_content e tile = content_by (compressed_of e tile) (seen_of e tile)
+abbrev pub content_of_tile : Endian → List ℕ → List ℕ
+content_of_tile e tile = content_by (compressed_of e tile) (seen_of e tile)
 
 -- wherever it lies its content is read, and a block of this size holds that
 abbrev pub IsReadTile : Endian → ℕ → List ℕ → Type 0
@@ -35,9 +35,10 @@ IsReadTile e size tile =
 
 -- An image has the nodes of these tiles, and their contents; nothing refuses it, or forbids to
 -- write after it, and it has no findings.
-pub record Expands (e : Endian) (size : ℕ) (image : List ℕ) (tiles : List (List ℕ)) : Type 0 where
+pub record ShowsTiles (e : Endian) (size : ℕ) (image : List ℕ) (tiles : List (List ℕ)) : Type
+    0 where
   pub nodes : expanded_nodes e size image ≡ filter_map (tile_node e) tiles
-  pub contents : unpacked_bytes e size image ≡ flat_map (tile_content e) tiles
+  pub contents : unpacked_bytes e size image ≡ flat_map (content_of_tile e) tiles
   pub fault : first_fault e size image ≡ None
   pub read_only : is_read_only e size image ≡ false
   pub clean : findings e size image ≡ []
@@ -45,27 +46,27 @@ pub record Expands (e : Endian) (size : ℕ) (image : List ℕ) (tiles : List (L
 -- What goes out for nodes of an image, compressed or not, has just these, through the compression.
 abbrev pub CopiedExpands : Type 0
 CopiedExpands = (e : Endian) (size blocks : ℕ) (image addresses : List ℕ)
-    → IsTrue (is_block_size size) → AllByRecursion (IsNodeAt e size image) addresses
-    → HaveRoom e size blocks image addresses
+    → IsTrue (is_block_size size) → AllByRecursion (IsSoundNodeAt e size image) addresses
+    → FitBlocks e size blocks image addresses
     → AllByRecursion (IsReadTile e size) (tiles_at e size image addresses)
-    → Expands e size (copied_image e size image addresses) (tiles_at e size image addresses)
+    → ShowsTiles e size (copied_image e size image addresses) (tiles_at e size image addresses)
 
 -- ---- the nodes that matter
 
 -- the node that a sighted tile gives, with its address
-abbrev pub placed_node : Endian → ℕ → List ℕ → ℕ × Seen → Option Placed
-placed_node e size image s = option_map (λ n. (s.0, n)) (expanded_node e size image s)
+abbrev pub addressed_node : Endian → ℕ → List ℕ → ℕ × Seen → Option Placed
+addressed_node e size image s = option_map (λ n. (s.0, n)) (expanded_node e size image s)
 
 -- the nodes of an image through its compression, each with the address of its tile
-abbrev pub placed_nodes : Endian → ℕ → List ℕ → List Placed
-placed_nodes e size image = filter_map (placed_node e size image) (sightings e size image)
+abbrev pub addressed_nodes : Endian → ℕ → List ℕ → List Placed
+addressed_nodes e size image = filter_map (addressed_node e size image) (sightings e size image)
 
 -- Some of them that matter, for which there is room.
 pub record MayCollectThrough (e : Endian) (size blocks : ℕ) (image : List ℕ) (kept : List Placed)
     : Type 0 where
   pub sound : IsSoundThrough e size image
-  pub matter : AreWhatMatters (placed_nodes e size image) kept
-  pub room : HaveRoom e size blocks image (addresses_of kept)
+  pub matter : AreWhatMatters (addressed_nodes e size image) kept
+  pub room : FitBlocks e size blocks image (addresses_of kept)
 
 -- An image has just the nodes of another one that matter, in the same order, through compression,
 -- and no findings. Names lead in both to the same numbers or faults, and each of these objects is

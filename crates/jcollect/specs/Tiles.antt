@@ -44,7 +44,8 @@ pub record IsStorableTile (e : Endian) (size : ℕ) (tile : List ℕ) : Type 0 w
 
 -- Where a sound node is sighted, a sound tile stands, and it is what is sighted there.
 abbrev pub SightedIsTile : Type 0
-SightedIsTile = (e : Endian) (size addr : ℕ) (image : List ℕ) (s : Seen) → IsTrue (is_block_size size)
+SightedIsTile = (e : Endian) (size addr : ℕ) (image : List ℕ) (s : Seen)
+    → IsTrue (is_block_size size)
     → Contains (sightings e size image) (addr, s) → IsTrue (is_sound s)
     → IsSoundTile e (tile_in e size image addr) × (s ≡ seen_of e (tile_in e size image addr))
 
@@ -55,7 +56,7 @@ abbrev pub tile_sighted : Endian → ℕ × List ℕ → ℕ × Seen
 tile_sighted e placed = (placed.0, seen_of e placed.1)
 
 -- Tiles stand in an image at their addresses, and nothing else does but markers and erased flash.
-pub record HasTiles (e : Endian) (size : ℕ) (image : List ℕ) (placed : List (ℕ × List ℕ)) : Type
+pub record HasTilesAt (e : Endian) (size : ℕ) (image : List ℕ) (placed : List (ℕ × List ℕ)) : Type
     0 where
   pub sighted : filter tells (sightings e size image) ≡ map (tile_sighted e) placed
   pub stand : AllByRecursion (λ p. tile_in e size image p.0 ≡ p.1) placed
@@ -65,9 +66,10 @@ pub record HasTiles (e : Endian) (size : ℕ) (image : List ℕ) (placed : List 
 pub record IsImageOfTiles (e : Endian) (size blocks : ℕ) (tiles : List (List ℕ)) (image : List ℕ)
     : Type 0 where
   pub within : length image ≤ blocks * size
-  pub has : HasTiles e size image (placed_forms size 0 tiles)
+  pub has : HasTilesAt e size image (placed_forms size 0 tiles)
 
 abbrev pub OutputHasTiles : Type 0
-OutputHasTiles = (e : Endian) (size blocks : ℕ) (tiles : List (List ℕ)) → IsTrue (is_block_size size)
+OutputHasTiles = (e : Endian) (size blocks : ℕ) (tiles : List (List ℕ))
+    → IsTrue (is_block_size size)
     → AllByRecursion (IsStorableTile e size) tiles → IsTrue (fit size blocks 0 tiles)
     → IsImageOfTiles e size blocks tiles (output e size 0 tiles)

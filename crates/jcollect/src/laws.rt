@@ -28,14 +28,14 @@ pub fn collected_is_compact()
     ensures mounts { law.CollectedMounts }
 {}
 
-/// Compressed nodes are copied as they stand: what goes out has just the nodes that are copied, seen
-/// through the compression, and no findings.
+/// Compressed nodes are copied as they stand: what goes out has just the nodes that are copied,
+/// seen through the compression, and no findings.
 pub fn copied_expands()
     ensures { through.CopiedExpands }
 {}
 
-/// So through the compression the image of the nodes that matter has just these and no findings, and
-/// shows the same tree; and it mounts through.
+/// So through the compression the image of the nodes that matter has just these and no findings,
+/// and shows the same tree; and it mounts through.
 pub fn collected_through_is_compact()
     ensures compact { through.CollectedThroughIsCompact }
     ensures mounts { through.CollectedMountsThrough }

@@ -5,8 +5,8 @@ ghost use Rattle.std.specs.List.{AllByRecursion};
 ghost use Rattle.flashbase.specs.Bytes.{pad4_of};
 ghost use Rattle.jnode.specs.Writing.{totlen_most};
 ghost use Rattle.jlog.specs.Places.{is_writable_flash};
-ghost use Rattle.jcollect.specs.Collecting.{HaveRoom};
-ghost use Rattle.jcollect.specs.Planning.{IsCursor, IsNodeAt, IsRoomAfter, tiles_fault};
+ghost use Rattle.jcollect.specs.Collecting.{FitBlocks};
+ghost use Rattle.jcollect.specs.Planning.{IsWriteCursor, IsSoundNodeAt, IsRoomBehind, tiles_fault};
 ghost use Rattle.jcollect.specs.Tiles.{copied_image};
 ghost use Rattle.jcollect.specs.declared.fault.CollectFault.TheVariants.{OutOfMemory};
 
@@ -29,9 +29,9 @@ pub(crate) struct Tally {
 /// Where the node after one of `len` bytes may begin, if there is room for that one.
 fn room_after(geometry: Geometry, blocks: u32, room: Option<u32>, len: u32) -> Option<u32>
     requires flash { IsTrue (is_writable_flash geometry.block blocks) }
-    requires room { IfSome room (IsCursor geometry.block blocks) }
+    requires room { IfSome room (IsWriteCursor geometry.block blocks) }
     requires len { len ≤ totlen_most }
-    ensures { IsRoomAfter geometry.block blocks room len result }
+    ensures { IsRoomBehind geometry.block blocks room len result }
 {
     let from = room?;
     let at = place_of(geometry.block, blocks, from, len)?;
@@ -42,11 +42,11 @@ fn room_after(geometry: Geometry, blocks: u32, room: Option<u32>, len: u32) -> O
 /// there is.
 fn with_node(tally: Tally, geometry: Geometry, blocks: u32, len: u32) -> Result<Tally, CollectFault>
     requires flash { IsTrue (is_writable_flash geometry.block blocks) }
-    requires room { IfSome tally.room (IsCursor geometry.block blocks) }
+    requires room { IfSome tally.room (IsWriteCursor geometry.block blocks) }
     requires len { len ≤ totlen_most }
     ensures needed { IfOk result (λ new. new.needed ≡ tally.needed + pad4_of len) }
     ensures room { IfOk result
-        (λ new. IsRoomAfter geometry.block blocks tally.room len new.room) }
+        (λ new. IsRoomBehind geometry.block blocks tally.room len new.room) }
     ensures memory { IfErr result (λ fault. fault ≡ OutOfMemory) }
 {
     match tally.needed.checked_add(pad4(len)) {
@@ -71,9 +71,9 @@ pub fn bytes_needed<E: Order>(
     addresses: &[u32],
 ) -> Result<u32, CollectFault>
     requires flash { IsTrue (is_writable_flash geometry.block blocks) }
-    requires nodes { AllByRecursion (IsNodeAt E.order geometry.block image.now) addresses.now }
+    requires nodes { AllByRecursion (IsSoundNodeAt E.order geometry.block image.now) addresses.now }
     ensures room { OnOk result
-        (HaveRoom E.order geometry.block blocks image.now addresses.now) }
+        (FitBlocks E.order geometry.block blocks image.now addresses.now) }
     ensures bytes { IfOk result (λ bytes. bytes
         ≡ length (copied_image E.order geometry.block image.now addresses.now)) }
     ensures refused { IfErr result (λ fault. fault ≢ OutOfMemory

@@ -3,7 +3,7 @@
 ghost use Rattle.std.specs.Prelude.{◌≡◌, ◌≤◌, IsTrue, length};
 ghost use Rattle.jscan.specs.Image.{is_block_size};
 ghost use Rattle.jexpand.specs.Expanded.{rest_at};
-ghost use Rattle.jcollect.specs.Planning.{IsNodeAt};
+ghost use Rattle.jcollect.specs.Planning.{IsSoundNodeAt};
 ghost use Rattle.jcollect.specs.Tiles.{tile_in};
 
 use flashbase::{Part, pad4};
@@ -13,7 +13,7 @@ use jscan::{Geometry, block_at};
 /// The rest of its block from a node on.
 fn rest_at<'a, E: Order>(image: &'a [u8], geometry: Geometry, addr: u32) -> Part<'a>
     requires readable { IsTrue (is_block_size geometry.block) }
-    requires sighted { IsNodeAt E.order geometry.block image.now addr }
+    requires sighted { IsSoundNodeAt E.order geometry.block image.now addr }
     ensures { result ≡ rest_at geometry.block image.now addr }
 {
     let start = addr / geometry.block * geometry.block;
@@ -25,7 +25,7 @@ fn rest_at<'a, E: Order>(image: &'a [u8], geometry: Geometry, addr: u32) -> Part
 /// The bytes of the node at an address, up to the end of its last word.
 pub(crate) fn tile_at<'a, E: Order>(image: &'a [u8], geometry: Geometry, addr: u32) -> Part<'a>
     requires readable { IsTrue (is_block_size geometry.block) }
-    requires sighted { IsNodeAt E.order geometry.block image.now addr }
+    requires sighted { IsSoundNodeAt E.order geometry.block image.now addr }
     ensures tile { result ≡ tile_in E.order geometry.block image.now addr }
     ensures long { length result ≤ geometry.block }
 {

@@ -5,7 +5,7 @@ ghost use Rattle.flashbase.specs.Sinks.{PutsTo};
 ghost use Rattle.jnode.specs.Header.{header_len};
 ghost use Rattle.jscan.specs.Image.{is_block_size, greatest_image};
 ghost use Rattle.jlog.specs.Places.{end_after};
-ghost use Rattle.jcollect.specs.Planning.{IsNodeAt, MayPut, tile_piece};
+ghost use Rattle.jcollect.specs.Planning.{IsSoundNodeAt, MayPut, tile_piece};
 ghost use Rattle.jcollect.specs.Tiles.{copied_image, tile_in};
 
 use crate::tile::tile_at;
@@ -32,7 +32,7 @@ fn put_tile<E: Order, S: Sink>(
     addr: u32,
 ) -> Result<u32, PutFault>
     requires readable { IsTrue (is_block_size geometry.block) }
-    requires sighted { IsNodeAt E.order geometry.block image.now addr }
+    requires sighted { IsSoundNodeAt E.order geometry.block image.now addr }
     requires fits { header_len + length (tile_in E.order geometry.block image.now addr)
         ≤ geometry.block }
     requires from { from ≤ greatest_image }

@@ -1,6 +1,6 @@
 use Rattle.std.proofs.Common.{◌≡◌, ℕ, List, sym, ap₂, subst, ◌∙◌}
 use Rattle.std.specs.List.{AllByRecursion}
-use Rattle.jcollect.specs.Planning.{IsNodeAt, tiles_fault}
+use Rattle.jcollect.specs.Planning.{IsSoundNodeAt, tiles_fault}
 use Rattle.jcollect.proofs.CollectLemmas.{found_nodes}
 use Rattle.jcollect.proofs.RoomLemmas.{unplanned}
 use Rattle.jcollect.proofs.collecting.plan_of.Goals as goal
@@ -9,8 +9,8 @@ pub bytes_needed-requires-clause-nodes : goal.bytes_needed-requires-clause-nodes
 bytes_needed-requires-clause-nodes g c =
     let e = g.E.Order.order in
     let size : ℕ = c.args.geometry.block in
-    subst (λ (image : List ℕ). AllByRecursion (IsNodeAt e size image) c.deref.result.now) (sym c.image.ensures)
-    (subst (AllByRecursion (IsNodeAt e size c.args.mounted.now.image)) (sym c.deref.ensures.value)
+    subst (λ (image : List ℕ). AllByRecursion (IsSoundNodeAt e size image) c.deref.result.now) (sym c.image.ensures)
+    (subst (AllByRecursion (IsSoundNodeAt e size c.args.mounted.now.image)) (sym c.deref.ensures.value)
     (found_nodes e size c.args.mounted.now.image _ _ c.in-Ok.ensures))
 
 pub returns-in-Err-bytes_needed-clause-refused : goal.returns-in-Err-bytes_needed-clause-refused
