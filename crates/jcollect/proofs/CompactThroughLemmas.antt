@@ -212,17 +212,17 @@ fewer f g p (n ∷ ns) =
     ]
 
 content_at : (e : Endian) (size : ℕ) (image : List ℕ) (s : ℕ × Seen) (n : NodeRef) → IsTrue (is_block_size size) → Contains (sightings e size image) s → expanded_node e size image s ≡ Some n
-    → content_of_tile e (tile_in e size image s.0) ≡ expanded.content_of_tile e size image s
+    → content_of_tile e (tile_in e size image s.0) ≡ expanded.tile_content e size image s
 content_at e size image s n size_is has is =
     let got = has_node e size image s n size_is has is in
     ap (content_by (compressed_of e (tile_in e size image s.0))) (sym got.seen) ∙ sym (content_is e size image s)
 
 one_content : (e : Endian) (size : ℕ) (image : List ℕ) (s : ℕ × Seen) (rest : List Placed) (others : List ℕ) (o : Option NodeRef) → IsTrue (is_block_size size)
     → Contains (sightings e size image) s → expanded_node e size image s ≡ o → length (flat_map (content_of_tile e) (tiles_at e size image (addresses_of rest))) ≤ length others
-    → length (flat_map (content_of_tile e) (tiles_at e size image (addresses_of (cons_option (option_map (λ n. (s.0, n)) o) rest)))) ≤ length (expanded.content_of_tile e size image s ++ others)
-one_content e size image s rest others None size_is has is fewer = omega (arith, fewer, length-append (expanded.content_of_tile e size image s) others)
+    → length (flat_map (content_of_tile e) (tiles_at e size image (addresses_of (cons_option (option_map (λ n. (s.0, n)) o) rest)))) ≤ length (expanded.tile_content e size image s ++ others)
+one_content e size image s rest others None size_is has is fewer = omega (arith, fewer, length-append (expanded.tile_content e size image s) others)
 one_content e size image s rest others (Some n) size_is has is fewer =
-    let own : List ℕ = expanded.content_of_tile e size image s in
+    let own : List ℕ = expanded.tile_content e size image s in
     let before : List ℕ = flat_map (content_of_tile e) (tiles_at e size image (addresses_of rest)) in
     let tile : List ℕ = content_of_tile e (tile_in e size image s.0) in
     let one : length tile ≡ length own = ap (λ (xs : List ℕ). length xs) (content_at e size image s n size_is has is) in
@@ -230,10 +230,10 @@ one_content e size image s rest others (Some n) size_is has is fewer =
     omega (arith, fewer, length-append own others, one, sum)
 
 placed_contents : (e : Endian) (size : ℕ) (image : List ℕ) (ss : List (ℕ × Seen)) → IsTrue (is_block_size size) → ((s : ℕ × Seen) → Contains ss s → Contains (sightings e size image) s)
-    → length (flat_map (content_of_tile e) (tiles_at e size image (addresses_of (filter_map (addressed_node e size image) ss)))) ≤ length (flat_map (expanded.content_of_tile e size image) ss)
+    → length (flat_map (content_of_tile e) (tiles_at e size image (addresses_of (filter_map (addressed_node e size image) ss)))) ≤ length (flat_map (expanded.tile_content e size image) ss)
 placed_contents e size image [] size_is among = omega arith
 placed_contents e size image (s ∷ ss) size_is among =
-    one_content e size image s (filter_map (addressed_node e size image) ss) (flat_map (expanded.content_of_tile e size image) ss) (expanded_node e size image s) size_is
+    one_content e size image s (filter_map (addressed_node e size image) ss) (flat_map (expanded.tile_content e size image) ss) (expanded_node e size image s) size_is
     (among s (Contains-here s ss)) refl (placed_contents e size image ss size_is (λ t has. among t (Contains-there s ss t has)))
 
 -- ---- it mounts through

@@ -34,7 +34,7 @@ node_is e size image (addr, seen.Inode inode) = refl
 node_is e size image (addr, seen.Compressed compr) = refl
 node_is e size image (addr, _) = refl
 
-pub content_is : (e : Endian) (size : ℕ) (image : List ℕ) (s : ℕ × Seen) → expanded.content_of_tile e size image s ≡ content_by (compressed_node_at e size image s.0) s.1
+pub content_is : (e : Endian) (size : ℕ) (image : List ℕ) (s : ℕ × Seen) → expanded.tile_content e size image s ≡ content_by (compressed_node_at e size image s.0) s.1
 content_is e size image (addr, seen.Compressed compr) = refl
 content_is e size image (addr, _) = refl
 
@@ -53,7 +53,7 @@ nothing size addr packed _ none = absurd (true≢false none)
 
 record AreTold (e : Endian) (size : ℕ) (image : List ℕ) (ss told : List (ℕ × Seen)) : Type 0 where
   nodes : filter_map (expanded_node e size image) ss ≡ filter_map (expanded_node e size image) told
-  contents : flat_map (expanded.content_of_tile e size image) ss ≡ flat_map (expanded.content_of_tile e size image) told
+  contents : flat_map (expanded.tile_content e size image) ss ≡ flat_map (expanded.tile_content e size image) told
   fault : through_fault_among e size image ss ≡ through_fault_among e size image told
   bans : list_any (λ s. forbids_writing s.1) ss ≡ list_any (λ s. forbids_writing s.1) told
 
@@ -64,7 +64,7 @@ all_told e size image (s ∷ ss) =
     elim (cases_Bool (tells s)) [
       | inl told ↦ rw told (record {
         nodes = ap (λ (l : List NodeRef). cons_option (expanded_node e size image s) l) rest.nodes;
-        contents = ap (λ (l : List ℕ). expanded.content_of_tile e size image s ++ l) rest.contents;
+        contents = ap (λ (l : List ℕ). expanded.tile_content e size image s ++ l) rest.contents;
         fault = ap (option_or (through_fault e size image s)) rest.fault;
         bans = ap (λ (b : Bool). forbids_writing s.1 || b) rest.bans;
       })
@@ -88,7 +88,7 @@ sound_writes _ sound = absurd (false≢true sound)
 
 record TilesGive (e : Endian) (size : ℕ) (image : List ℕ) (told : List (ℕ × Seen)) (tiles : List (List ℕ)) : Type 0 where
   nodes : filter_map (expanded_node e size image) told ≡ filter_map (tile_node e) tiles
-  contents : flat_map (expanded.content_of_tile e size image) told ≡ flat_map (content_of_tile e) tiles
+  contents : flat_map (expanded.tile_content e size image) told ≡ flat_map (content_of_tile e) tiles
   fault : through_fault_among e size image told ≡ None
   bans : list_any (λ s. forbids_writing s.1) told ≡ false
 
@@ -118,7 +118,7 @@ copied_expands e size blocks image addresses size_is nodes room read =
     let give = tiles_give e size out 0 tiles ok read has.stand in
     record {
       nodes = told.nodes ∙ (ap (filter_map (expanded_node e size out)) has.sighted ∙ give.nodes);
-      contents = told.contents ∙ (ap (flat_map (expanded.content_of_tile e size out)) has.sighted ∙ give.contents);
+      contents = told.contents ∙ (ap (flat_map (expanded.tile_content e size out)) has.sighted ∙ give.contents);
       fault = told.fault ∙ (ap (through_fault_among e size out) has.sighted ∙ give.fault);
       read_only = told.bans ∙ (ap (list_any (λ (s : ℕ × Seen). forbids_writing s.1)) has.sighted ∙ give.bans);
       clean = has.clean;
