@@ -29,6 +29,10 @@
 //! | write to it without compressing | the same, with [`NodeForms::Own`] |
 //! | write to its blank blocks, wherever they lie | [`Row::of`], [`PackingSession::resume_in_row`] |
 //! | put an image with what was written there | [`put_with_row`] |
+//! | know where begun blocks may be written on | [`rests_of`]; [`openings_of`] has blank ones too |
+//! | write there | [`OpeningSession::resume`], then as a [`Session`] |
+//! | put an image with what was written there | [`put_with_stretches`], by each [`Stretch`] |
+//! | write an image of the nodes alone that matter | [`compact_into`]; [`plan_of`] says how long |
 //! | know where such data lie, before it is mounted | [`view_image`], then [`mount_view`] |
 //! | have such an image with plain data in memory | [`decompressed`], then [`mount`] |
 //! | write such an image with plain data | [`decompress`] |
@@ -45,29 +49,115 @@
 //! The programs `example_read` and `example_write` use these calls.
 #![tactic(auto)]
 
-pub use byteorder::{BigEndian, LittleEndian};
-pub use flashbase::{
-    DeviceFault, FromReader, FromWriter, LoadFault, PutFault, Sink, Source, load, put_all,
-};
-pub use jbuild::{EmitFault, Emitted, HostFiles, emit, emit_from, operations};
+pub use byteorder::BigEndian;
+pub use byteorder::LittleEndian;
+pub use flashbase::DeviceFault;
+pub use flashbase::FromReader;
+pub use flashbase::FromWriter;
+pub use flashbase::LoadFault;
+pub use flashbase::PutFault;
+pub use flashbase::Sink;
+pub use flashbase::Source;
+pub use flashbase::load;
+pub use flashbase::put_all;
+pub use jbuild::EmitFault;
+pub use jbuild::Emitted;
+pub use jbuild::HostFiles;
+pub use jbuild::emit;
+pub use jbuild::emit_from;
+pub use jbuild::operations;
 pub use jclash::clash_below;
-pub use jconvert::{
-    Apart, ConvertFault, Converted, LeftOut, compress, decompress, decompress_apart, decompressed,
-};
-pub use jdamage::{DamageFault, Totals, put_damage};
-pub use jlisting::{Action, BadLine, Line, ListingFault, Rule, WordRule, listing};
-pub use jlog::{Applied, Flash, Place, RunReport, Session, SessionFault, Start};
-pub use jmount::{FindFault, Kind, MountFault, Mounted, Object, mount};
-pub use jnode::{Damage, Dirent, Endian, Fill, InodeNode, NodeRef, Order, Seen, weak_cut};
-pub use jpacked::{NodeForms, PackingSession};
-pub use jreport::{
-    ProgramFault, content, put_subtree, scan_lines, stream_lines, tree_lines, verdict_lines,
-};
-pub use jrow::{Row, RowOnFlash, put_with_row, written_len};
-pub use jscan::{
-    Counts, Extent, ExtentKind, Extents, Finding, FindingKind, GREATEST_IMAGE, Geometry, Page,
-    Scan, ScanFault, Sightings, StreamFault, scan, scan_stream,
-};
-pub use jspare::{LAYOUTS, PageLayout, drop_spare, spare_of};
-pub use jsteps::{Attributes, Op, OpFault, Text};
-pub use jthrough::{View, ViewFault, mount_through, mount_view, view_image};
+pub use jcollect::CollectFault;
+pub use jcollect::Collected;
+pub use jcollect::Plan;
+pub use jcollect::compact_into;
+pub use jcollect::plan_of;
+pub use jconvert::Apart;
+pub use jconvert::ConvertFault;
+pub use jconvert::Converted;
+pub use jconvert::LeftOut;
+pub use jconvert::compress;
+pub use jconvert::decompress;
+pub use jconvert::decompress_apart;
+pub use jconvert::decompressed;
+pub use jdamage::DamageFault;
+pub use jdamage::Totals;
+pub use jdamage::put_damage;
+pub use jlisting::Action;
+pub use jlisting::BadLine;
+pub use jlisting::Line;
+pub use jlisting::ListingFault;
+pub use jlisting::Rule;
+pub use jlisting::WordRule;
+pub use jlisting::listing;
+pub use jlog::Applied;
+pub use jlog::Flash;
+pub use jlog::Place;
+pub use jlog::RunReport;
+pub use jlog::Session;
+pub use jlog::SessionFault;
+pub use jlog::Start;
+pub use jmount::FindFault;
+pub use jmount::Kind;
+pub use jmount::MountFault;
+pub use jmount::Mounted;
+pub use jmount::Object;
+pub use jmount::mount;
+pub use jnode::Damage;
+pub use jnode::Dirent;
+pub use jnode::Endian;
+pub use jnode::Fill;
+pub use jnode::InodeNode;
+pub use jnode::NodeRef;
+pub use jnode::Order;
+pub use jnode::Seen;
+pub use jnode::weak_cut;
+pub use jopenings::Stretch;
+pub use jopenings::StretchesOnFlash;
+pub use jopenings::len_with_stretches;
+pub use jopenings::put_with_stretches;
+pub use jpacked::NodeForms;
+pub use jpacked::PackingSession;
+pub use jreport::ProgramFault;
+pub use jreport::content;
+pub use jreport::put_subtree;
+pub use jreport::scan_lines;
+pub use jreport::stream_lines;
+pub use jreport::tree_lines;
+pub use jreport::verdict_lines;
+pub use jrests::Opening;
+pub use jrests::openings_of;
+pub use jrests::rests_of;
+pub use jrow::Row;
+pub use jrow::RowOnFlash;
+pub use jrow::put_with_row;
+pub use jrow::written_len;
+pub use jscan::Counts;
+pub use jscan::Extent;
+pub use jscan::ExtentKind;
+pub use jscan::Extents;
+pub use jscan::Finding;
+pub use jscan::FindingKind;
+pub use jscan::GREATEST_IMAGE;
+pub use jscan::Geometry;
+pub use jscan::Page;
+pub use jscan::Scan;
+pub use jscan::ScanFault;
+pub use jscan::Sightings;
+pub use jscan::StreamFault;
+pub use jscan::scan;
+pub use jscan::scan_stream;
+pub use jspare::LAYOUTS;
+pub use jspare::PageLayout;
+pub use jspare::drop_spare;
+pub use jspare::spare_of;
+pub use jsteps::Attributes;
+pub use jsteps::Op;
+pub use jsteps::OpFault;
+pub use jsteps::Text;
+pub use jthrough::View;
+pub use jthrough::ViewFault;
+pub use jthrough::mount_through;
+pub use jthrough::mount_view;
+pub use jthrough::view_image;
+pub use jupdate::OpeningSession;
