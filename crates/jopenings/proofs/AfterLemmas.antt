@@ -46,17 +46,17 @@ no_bytes e size (o ∷ row) = omega (arith, no_bytes e size row)
 
 -- ---- one form, and the first opening takes it or not
 
-taken_one : (size : ℕ) (o : Opening) (x : List ℕ) (xs : List (List ℕ)) → takes size o x ≡ true
+pub taken_one : (size : ℕ) (o : Opening) (x : List ℕ) (xs : List (List ℕ)) → takes size o x ≡ true
     → taken_from size o.place (x ∷ xs) ≡ suc (taken_from size (end_after size o.place (length x)) xs)
 taken_one size o x xs inside = cond-true (takes size o x) (suc (taken_from size (end_after size o.place (length x)) xs)) 0 inside
 
-taken_no : (size : ℕ) (o : Opening) (x : List ℕ) (xs : List (List ℕ)) → takes size o x ≡ false → taken_from size o.place (x ∷ xs) ≡ 0
+pub taken_no : (size : ℕ) (o : Opening) (x : List ℕ) (xs : List (List ℕ)) → takes size o x ≡ false → taken_from size o.place (x ∷ xs) ≡ 0
 taken_no size o x xs outside = cond-false (takes size o x) (suc (taken_from size (end_after size o.place (length x)) xs)) 0 outside
 
-after_taken : (size : ℕ) (o : Opening) (row : List Opening) (x : List ℕ) → takes size o x ≡ true → row_after size (o ∷ row) x ≡ moved_opening size o x ∷ row
+pub after_taken : (size : ℕ) (o : Opening) (row : List Opening) (x : List ℕ) → takes size o x ≡ true → row_after size (o ∷ row) x ≡ moved_opening size o x ∷ row
 after_taken size o row x inside = cond-true (takes size o x) (moved_opening size o x ∷ row) (row_after size row x) inside
 
-after_missed : (size : ℕ) (o : Opening) (row : List Opening) (x : List ℕ) → takes size o x ≡ false → row_after size (o ∷ row) x ≡ row_after size row x
+pub after_missed : (size : ℕ) (o : Opening) (row : List Opening) (x : List ℕ) → takes size o x ≡ false → row_after size (o ∷ row) x ≡ row_after size row x
 after_missed size o row x outside = cond-false (takes size o x) (moved_opening size o x ∷ row) (row_after size row x) outside
 
 pub left_taken : (size : ℕ) (o : Opening) (row : List Opening) (x : List ℕ) (xs : List (List ℕ)) → takes size o x ≡ true
@@ -85,7 +85,7 @@ pub shares_missed : (size : ℕ) (o : Opening) (row : List Opening) (x : List �
 shares_missed size o row x xs outside =
     ap (λ (n : ℕ). (let share : Share = (o, take n (x ∷ xs)) in share) ∷ shares size row (drop n (x ∷ xs))) (taken_no size o x xs outside)
 
-shares_one : (size : ℕ) (o : Opening) (row : List Opening) (x : List ℕ) → takes size o x ≡ true → shares size (o ∷ row) (x ∷ []) ≡ (o, x ∷ []) ∷ shares size row []
+pub shares_one : (size : ℕ) (o : Opening) (row : List Opening) (x : List ℕ) → takes size o x ≡ true → shares size (o ∷ row) (x ∷ []) ≡ (o, x ∷ []) ∷ shares size row []
 shares_one size o row x inside = shares_taken size o row x [] inside
 
 -- ---- room

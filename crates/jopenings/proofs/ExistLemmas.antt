@@ -1,5 +1,5 @@
 -- An image that is left by a stop.
-use Rattle.std.proofs.Common.{◌≡◌, ℕ, ◌+◌, ◌-◌, ◌*◌, ◌<◌, ◌≤◌, false, List, [], ◌∷◌, ◌++◌, length, map, take, drop, get_or, refl, sym, ap, subst, ◌∙◌, arith, inl, inr, Some, Contains, length-append, length-take}
+use Rattle.std.proofs.Common.{◌≡◌, ℕ, ◌+◌, ◌-◌, ◌*◌, ◌%◌, ◌<◌, ◌≤◌, false, List, [], ◌∷◌, ◌++◌, length, map, take, drop, get_or, refl, sym, ap, subst, ◌∙◌, arith, inl, inr, Some, Contains, length-append, length-take}
 use Rattle.std.specs.Prelude.{◌==◌}
 use Rattle.std.specs.List.{AllByRecursion}
 use Rattle.std.proofs.Math.Nat.{mul-le-mul_right}
@@ -14,6 +14,7 @@ use Rattle.jnode.specs.declared.order.Endian.{Endian}
 use Rattle.jscan.specs.Blank.{is_blank}
 use Rattle.jscan.specs.Image.{block_of}
 use Rattle.jscan.proofs.PartLemmas.{block_length}
+use Rattle.jscan.specs.Tiling.{bytes_of}
 use Rattle.jlog.specs.Left.{IsLeft, front_of}
 use Rattle.jlog.proofs.ByteLemmas.{block_byte, erased_end}
 use Rattle.jrow.proofs.SideLemmas.{made_byte, made_long}
@@ -23,12 +24,13 @@ use Rattle.jrests.specs.Left.{SharesAreLeft}
 use Rattle.jrests.specs.Openings.{AreUpwards, IsOpeningOf, opening_in}
 use Rattle.jrests.specs.Shares.{taken_from, Share, shares, output_to}
 use Rattle.jrests.specs.declared.opening.Opening.{Opening}
+use Rattle.jrests.proofs.KeepLemmas.{whole_words}
 use Rattle.jrests.proofs.RestLemmas.{rest_is_found}
 use Rattle.jopenings.specs.Exist.{block_after, block_left, flash_left, SomeAreLeftInOpenings}
 
 -- ---- an opening lies within its block
 
-opening_within : (e : Endian) (size place : ℕ) (block : List ℕ) → length block ≡ size → opening_in e size block ≡ Some place → place ≤ size
+pub opening_within : (e : Endian) (size place : ℕ) (block : List ℕ) → length block ≡ size → opening_in e size block ≡ Some place → place ≤ size
 opening_within e size place block long opens = elim (cases_Bool (is_blank e size block)) [
   | inl blank ↦
       let none : 0 ≡ place = same_Some _ _ (sym (cond-true (is_blank e size block) (Some 0) (rest_of e size block) blank) ∙ opens) in
@@ -39,17 +41,30 @@ opening_within e size place block long opens = elim (cases_Bool (is_blank e size
       omega (arith, within, long)
 ]
 
+-- at a word
+pub opening_aligned : (e : Endian) (size place : ℕ) (block : List ℕ) → size % 4 ≡ 0 → length block ≡ size → opening_in e size block ≡ Some place → place % 4 ≡ 0
+opening_aligned e size place block words long opens = elim (cases_Bool (is_blank e size block)) [
+  | inl blank ↦
+      let none : 0 ≡ place = same_Some _ _ (sym (cond-true (is_blank e size block) (Some 0) (rest_of e size block) blank) ∙ opens) in
+      ap (λ (n : ℕ). n % 4) (sym none)
+  | inr begun ↦
+      let found : rest_of e size block ≡ Some place = sym (cond-false (is_blank e size block) (Some 0) (rest_of e size block) begun) ∙ opens in
+      let rest = rest_is_found e size block place found in
+      let whole : length (bytes_of rest.before) % 4 ≡ 0 = (whole_words e 0 block rest.before rest.after (ap (λ (n : ℕ). n % 4) long ∙ words) rest.tiles rest.whole).0 in
+      ap (λ (n : ℕ). n % 4) (sym rest.begins) ∙ whole
+]
+
 -- ---- one block
 
 front_long : (base : List ℕ) (from : ℕ) → length (front_of base from) ≡ from
 front_long base from = omega (arith, length-take from (base ++ erased from), length-append base (erased from), length-replicate {A = ℕ} from 0xFF)
 
-front_byte : (base more : List ℕ) (from at : ℕ) → at < from → get_or (front_of base from ++ more) at 0xFF ≡ get_or base at 0xFF
+pub front_byte : (base more : List ℕ) (from at : ℕ) → at < from → get_or (front_of base from ++ more) at 0xFF ≡ get_or base at 0xFF
 front_byte base more from at inside =
     get_or_append_left (front_of base from) more 0xFF at (omega (arith, inside, front_long base from))
     ∙ (get_or-take from (base ++ erased from) at 0xFF inside ∙ erased_end base from at)
 
-behind_byte : (base more : List ℕ) (from at : ℕ) → from ≤ at → get_or (front_of base from ++ more) at 0xFF ≡ get_or more (at - from) 0xFF
+pub behind_byte : (base more : List ℕ) (from at : ℕ) → from ≤ at → get_or (front_of base from ++ more) at 0xFF ≡ get_or more (at - from) 0xFF
 behind_byte base more from at past = get_or-append_right (front_of base from) more from at 0xFF (front_long base from) past
 
 after_is_left : (e : Endian) (size place k : ℕ) (base out block : List ℕ) → place ≤ size → block ≡ block_of size (front_of base place ++ take k out) 0

@@ -21,21 +21,28 @@ use Rattle.jopenings.proofs.AfterLemmas.{none_fit, no_places, some_stay, left_ta
 
 -- ---- a form that its block does not take goes to the next
 
--- where it then lies, as a log places it
-missed_over : (size p len : ℕ) → size % 4 ≡ 0 → p % 4 ≡ 0 → p ≤ size → 0 < len → 12 + len ≤ size → size < place_after size p len + len
-    → place_after size p len ≡ 1 * size + 12
-missed_over size p len words aligned within some room missed = elim (cases_lt p 12) [
+-- it lies behind a marker, and would cross the block's end where it is
+pub missed_there : (size p len : ℕ) → size % 4 ≡ 0 → p % 4 ≡ 0 → p ≤ size → 0 < len → 12 + len ≤ size → size < place_after size p len + len
+    → (12 ≤ p) × (size < p + len)
+missed_there size p len words aligned within some room missed = elim (cases_lt p 12) [
   | inl low ↦
       let place : IsPlace size p len 12 = in_block size p len 12 0 refl (omega (arith, low)) (omega arith) (omega (arith, room)) some in
       let least : place_after size p len ≤ 12 = (place_is_least size p len words some room).least 12 place in
       absurd (omega (arith, least, missed, room))
   | inr high ↦ elim (cases_lt size (p + len)) [
-    | inl over ↦ place_over size p 0 len words aligned (omega (arith, high)) (omega (arith, within)) (omega (arith, over)) room some
+    | inl over ↦ (high, over)
     | inr inside ↦
         let here : place_after size p len ≡ p = place_here size p 0 len aligned (omega (arith, high)) (omega (arith, inside)) some in
         absurd (omega (arith, here, missed, inside))
   ]
 ]
+
+-- where it then lies, as a log places it
+missed_over : (size p len : ℕ) → size % 4 ≡ 0 → p % 4 ≡ 0 → p ≤ size → 0 < len → 12 + len ≤ size → size < place_after size p len + len
+    → place_after size p len ≡ 1 * size + 12
+missed_over size p len words aligned within some room missed =
+    let there = missed_there size p len words aligned within some room missed in
+    place_over size p 0 len words aligned (omega (arith, there.0)) (omega (arith, within)) (omega (arith, there.1)) room some
 
 same_over : (size p len : ℕ) → size % 4 ≡ 0 → p % 4 ≡ 0 → p ≤ size → 0 < len → 12 + len ≤ size → size < place_after size p len + len
     → place_after size p len ≡ place_after size (1 * size + 0) len
@@ -44,19 +51,19 @@ same_over size p len words aligned within some room missed =
 
 -- ---- room
 
-abbrev at_place : ℕ → ℕ → Opening
+abbrev pub at_place : ℕ → ℕ → Opening
 at_place b p = record { block = b; place = p }
 
-abbrev AllFit : ℕ → List (List ℕ) → Type 0
+abbrev pub AllFit : ℕ → List (List ℕ) → Type 0
 AllFit size forms = AllByRecursion (FitsBlock size) forms
 
 -- where writing goes on behind a form that the block takes
-record GoesOnIn (size p len : ℕ) : Type 0 where
-  ends : place_after size p len + len ≤ size
-  within : end_after size p len ≤ size
-  aligned : end_after size p len % 4 ≡ 0
+pub record GoesOnIn (size p len : ℕ) : Type 0 where
+  pub ends : place_after size p len + len ≤ size
+  pub within : end_after size p len ≤ size
+  pub aligned : end_after size p len % 4 ≡ 0
 
-goes_on_in : (size p : ℕ) (x : List ℕ) → size % 4 ≡ 0 → p % 4 ≡ 0 → p ≤ size → FitsBlock size x → nat_le (place_after size p (length x) + length x) size ≡ true
+pub goes_on_in : (size p : ℕ) (x : List ℕ) → size % 4 ≡ 0 → p % 4 ≡ 0 → p ≤ size → FitsBlock size x → nat_le (place_after size p (length x) + length x) size ≡ true
     → GoesOnIn size p (length x)
 goes_on_in size p x words aligned within ok inside =
     let ends : place_after size p (length x) + length x ≤ size = leb-true _ _ inside in

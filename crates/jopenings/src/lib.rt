@@ -13,3 +13,7 @@
 #![tactic(auto)]
 
 pub mod laws;
+mod pieces;
+mod placing;
+
+pub use crate::placing::{Stretch, StretchesOnFlash, len_with_stretches, put_with_stretches};

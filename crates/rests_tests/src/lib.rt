@@ -12,3 +12,5 @@ mod found;
 mod growth;
 #[cfg(test)]
 mod images;
+#[cfg(test)]
+mod placed;
