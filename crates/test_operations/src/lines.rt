@@ -18,6 +18,22 @@ pub struct By {
     pub gid: u16,
 }
 
+/// At time 0, for owners 0.
+pub const BY: By = By {
+    time: 0,
+    uid: 0,
+    gid: 0,
+};
+
+/// A file is made, written, cut, and written behind its end: its nodes go to
+/// `test_support::CUT_PLACES`.
+pub const CUT_LINES: [&str; 4] = [
+    "create /a 644",
+    "write /a 0 10",
+    "truncate /a 4",
+    "write /a 8 1",
+];
+
 /// The first words of a line, and the rest of it.
 fn words(line: &str) -> (&str, &str, &str, &str) {
     let (verb, rest) = line.split_once(' ').unwrap_or((line, ""));
