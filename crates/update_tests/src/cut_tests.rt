@@ -157,7 +157,7 @@ fn survives<E: Order>(alloc: Global, case: &Case, trial: &Trial) -> Result<bool,
         forms: trial.forms,
         rows: trial.rows,
     };
-    let fronts = fronts_of::<E>(alloc, trial.base)?;
+    let fronts = fronts_of::<E>(alloc, trial.base).ok_or("no base")?;
     let ground = trial.ground.image(alloc, &fronts, flash.geometry.block)?;
     let ops = case.ops(alloc)?;
     let (first, rest) = ops.split_at_checked(trial.first).ok_or("too few")?;

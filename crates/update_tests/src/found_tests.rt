@@ -43,7 +43,7 @@ fn are_found<E: Order>(
     if !has_openings(flash) {
         return Err(Fail::from("no openings"));
     }
-    let fronts = fronts_of::<E>(alloc, base)?;
+    let fronts = fronts_of::<E>(alloc, base).ok_or("no base")?;
     let image = ground.image(alloc, &fronts, flash.geometry.block)?;
     let found = openings_in::<E>(alloc, &image, flash, rows)?;
     Ok(are_all(&found, ground, &fronts, rows))

@@ -158,7 +158,7 @@ fn is_tight<E: Order>(alloc: Global, tight: &Tight, ops: &[Op<'_>]) -> Result<bo
     if !has_openings(flash) {
         return Err(Fail::from("no openings"));
     }
-    let fronts = fronts_of::<E>(alloc, NodeForms::Own)?;
+    let fronts = fronts_of::<E>(alloc, NodeForms::Own).ok_or("no base")?;
     let image = AROUND.image(alloc, &fronts, flash.geometry.block)?;
     is_refused_in::<E>(alloc, &image, flash, ops, tight)
 }

@@ -2,7 +2,7 @@
 
 ghost use Rattle.jview.specs.Through.{IsMountThroughOf};
 
-use jlog::{Flash, SessionFault};
+use jlog::Flash;
 use jmount::Mounted;
 use jnode::Order;
 use jpacked::{NodeForms, PackingSession};
@@ -10,7 +10,6 @@ use jscan::{Geometry, Page};
 use jsteps::Op;
 use jthrough::mount_through;
 use std::alloc::{AllocError, Global};
-use std::test::Fail;
 use test_operations::{By, Change, ops_of};
 use test_support::Taker;
 
@@ -109,22 +108,22 @@ fn output_on<E: Order>(
     mounted: &Mounted<'_>,
     forms: NodeForms,
     ops: &[Op<'_>],
-) -> Result<(Vec<u8>, usize, usize), SessionFault>
+) -> Option<(Vec<u8>, usize, usize)>
     requires { IsMountThroughOf E.order 8192 mounted.now }
 {
     let sink = Taker::new(alloc);
     match PackingSession::<E, Taker>::resume(alloc, mounted, FLASH, forms, sink) {
-        Ok(session) => Ok(output_of::<E>(alloc, session, ops)),
-        Err((fault, _)) => Err(fault),
+        Ok(session) => Some(output_of::<E>(alloc, session, ops)),
+        Err(_) => None,
     }
 }
 
 /// The base written onto an empty flash.
-fn base_in<E: Order>(alloc: Global, forms: NodeForms) -> Result<(Vec<u8>, usize, usize), Fail> {
-    let ops = ops_of(alloc, &LINES, FIRST)?;
+fn base_in<E: Order>(alloc: Global, forms: NodeForms) -> Option<(Vec<u8>, usize, usize)> {
+    let ops = ops_of(alloc, &LINES, FIRST).ok()?;
     let mut contents = Vec::new(alloc);
-    let mounted = mount_through::<E>(alloc, &[], FLASH.geometry, &mut contents)?;
-    Ok(output_on::<E>(alloc, &mounted, forms, &ops)?)
+    let mounted = mount_through::<E>(alloc, &[], FLASH.geometry, &mut contents).ok()?;
+    output_on::<E>(alloc, &mounted, forms, &ops)
 }
 
 /// A marker, and other bytes behind it.
@@ -135,14 +134,14 @@ fn marked(alloc: Global, marker: &[u8], behind: &[u8]) -> Result<Vec<u8>, AllocE
     Ok(front)
 }
 
-/// How the begun blocks of a base in these forms begin.
-pub fn fronts_of<E: Order>(alloc: Global, forms: NodeForms) -> Result<Fronts, Fail> {
+/// How the begun blocks of a base in these forms begin; none where a growth is refused.
+pub fn fronts_of<E: Order>(alloc: Global, forms: NodeForms) -> Option<Fronts> {
     let (output, end, entry) = base_in::<E>(alloc, forms)?;
-    let (front, behind) = output.split_at_checked(end).ok_or("no base")?;
-    let (marker, nodes) = front.split_at_checked(MARKER).ok_or("no marker")?;
-    Ok(Fronts {
-        first: marked(alloc, marker, nodes)?,
-        second: marked(alloc, marker, behind)?,
+    let (front, behind) = output.split_at_checked(end)?;
+    let (marker, nodes) = front.split_at_checked(MARKER)?;
+    Some(Fronts {
+        first: marked(alloc, marker, nodes).ok()?,
+        second: marked(alloc, marker, behind).ok()?,
         entry,
     })
 }

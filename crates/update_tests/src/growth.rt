@@ -8,7 +8,7 @@ ghost use Rattle.jview.specs.Through.{IsMountThroughOf};
 
 use crate::checks::expect;
 use crate::grounds::{AROUND, FLASH, fronts_of};
-use crate::sessions::{Rows, Way, openings_in, run_in};
+use crate::sessions::{Rows, Way, openings_in, session_in};
 use byteorder::LittleEndian;
 use jlog::SessionFault;
 use jmount::Mounted;
@@ -39,17 +39,36 @@ type Log<'b> = OpeningSession<LittleEndian, Matcher<'b>>;
 
 /// The image of a ground; none where a growth is refused.
 fn image_of(alloc: Global) -> Option<Vec<u8>> {
-    let fronts = fronts_of::<LittleEndian>(alloc, NodeForms::Packed).ok()?;
+    let fronts = fronts_of::<LittleEndian>(alloc, NodeForms::Packed)?;
     AROUND.image(alloc, &fronts, 8192).ok()
 }
 
-/// What operations put into the openings of an image; none where a growth is refused.
-fn output_of(alloc: Global, image: &[u8], ops: &[Op<'_>]) -> Option<Vec<u8>> {
-    let run = run_in::<LittleEndian>(alloc, image, WAY, Taker::new(alloc), ops).ok()?;
-    match run.stopped {
-        None => Some(run.output),
+/// What operations put in a session; none where a growth is refused.
+fn output_in(
+    alloc: Global,
+    mounted: &Mounted<'_>,
+    row: Vec<Opening>,
+    ops: &[Op<'_>],
+) -> Option<Vec<u8>>
+    requires through { IsMountThroughOf Little 8192 mounted.now }
+    requires row { AreOpeningsOf Little 8192 5 (base_of_mount mounted.now) row.items }
+{
+    let sink = Taker::new(alloc);
+    let mut session = session_in::<LittleEndian>(alloc, mounted, WAY, row, sink).ok()?;
+    let report = session.run(alloc, ops);
+    match report.stopped {
+        None => Some(session.finish().bytes),
         Some(_) => None,
     }
+}
+
+/// What they put into the openings of an image.
+fn output_of(alloc: Global, image: &[u8], ops: &[Op<'_>]) -> Option<Vec<u8>> {
+    let mut contents = Vec::new(alloc);
+    let geometry = FLASH.geometry;
+    let mounted = mount_through::<LittleEndian>(alloc, image, geometry, &mut contents).ok()?;
+    let row = openings_in::<LittleEndian>(alloc, mounted.image(), FLASH, Rows::All).ok()?;
+    output_in(alloc, &mounted, row, ops)
 }
 
 /// How many bytes a session's sink still waits for.

@@ -85,7 +85,7 @@ fn fails_anywhere<E: Order>(alloc: Global, case: &Case) -> Result<bool, Fail> {
         forms: NodeForms::Packed,
         rows: Rows::All,
     };
-    let fronts = fronts_of::<E>(alloc, NodeForms::Packed)?;
+    let fronts = fronts_of::<E>(alloc, NodeForms::Packed).ok_or("no base")?;
     let image = SPOILED.image(alloc, &fronts, flash.geometry.block)?;
     let ops = case.ops(alloc)?;
     let states = case.states(alloc)?;
