@@ -8,7 +8,7 @@ use crate::cases::{Case, LONG, PAGES, SMALL};
 use crate::checks::expect_at;
 use crate::grounds::{AROUND, Ground, SPOILED, fronts_of};
 use crate::placed::{count_of, has_openings, index_of, is_kept, left_after, stretches_of};
-use crate::sessions::{Outcome, Rows, Way, run_in};
+use crate::sessions::{Outcome, Rows, Runs, Way, run_in};
 use byteorder::{BigEndian, LittleEndian};
 use jlog::{Flash, Place};
 use jnode::Order;
@@ -87,7 +87,10 @@ pub fn is_shown_after<E: Order>(
     let written = stops.run.output.get(..count).unwrap_or(&[]);
     let left = left_after(alloc, stops.image, stops.flash, stops.stretches, written)?;
     let places = stops.run.places.as_slice();
-    let whole = places.iter().filter(|it| is_whole(stops, it, count)).count();
+    let whole = places
+        .iter()
+        .filter(|it| is_whole(stops, it, count))
+        .count();
     let state = stops.states.get(whole).ok_or("no state")?;
     Ok(is_kept(stops.image, &left) && shows::<E>(alloc, &left, stops.flash.geometry, state))
 }
@@ -114,13 +117,18 @@ fn image_after<E: Order>(
     requires readable { is_block_size way.flash.geometry.block ≡ true }
     requires small { way.flash.blocks * way.flash.geometry.block ≤ greatest_image }
 {
-    let run = run_in::<E>(alloc, image, way, Taker::new(alloc), ops)?;
+    let runs = Runs {
+        first: ops,
+        second: &[],
+    };
+    let run = run_in::<E>(alloc, image, way, Taker::new(alloc), runs)?;
     let stretches = stretches_of(alloc, &run.row, &run.places, way.flash.geometry.block)?;
     let left = left_after(alloc, image, way.flash, &stretches, &run.output)?;
     Ok((left, run.places.len()))
 }
 
-/// Whether a session puts all operations into an image, and each stop is as it is to be.
+/// Whether a session puts all operations into an image, the first one in a run of its own, and each
+/// stop is as it is to be.
 fn stops_are_whole<E: Order>(
     alloc: Global,
     image: &[u8],
@@ -131,7 +139,9 @@ fn stops_are_whole<E: Order>(
     requires readable { is_block_size way.flash.geometry.block ≡ true }
     requires small { way.flash.blocks * way.flash.geometry.block ≤ greatest_image }
 {
-    let run = run_in::<E>(alloc, image, way, Taker::new(alloc), ops)?;
+    let (first, second) = ops.split_at(ops.len().min(1));
+    let runs = Runs { first, second };
+    let run = run_in::<E>(alloc, image, way, Taker::new(alloc), runs)?;
     let stretches = stretches_of(alloc, &run.row, &run.places, way.flash.geometry.block)?;
     let is_run = run.accepted == ops.len()
         && run.places.len() + 1 == states.len()

@@ -1,6 +1,6 @@
 //! What lies on the flash after bytes went out to openings, and stopped.
 
-ghost use Rattle.std.specs.Prelude.{◌≡◌, ◌≤◌, ◌*◌, true};
+ghost use Rattle.std.specs.Prelude.{◌≡◌, ◌+◌, ◌*◌, ◌<◌, ◌≤◌, true};
 ghost use Rattle.jscan.specs.Image.{is_block_size, greatest_image};
 ghost use Rattle.jopenings.specs.Stretches.{AreStretches};
 
@@ -77,24 +77,32 @@ pub fn index_of(stretches: &[Stretch], place: &Place, size: u32) -> Option<usize
 }
 
 /// Whether a stretch lies in a block from one on, and within it.
-fn is_stretch(stretch: &Stretch, flash: Flash, from: u32) -> bool {
-    from <= stretch.block
-        && stretch.block < flash.blocks
-        && stretch.place.checked_add(stretch.len).is_some_and(|end| end <= flash.geometry.block)
+fn is_stretch(stretch: &Stretch, flash: Flash, from: u32) -> bool
+    ensures above { result ≡ true → from ≤ stretch.now.block }
+    ensures below { result ≡ true → stretch.now.block < flash.blocks }
+    ensures within { result ≡ true
+        → stretch.now.place + stretch.now.len ≤ flash.geometry.block }
+{
+    match stretch.place.checked_add(stretch.len) {
+        Some(end) => {
+            from <= stretch.block && stretch.block < flash.blocks && end <= flash.geometry.block
+        }
+        None => false,
+    }
 }
 
-/// Whether these are stretches of a flash from a block on.
-fn are_stretches(stretches: &[Stretch], flash: Flash, from: u32) -> bool
-    ensures { result ≡ true
-        → AreStretches flash.geometry.block from flash.blocks stretches.now }
+/// Whether these are stretches of a flash.
+fn are_stretches(stretches: &[Stretch], flash: Flash) -> bool
+    ensures { result ≡ true → AreStretches flash.geometry.block 0 flash.blocks stretches.now }
 {
-    match stretches.split_first() {
-        Some((first, rest)) => {
-            is_stretch(first, flash, from)
-                && are_stretches(rest, flash, first.block.wrapping_add(1))
+    let mut from = 0;
+    for stretch in stretches {
+        if !is_stretch(stretch, flash, from) {
+            return false;
         }
-        None => true,
+        from = stretch.block + 1;
     }
+    true
 }
 
 /// The image after these bytes went out to its openings.
@@ -108,7 +116,7 @@ pub fn left_after(
     requires readable { is_block_size flash.geometry.block ≡ true }
     requires small { flash.blocks * flash.geometry.block ≤ greatest_image }
 {
-    if !are_stretches(stretches, flash, 0) {
+    if !are_stretches(stretches, flash) {
         return Err(Fail::from("no stretches"));
     }
     let Flash {

@@ -1,7 +1,7 @@
 //! Operations run into openings of an image. What may fail while a mounted image or a session lives
 //! is a call of its own: each `?` proves anew that all that lives is dropped.
 
-ghost use Rattle.std.specs.Prelude.{◌≡◌, ◌≤◌, ◌*◌, true, IfOk};
+ghost use Rattle.std.specs.Prelude.{◌≡◌, ◌==◌, ◌≤◌, ◌*◌, filter, true, IfOk};
 ghost use Rattle.jscan.specs.Image.{is_block_size, greatest_image};
 ghost use Rattle.jrests.specs.Openings.{AreOpeningsOf};
 ghost use Rattle.jpacked.specs.View.{base_of_mount};
@@ -38,7 +38,15 @@ pub struct Way {
     pub rows: Rows,
 }
 
-/// What runs put, into which openings, how often the sink failed, and what was reported.
+/// Operations of one session, in two runs.
+#[derive(Clone, Copy)]
+pub struct Runs<'r, 'o> {
+    pub first: &'r [Op<'o>],
+    pub second: &'r [Op<'o>],
+}
+
+/// What two runs put, into which openings, how often the sink failed, how many operations were
+/// accepted, where their nodes are, and why each run stopped.
 #[derive(Drop)]
 pub struct Outcome {
     pub row: Vec<Opening>,
@@ -46,14 +54,13 @@ pub struct Outcome {
     pub failures: u64,
     pub accepted: usize,
     pub places: Vec<Place>,
-    pub stopped: Option<SessionFault>,
+    pub stopped: (Option<SessionFault>, Option<SessionFault>),
 }
 
 /// Those of some openings that begin with their blocks.
-fn fronts_in(
-    alloc: Global,
-    openings: &[Opening],
-) -> Result<Vec<Opening>, AllocError> {
+fn fronts_in(alloc: Global, openings: &[Opening]) -> Result<Vec<Opening>, AllocError>
+    ensures { IfOk result (λ fronts. fronts.items ≡ filter (λ o. o.place == 0) openings.now) }
+{
     let mut fronts = Vec::new(alloc);
     for opening in openings {
         if opening.place == 0 {
@@ -64,6 +71,7 @@ fn fronts_in(
 }
 
 /// The openings of an image that a session goes on in.
+#[tactic(auto, using(crate::proofs::RowLemmas::all_open, crate::proofs::RowLemmas::rests_open, crate::proofs::RowLemmas::fronts_open))]
 pub fn openings_in<E: Order>(
     alloc: Global,
     image: &[u8],
@@ -108,16 +116,15 @@ pub fn session_in<E: Order>(
     }
 }
 
-/// Runs the first operation, and then the others, and ends the session.
+/// Runs operations, and ends the session.
 fn run_out<E: Order>(
     alloc: Global,
     mut session: OpeningSession<E, Taker>,
-    ops: &[Op<'_>],
+    runs: Runs<'_, '_>,
 ) -> (RunReport, RunReport, Taker) {
-    let (first, others) = ops.split_at(ops.len().min(1));
-    let one = session.run(alloc, first);
-    let more = session.run(alloc, others);
-    (one, more, session.finish())
+    let first = session.run(alloc, runs.first);
+    let second = session.run(alloc, runs.second);
+    (first, second, session.finish())
 }
 
 fn run_with<E: Order>(
@@ -126,46 +133,46 @@ fn run_with<E: Order>(
     way: Way,
     row: Vec<Opening>,
     sink: Taker,
-    ops: &[Op<'_>],
+    runs: Runs<'_, '_>,
 ) -> Result<(RunReport, RunReport, Taker), SessionFault>
     requires through { IsMountThroughOf E.order way.flash.geometry.block mounted.now }
     requires row { AreOpeningsOf E.order way.flash.geometry.block way.flash.blocks
         (base_of_mount mounted.now) row.items }
 {
     let session = session_in::<E>(alloc, mounted, way, row, sink)?;
-    Ok(run_out::<E>(alloc, session, ops))
+    Ok(run_out::<E>(alloc, session, runs))
 }
 
-/// Two reports, as of one run.
+/// What two runs did.
 fn joined(
     row: Vec<Opening>,
-    one: RunReport,
-    more: RunReport,
+    first: RunReport,
+    second: RunReport,
     sink: Taker,
 ) -> Result<Outcome, AllocError> {
     let RunReport {
         accepted,
         mut places,
         stopped,
-    } = one;
-    places.extend_from_slice(&more.places)?;
+    } = first;
+    places.extend_from_slice(&second.places)?;
     Ok(Outcome {
         row,
         output: sink.bytes,
         failures: sink.failures,
-        accepted: accepted.wrapping_add(more.accepted),
+        accepted: accepted.wrapping_add(second.accepted),
         places,
-        stopped: stopped.or(more.stopped),
+        stopped: (stopped, second.stopped),
     })
 }
 
-/// Runs operations into openings of an image: the first one, and in a second run the others.
+/// Runs operations into openings of an image.
 pub fn run_in<E: Order>(
     alloc: Global,
     image: &[u8],
     way: Way,
     sink: Taker,
-    ops: &[Op<'_>],
+    runs: Runs<'_, '_>,
 ) -> Result<Outcome, Fail>
     requires readable { is_block_size way.flash.geometry.block ≡ true }
     requires small { way.flash.blocks * way.flash.geometry.block ≤ greatest_image }
@@ -174,6 +181,6 @@ pub fn run_in<E: Order>(
     let mounted = mount_through::<E>(alloc, image, way.flash.geometry, &mut contents)?;
     let row = openings_in::<E>(alloc, mounted.image(), way.flash, way.rows)?;
     let openings = row.clone()?;
-    let (one, more, sink) = run_with::<E>(alloc, &mounted, way, row, sink, ops)?;
-    Ok(joined(openings, one, more, sink)?)
+    let (first, second, sink) = run_with::<E>(alloc, &mounted, way, row, sink, runs)?;
+    Ok(joined(openings, first, second, sink)?)
 }

@@ -8,7 +8,7 @@ use crate::checks::expect_at;
 use crate::cut_tests::{Stops, is_shown_after};
 use crate::grounds::{FLASH, SPOILED, fronts_of};
 use crate::placed::{has_openings, index_of, stretches_of};
-use crate::sessions::{Outcome, Rows, Way, run_in};
+use crate::sessions::{Outcome, Rows, Runs, Way, run_in};
 use byteorder::{BigEndian, LittleEndian};
 use jlog::{Place, SessionFault};
 use jnode::Order;
@@ -26,12 +26,16 @@ fn is_out(stops: &Stops<'_>, place: &Place, count: usize) -> bool {
     }
 }
 
-/// Whether runs that a sink broke off put a beginning of what a whole run puts, and tell the places
-/// of its nodes. What follows in the session puts nothing: it is broken.
+/// Whether a run that a sink broke off put a beginning of what a whole run puts, and tells the
+/// places of its nodes, and the run after it puts nothing: the session is broken.
 fn is_broken_off(broken: &Outcome, stops: &Stops<'_>, calls: usize) -> bool {
     let whole = stops.run;
-    let told = whole.places.iter().take_while(|it| is_out(stops, it, calls)).count();
-    matches!(broken.stopped, Some(SessionFault::Sink) | Some(SessionFault::Broken))
+    let told = whole
+        .places
+        .iter()
+        .take_while(|it| is_out(stops, it, calls))
+        .count();
+    broken.stopped == (Some(SessionFault::Sink), Some(SessionFault::Broken))
         && broken.failures == 1
         && broken.output.len() == calls
         && whole.output.starts_with(&broken.output)
@@ -53,7 +57,11 @@ fn fails_once<E: Order>(
     requires way { way.flash ≡ stops.now.flash }
 {
     let sink = Taker::failing(alloc, 1, calls, calls % 2 == 0);
-    let broken = run_in::<E>(alloc, stops.image, way, sink, ops)?;
+    let runs = Runs {
+        first: ops,
+        second: ops,
+    };
+    let broken = run_in::<E>(alloc, stops.image, way, sink, runs)?;
     Ok(is_broken_off(&broken, stops, calls) && is_shown_after::<E>(alloc, stops, calls)?)
 }
 
@@ -89,7 +97,11 @@ fn fails_anywhere<E: Order>(alloc: Global, case: &Case) -> Result<bool, Fail> {
     let image = SPOILED.image(alloc, &fronts, flash.geometry.block)?;
     let ops = case.ops(alloc)?;
     let states = case.states(alloc)?;
-    let run = run_in::<E>(alloc, &image, way, Taker::new(alloc), &ops)?;
+    let runs = Runs {
+        first: &ops,
+        second: &[],
+    };
+    let run = run_in::<E>(alloc, &image, way, Taker::new(alloc), runs)?;
     let stretches = stretches_of(alloc, &run.row, &run.places, flash.geometry.block)?;
     let stops = Stops {
         flash,
