@@ -60,6 +60,13 @@ openings_open e size blocks from image (o ∷ row) words up are =
     let at = opening_at e size (block_of size image o.block) o.place words (block_long size image o.block) are.0 in
     (record { within = up.1; word = at.word; inside = at.inside }, openings_open e size blocks (o.block + 1) image row words up.2 are.1)
 
+-- no more of them than blocks
+few_openings : (from blocks : ℕ) (row : List Opening) → AreUpwards from blocks row → from ≤ blocks → from + length row ≤ blocks
+few_openings from blocks [] up low = omega arith
+few_openings from blocks (o ∷ row) up low =
+    let rest : o.block + 1 + length row ≤ blocks = few_openings (o.block + 1) blocks row up.2 (omega (arith, up.1)) in
+    omega (arith, rest, up.0)
+
 -- ---- what is known where a session begins
 
 pub record BeginsIn (page : Page) (e : Endian) (size blocks : ℕ) (m : Mount) (row : List Opening) : Type 0 where
@@ -77,7 +84,7 @@ begins_in page e size blocks at m row through bytes goes openings =
     record {
       writable = known.writable;
       holds = known.holds;
-      going = record { openings = openings_open e size blocks 0 m.image row words openings.upwards openings.each; consistent = known.going.consistent };
+      going = record { openings = openings_open e size blocks 0 m.image row words openings.upwards openings.each; few = omega (arith, few_openings 0 blocks row openings.upwards (omega arith)); consistent = known.going.consistent };
       done = subst (λ (x : Indexed). GoesOnInOpenings (flash_by (page_size page) e size blocks) m.image row [] [] row x) (sym index)
           (openings_begin (flash_by (page_size page) e size blocks) m.image row known.done.is_base openings);
     }

@@ -226,6 +226,18 @@ pub all_stay_open : (size blocks : ℕ) (row : List Opening) (xs : List (List �
 all_stay_open size blocks row [] words ok all = all
 all_stay_open size blocks row (x ∷ xs) words ok all = all_stay_open size blocks (row_after size row x) xs words ok.1 (row_stays_open size blocks row x words ok.0 all)
 
+-- and no more come
+fewer : (size : ℕ) (row : List Opening) (x : List ℕ) → length (row_after size row x) ≤ length row
+fewer size [] x = omega arith
+fewer size (o ∷ row) x = elim (cases_Bool (takes size o x)) [
+  | inl inside ↦ omega (arith, ap length (after_taken size o row x inside))
+  | inr outside ↦ omega (arith, ap length (after_missed size o row x outside), fewer size row x)
+]
+
+pub no_more : (size : ℕ) (row : List Opening) (xs : List (List ℕ)) → length (row_after_all size row xs) ≤ length row
+no_more size row [] = omega arith
+no_more size row (x ∷ xs) = omega (arith, no_more size (row_after size row x) xs, fewer size row x)
+
 -- what was reached is open as well
 pub reached_open : (size blocks len : ℕ) (row : List Opening) (o : Opening) (rest : List Opening) → AllByRecursion (IsOpen size blocks) row → reached size row len ≡ o ∷ rest → IsOpen size blocks o
 reached_open size blocks len [] o rest all is = cc

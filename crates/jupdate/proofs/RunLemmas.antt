@@ -1,5 +1,5 @@
 -- Operations of a session in a row of openings, one after another.
-use Rattle.std.proofs.Common.{◌≡◌, ℕ, suc, ◌+◌, ◌%◌, ◌<◌, ◌≤◌, Bool, List, [], ◌∷◌, ◌++◌, length, get_or, refl, sym, subst, ◌∙◌, arith, Option, Some, None, Result, Ok, Err, inl, inr}
+use Rattle.std.proofs.Common.{◌≡◌, ℕ, suc, ◌+◌, ◌%◌, ◌<◌, ◌≤◌, Bool, List, [], ◌∷◌, ◌++◌, length, get_or, refl, sym, ap, subst, ◌∙◌, arith, Option, Some, None, Result, Ok, Err, inl, inr}
 use Rattle.std.specs.Prelude.{IsTrue, IsFalse}
 use Rattle.std.specs.List.{AllByRecursion}
 use Rattle.std.specs.Io.KnownBytes.{Appends}
@@ -41,7 +41,7 @@ use Rattle.jupdate.specs.View.{HoldsAfterIn}
 use Rattle.jupdate.specs.Writing.{log_in}
 use Rattle.jupdate.proofs.Parts.{PutBy, PutsBy}
 use Rattle.jupdate.proofs.PutLemmas.{put_then}
-use Rattle.jupdate.proofs.RowLemmas.{all_stay_open}
+use Rattle.jupdate.proofs.RowLemmas.{all_stay_open, no_more}
 
 -- a session in a row, by its parts
 abbrev pub state_in : List Opening → Indexed → Bool → List Place → StateIn
@@ -79,6 +79,7 @@ going_on page e size blocks from end x y steps streams is_page room words going 
     let ok = forms_fit_blocks page e size x steps forms is_page room can (made_forms e (nodes_of x steps) streams made) in
     record {
       openings = subst (AllByRecursion (IsOpen size blocks)) (sym end_is) (all_stay_open size blocks from forms words ok going.openings);
+      few = omega (arith, ap length end_is, no_more size from forms, going.few);
       consistent = subst IsConsistent (sym index_is) same;
     }
 

@@ -1,4 +1,5 @@
 pub mod Accepting
+pub mod OneProof
 pub mod Rows
 pub mod SessionIn
 pub mod View

@@ -11,6 +11,7 @@ ghost use Rattle.jrests.specs.Openings.{AreOpeningsOf};
 ghost use Rattle.jview.specs.Through.{greatest_contents, IsMountThroughOf};
 ghost use Rattle.jlog.specs.declared.fault.SessionFault.TheVariants.{OutOfMemory};
 ghost use Rattle.jpacked.specs.Forms.{is_packed};
+ghost use Rattle.jupdate.specs.OneProof.{one_going};
 ghost use Rattle.jupdate.specs.Rows.{left_at};
 ghost use Rattle.jupdate.specs.SessionIn.{IsGoingIn};
 
@@ -47,7 +48,7 @@ pub struct OpeningSession<E: Order, S: Sink> {
     ghost flash: { IsTrue (is_writable_flash block blocks) },
     ghost holds: { page_size page + 80 ≤ block },
     ghost going: { IsFalse broken
-        → IsGoingIn block blocks (left_at log.openings.items log.cursor) log.index },
+        → IsGoingIn block blocks (left_at log.openings.items log.cursor) log.index } by { one_going broken block blocks (left_at log.openings.items log.cursor) log.index },
     ghost few: { held ≤ greatest_contents },
 }
 
