@@ -173,8 +173,10 @@ fn survives<E: Order>(alloc: Global, case: &Case, trial: &Trial) -> Result<bool,
     let (first, rest) = ops.split_at_checked(trial.first).ok_or("too few")?;
     let (image, done) = image_after::<E>(alloc, &ground, way, first)?;
     let states = case.states(alloc)?;
-    let after = states.get(done..).unwrap_or(&[]);
-    stops_are_whole::<E>(alloc, &image, way, rest, after)
+    match states.get(done..) {
+        Some(after) => stops_are_whole::<E>(alloc, &image, way, rest, after),
+        None => Err(Fail::from("too many nodes")),
+    }
 }
 
 fn all_survive(rt: &impl Abort, alloc: Global, cases: &[Case], trial: &Trial) -> Result<(), Fail> {
