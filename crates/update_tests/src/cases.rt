@@ -119,7 +119,7 @@ const OTHERS: Case = Case {
     ],
 };
 
-/// By each page.
+/// Short ones, whose nodes fit into one opening.
 pub const SMALL: &[Case] = &[FILES, NAMES, BYTES, OTHERS];
 
 /// Files of several pages, that are packed.
