@@ -12,6 +12,8 @@ pub mod happened;
 mod host;
 #[cfg(test)]
 mod info;
+#[cfg(test)]
+mod looks;
 pub mod plan;
 #[cfg(test)]
 mod shown;

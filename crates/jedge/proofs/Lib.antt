@@ -2,4 +2,6 @@ pub mod BlamingLemmas
 pub mod CostLemmas
 pub mod JudgingLemmas
 pub mod LookingLemmas
+pub mod ShowingLemmas
 pub mod Steps
+pub mod ViewLemmas

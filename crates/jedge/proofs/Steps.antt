@@ -10,7 +10,8 @@ use Rattle.flashbase.specs.declared.source.DeviceFault.{DeviceFault}
 use Rattle.jedge.specs.Acts.{Act, Then, Ends, GoesOn, DoesFrom, CountsOutput, PutsBy, Saying, answers, and_closed, IsPrintedInPart, closes, closes_errors, prints, prints_put, says, seen_as}
 use Rattle.jedge.specs.Calls.{Answers, Errors, Event, printed, Failed, Print}
 use Rattle.jcommand.specs.declared.outcome.Outcome.{Outcome}
-use Rattle.jedge.specs.Commands.{Told, ends, reported}
+use Rattle.jedge.specs.Commands.{ends, reported}
+use Rattle.jedge.specs.Told.{Told}
 use Rattle.jedge.specs.declared.fault.Fault.{Fault}
 use Rattle.jedge.specs.declared.fault.Fault.TheVariants as fault
 

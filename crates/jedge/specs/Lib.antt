@@ -4,3 +4,6 @@ pub mod Commands
 pub mod Faults
 pub mod Images
 pub mod Laws
+pub mod Showing
+pub mod Told
+pub mod Views

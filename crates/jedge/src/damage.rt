@@ -2,7 +2,8 @@
 ghost use Rattle.std.specs.Prelude.{◌≡◌, option_map};
 ghost use Rattle.jscan.specs.Scans.{IsScannable};
 ghost use Rattle.jedge.specs.Acts.{DoesFrom, prints, seen_as};
-ghost use Rattle.jedge.specs.Commands.{Costs, costs_found, damage_act, either, examined, findings_noted, found_told, note_text};
+ghost use Rattle.jedge.specs.Commands.{Costs, costs_found, damage_act, either, examined, findings_noted};
+ghost use Rattle.jedge.specs.Told.{found_told, note_text};
 
 use crate::fault::Fault;
 use crate::found::{Found, Note, finished};

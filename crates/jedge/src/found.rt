@@ -12,6 +12,8 @@ pub enum Note {
     Container(Container),
     /// The image has so many findings.
     Findings(u64),
+    /// No node is found in the image; in the other byte order there are `others`.
+    NoNodes { findings: u64, others: u64 },
 }
 
 /// How much a command found of what it looks for, and what is noted.

@@ -5,7 +5,8 @@ ghost use Rattle.jscan.specs.Image.{greatest_image};
 ghost use Rattle.jinfo.specs.InfoText.{info_text};
 ghost use Rattle.jinfo.specs.Infos.{order_of};
 ghost use Rattle.jedge.specs.Acts.{DoesFrom, PutsBy, Whole, seen_as};
-ghost use Rattle.jedge.specs.Commands.{info_act, informed, found_told};
+ghost use Rattle.jedge.specs.Commands.{info_act, informed};
+ghost use Rattle.jedge.specs.Told.{found_told};
 
 use crate::fault::Fault;
 use crate::found::{Found, Note, finished};

@@ -6,6 +6,8 @@
 //! each command, as its manual page has it.
 #![tactic(auto)]
 
+pub mod cat;
+pub mod check;
 pub mod commands;
 pub mod damage;
 pub mod fault;
@@ -13,6 +15,8 @@ pub mod found;
 pub mod host;
 pub mod info;
 pub mod laws;
+pub mod list;
 pub mod mounting;
 pub mod reading;
 pub mod reporting;
+pub mod subject;

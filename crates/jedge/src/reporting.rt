@@ -2,8 +2,9 @@
 ghost use Rattle.std.specs.Prelude.{◌≡◌, ℕ, List, Ok, Err, Some, option_map};
 ghost use Rattle.flashbase.specs.Sinks.{PutsTo};
 ghost use Rattle.jedge.specs.Acts.{DoesFrom, says, seen_as};
-ghost use Rattle.jedge.specs.Commands.{ends, note_text, found_told};
+ghost use Rattle.jedge.specs.Commands.{ends};
 ghost use Rattle.jedge.specs.Faults.{TellsFault};
+ghost use Rattle.jedge.specs.Told.{found_told, note_text};
 
 use crate::fault::Fault;
 use crate::found::{Found, Note};
@@ -11,7 +12,7 @@ use crate::host::Host;
 use flashbase::{DeviceFault, Sink};
 use jcommand::Outcome;
 use jinfo::put_container_note;
-use jreport::{put_fault_and_note, put_note};
+use jreport::{put_fault_and_note, put_none_notes, put_note};
 
 /// Puts the lines of a fault.
 fn put_fault<T: Sink>(fault: &Fault, sink: &mut T) -> Result<(), DeviceFault>
@@ -38,6 +39,7 @@ fn put_noted<T: Sink>(note: Note, sink: &mut T) -> Result<(), DeviceFault>
     match note {
         Note::Container(container) => put_container_note(Some(container), sink),
         Note::Findings(findings) => put_note(findings, sink),
+        Note::NoNodes { findings, others } => put_none_notes(findings, others, sink),
     }
 }
 
