@@ -7,6 +7,8 @@ mod calls;
 mod checks;
 #[cfg(test)]
 mod damage;
+#[cfg(test)]
+mod diff;
 pub mod happened;
 #[cfg(test)]
 mod host;

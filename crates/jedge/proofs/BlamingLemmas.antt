@@ -1,5 +1,5 @@
 -- A fault is an event.
-use Rattle.std.proofs.Common.{◌≡◌, ◌⊎◌, ℕ, Bool, List, [], ◌∷◌, ◌++◌, Option, None, Some, Result, Ok, Err, arith, sym, ap, subst, inl, inr, ◌∙◌, refl}
+use Rattle.std.proofs.Common.{◌≡◌, ℕ, Bool, List, [], ◌∷◌, ◌++◌, Option, None, Some, Result, Ok, Err, arith, sym, ap, subst, inl, inr, ◌∙◌, refl}
 use Rattle.jcommand.specs.declared.parsed.Options.{Options}
 use Rattle.jnode.specs.declared.order.Endian.{Endian}
 use Rattle.flashbase.specs.Device.{next_count}
@@ -17,8 +17,9 @@ use Rattle.jreport.specs.declared.faults.ProgramFault.{ProgramFault}
 use Rattle.jreport.specs.declared.faults.ProgramFault.TheVariants as program
 use Rattle.jscan.specs.Image.{nodes}
 use Rattle.jedge.specs.Acts.{Act, CountsOutput, Then, Ends, GoesOn, IsPrintedInPart, IsUnfinished, Saying, Whole, and_closed, answers, closes, loads, opens, prints, reads_whole}
-use Rattle.jedge.specs.Calls.{Event, Stream, Answers, Failed, Open, Print, ReadPart, printed}
-use Rattle.jedge.specs.Commands.{Cat, Check, Damage, Info, Ls, cat_act, check_act, damage_act, info_act, list_act, shown_told}
+use Rattle.jedge.specs.Calls.{Event, Answers, Failed, Open, Print, ReadPart, printed}
+use Rattle.jedge.specs.Commands.{Cat, Check, Damage, Diff, Info, Ls, cat_act, check_act, compares, damage_act, diff_act, info_act, list_act, shown_told}
+use Rattle.jedge.specs.Comparing.{Differs, compared}
 use Rattle.jedge.specs.Images.{HasNodes, MountsOrRefuses}
 use Rattle.jedge.specs.Showing.{Checks, Contains, Lists, NamesNothing}
 use Rattle.jedge.specs.Told.{Told}
@@ -184,13 +185,13 @@ contains_unnamed content told text (fault.Refused why) is = content_of_bytes con
 contains_unnamed content told text fault.Output is = tt
 contains_unnamed content told text fault.OutOfMemory is = tt
 
-nodes_blame : (e : Endian) (size : ℕ) (image : List ℕ) → BlamesFailed (answers (HasNodes e size None image))
-nodes_blame e size image events (fault.File file) is = absurd is.1
-nodes_blame e size image events (fault.NotRead file) is = absurd is.1
-nodes_blame e size image events (fault.NoNodes of others) is = tt
-nodes_blame e size image events (fault.Refused why) is = absurd is.1
-nodes_blame e size image events fault.Output is = absurd is.1
-nodes_blame e size image events fault.OutOfMemory is = tt
+nodes_blame : (e : Endian) (size : ℕ) (name : Option (List ℕ)) (image : List ℕ) → BlamesFailed (answers (HasNodes e size name image))
+nodes_blame e size name image events (fault.File file) is = absurd is.1
+nodes_blame e size name image events (fault.NotRead file) is = absurd is.1
+nodes_blame e size name image events (fault.NoNodes of others) is = tt
+nodes_blame e size name image events (fault.Refused why) is = absurd is.1
+nodes_blame e size name image events fault.Output is = absurd is.1
+nodes_blame e size name image events fault.OutOfMemory is = tt
 
 mounts_blame : (e : Endian) (size : ℕ) (image : List ℕ) → BlamesFailed (answers (MountsOrRefuses e size image))
 mounts_blame e size image events (fault.File file) is = absurd is.1
@@ -272,8 +273,28 @@ info_blames name = then_blames (loads name) _ (loads_blames name) (λ (image : L
 
 damage_blames : (options : Options) (name : List ℕ) → BlamesFailed (damage_act options name)
 damage_blames options name = then_blames (loads name) _ (loads_blames name)
-    (λ (image : List ℕ). then_blames _ _ (nodes_blame options.endian options.geometry.block image)
+    (λ (image : List ℕ). then_blames _ _ (nodes_blame options.endian options.geometry.block None image)
     (λ _. then_blames _ _ (mounts_blame options.endian options.geometry.block image) (λ _. whole_blames _ _)))
+
+differs_unnamed : (times : Bool) (left right : Mount) (answer : ℕ → Told) → Unnamed (Differs times left right answer)
+differs_unnamed times left right answer text (fault.File file) is = absurd is
+differs_unnamed times left right answer text (fault.NotRead file) is = absurd is
+differs_unnamed times left right answer text (fault.NoNodes of others) is = absurd is
+differs_unnamed times left right answer text (fault.Refused why) is = absurd is
+differs_unnamed times left right answer text fault.Output is = tt
+differs_unnamed times left right answer text fault.OutOfMemory is = tt
+
+compare_blames : (e : Endian) (size : ℕ) (times : Bool) (first second image other : List ℕ) → BlamesFailed (compares e size times first second image other)
+compare_blames e size times first second image other = then_blames _ _ (nodes_blame e size (Some first) image) (λ _.
+    then_blames _ _ (nodes_blame e size (Some second) other) (λ _.
+    then_blames _ _ (mounts_blame e size image) (λ (left : Mount).
+    then_blames _ _ (mounts_blame e size other) (λ (right : Mount).
+    prints_blames _ (differs_unnamed times left right (compared first second left right))))))
+
+diff_blames : (options : Options) (times : Bool) (first second : List ℕ) → BlamesFailed (diff_act options times first second)
+diff_blames options times first second = then_blames (loads first) _ (loads_blames first) (λ (image : List ℕ).
+    then_blames (loads second) _ (loads_blames second) (λ (other : List ℕ).
+    compare_blames options.endian options.geometry.block times first second image other))
 
 pub blamed_is_failed : BlamedIsFailed
 blamed_is_failed (Check options shape name) = check_blames options shape name
@@ -281,3 +302,4 @@ blamed_is_failed (Ls options decompress name word) = list_blames options decompr
 blamed_is_failed (Cat options decompress name word) = cat_blames options decompress name word
 blamed_is_failed (Info name) = info_blames name
 blamed_is_failed (Damage options name) = damage_blames options name
+blamed_is_failed (Diff options times first second) = diff_blames options times first second

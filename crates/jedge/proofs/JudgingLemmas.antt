@@ -1,15 +1,18 @@
 -- What is refused is refused before anything is printed.
-use Rattle.std.proofs.Common.{◌≡◌, ℕ, Bool, Option, List, [], ◌∷◌, ◌++◌, None, Result, Ok, Err, sym, ap, subst, inl, inr, ◌∙◌, refl}
+use Rattle.std.proofs.Common.{◌≡◌, ◌⊎◌, ℕ, Bool, Option, List, [], ◌∷◌, ◌++◌, Result, Ok, Err, sym, ap, subst, inl, inr, ◌∙◌, refl}
 use Rattle.jcommand.specs.declared.parsed.Options.{Options}
 use Rattle.jnode.specs.declared.order.Endian.{Endian}
 use Rattle.jmount.specs.Mount.{Mount}
 use Rattle.jmount.specs.Tree.{State}
 use Rattle.jreport.specs.Content.{content_of}
+use Rattle.jmount.specs.declared.fault.MountFault.TheVariants as mount
 use Rattle.jreport.specs.declared.faults.ProgramFault.{ProgramFault}
-use Rattle.jedge.specs.Acts.{Act, Then, Ends, GoesOn, IsPrintedInPart, Saying, Whole, and_closed, answers, closes, loads, opens, prints, reads_whole}
+use Rattle.jreport.specs.declared.faults.ProgramFault.TheVariants as program
+use Rattle.jedge.specs.Acts.{Act, Then, Ends, GoesOn, Saying, Whole, and_closed, answers, closes, loads, opens, prints, reads_whole}
 use Rattle.jedge.specs.Calls.{Event, Answers, Did, Failed, Print, printed}
-use Rattle.jedge.specs.Commands.{cat_act, check_act, list_act, shown_told}
-use Rattle.jedge.specs.Laws.{ComesFirst, IsLateInCheck, IsLateInList, JudgedFirst, JudgesFirst, JudgesFirstBut, NonePrinted}
+use Rattle.jedge.specs.Commands.{Cat, Check, Damage, Diff, Info, Ls, cat_act, check_act, damage_act, diff_act, info_act, list_act, shown_told}
+use Rattle.jedge.specs.Comparing.{Differs, compared}
+use Rattle.jedge.specs.Laws.{ComesFirst, JudgedFirst, JudgesFirst, JudgesFirstBut, NonePrinted}
 use Rattle.jedge.specs.Showing.{Checks, Contains, Lists}
 use Rattle.jedge.specs.Told.{Told}
 use Rattle.jedge.specs.Views.{Viewed, views}
@@ -160,7 +163,7 @@ prints_first_but : {A : Type 0} (Late : Fault → Type 0) (Says : Saying A) → 
 prints_first_but Late Says unput events f not (inl put) = put_first Says put.text put.failures events f put.answer put.closed put.says (unput put.text f not) put.out put.comes_to
 prints_first_but Late Says unput events f not (inr none) = none_first f events (same none.0 tt)
 
-lists_unput : (s : State) (part : Option (List ℕ)) (told : Told) (text : List ℕ) (f : Fault) → (IsLateInList f → ⊥) → Lists s part told text (Err f) → IsUnput f text
+lists_unput : (s : State) (part : Option (List ℕ)) (told : Told) (text : List ℕ) (f : Fault) → (f ≡ fault.OutOfMemory → ⊥) → Lists s part told text (Err f) → IsUnput f text
 lists_unput s part told text (fault.File file) not is = absurd is
 lists_unput s part told text (fault.NotRead file) not is = absurd is
 lists_unput s part told text (fault.NoNodes of others) not is = absurd is
@@ -168,7 +171,11 @@ lists_unput s part told text (fault.Refused why) not is = is.1
 lists_unput s part told text fault.Output not is = tt
 lists_unput s part told text fault.OutOfMemory not is = absurd (not refl)
 
-checks_unput : (e : Endian) (size : ℕ) (shape : Bool) (image text : List ℕ) (f : Fault) → (IsLateInCheck f → ⊥) → Checks e size shape image text (Err f) → IsUnput f text
+-- memory is wanted behind the report too
+abbrev pub IsWanting : Fault → Type 0
+IsWanting f = (f ≡ fault.OutOfMemory) ⊎ (f ≡ fault.Refused (program.Mount mount.OutOfMemory))
+
+checks_unput : (e : Endian) (size : ℕ) (shape : Bool) (image text : List ℕ) (f : Fault) → (IsWanting f → ⊥) → Checks e size shape image text (Err f) → IsUnput f text
 checks_unput e size shape image text (fault.File file) not is = absurd is
 checks_unput e size shape image text (fault.NotRead file) not is = absurd is
 checks_unput e size shape image text (fault.NoNodes of others) not is = absurd is
@@ -190,23 +197,43 @@ cat_first options decompress name word = then_first _ _ (answers_silent _) (λ (
     then_first _ _ (answers_silent _) (λ (m : Mount).
     prints_first _ (contains_unput (content_of m.state path) (shown_told view m)))))
 
-list_first : (options : Options) (decompress : Bool) (name : List ℕ) (word : Option (List ℕ)) → JudgesFirstBut IsLateInList (list_act options decompress name word)
+list_first : (options : Options) (decompress : Bool) (name : List ℕ) (word : Option (List ℕ)) → JudgesFirstBut (λ f. f ≡ fault.OutOfMemory) (list_act options decompress name word)
 list_first options decompress name word = then_first_but _ _ _ (answers_silent _) (λ (part : Option (List ℕ)).
     then_first_but _ _ _ (views_silent options.endian options.geometry.block decompress name) (λ (view : Viewed).
     then_first_but _ _ _ (answers_silent _) (λ (m : Mount). prints_first_but _ _ (lists_unput m.state part (shown_told view m)))))
 
-check_first : (options : Options) (shape : Bool) (name : List ℕ) → JudgesFirstBut IsLateInCheck (check_act options shape name)
+differs_unput : (times : Bool) (left right : Mount) (answer : ℕ → Told) (text : List ℕ) (f : Fault) → (f ≡ fault.OutOfMemory → ⊥) → Differs times left right answer text (Err f) → IsUnput f text
+differs_unput times left right answer text (fault.File file) not is = absurd is
+differs_unput times left right answer text (fault.NotRead file) not is = absurd is
+differs_unput times left right answer text (fault.NoNodes of others) not is = absurd is
+differs_unput times left right answer text (fault.Refused why) not is = absurd is
+differs_unput times left right answer text fault.Output not is = tt
+differs_unput times left right answer text fault.OutOfMemory not is = absurd (not refl)
+
+diff_first : (options : Options) (times : Bool) (first second : List ℕ) → JudgesFirstBut (λ f. f ≡ fault.OutOfMemory) (diff_act options times first second)
+diff_first options times first second = then_first_but _ (loads first) _ (loads_silent first) (λ (image : List ℕ).
+    then_first_but _ (loads second) _ (loads_silent second) (λ (other : List ℕ).
+    then_first_but _ _ _ (answers_silent _) (λ _. then_first_but _ _ _ (answers_silent _) (λ _.
+    then_first_but _ _ _ (answers_silent _) (λ (left : Mount). then_first_but _ _ _ (answers_silent _) (λ (right : Mount).
+    prints_first_but _ _ (differs_unput times left right (compared first second left right))))))))
+
+check_first : (options : Options) (shape : Bool) (name : List ℕ) → JudgesFirstBut IsWanting (check_act options shape name)
 check_first options shape name = then_first_but _ (opens name) _ (opens_silent name) (λ (opened : List ℕ).
     then_first_but _ _ _ (answers_silent _) (λ _.
     then_first_but _ (reads_whole opened) _ (reads_silent opened) (λ (image : List ℕ).
     prints_first_but _ _ (checks_unput options.endian options.geometry.block shape image))))
 
+info_first : (name : List ℕ) → JudgesFirst (info_act name)
+info_first name = then_first (loads name) _ (loads_silent name) (λ (image : List ℕ). whole_first _ _)
+
+damage_first : (options : Options) (name : List ℕ) → JudgesFirst (damage_act options name)
+damage_first options name = then_first (loads name) _ (loads_silent name)
+    (λ (image : List ℕ). then_first _ _ (answers_silent _) (λ _. then_first _ _ (answers_silent _) (λ _. whole_first _ _)))
+
 pub judged_first : JudgedFirst
-judged_first = (
-  (λ (name : List ℕ). then_first (loads name) _ (loads_silent name) (λ (image : List ℕ). whole_first _ _)),
-  (λ (options : Options) (name : List ℕ). then_first (loads name) _ (loads_silent name)
-      (λ (image : List ℕ). then_first _ _ (answers_silent _) (λ _. then_first _ _ (answers_silent _) (λ _. whole_first _ _)))),
-  cat_first,
-  list_first,
-  check_first,
-)
+judged_first (Check options shape name) = check_first options shape name
+judged_first (Ls options decompress name word) = list_first options decompress name word
+judged_first (Cat options decompress name word) = λ events f not did. cat_first options decompress name word events f did
+judged_first (Info name) = λ events f not did. info_first name events f did
+judged_first (Damage options name) = λ events f not did. damage_first options name events f did
+judged_first (Diff options times first second) = diff_first options times first second

@@ -1,4 +1,5 @@
 pub mod BlamingLemmas
+pub mod ComparingLemmas
 pub mod CostLemmas
 pub mod JudgingLemmas
 pub mod LookingLemmas

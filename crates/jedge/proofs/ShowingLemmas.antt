@@ -1,5 +1,5 @@
 -- What is printed of an image that is looked at, as calls put it into a sink.
-use Rattle.std.proofs.Common.{◌≡◌, ℕ, Bool, true, false, List, [], Option, None, Some, Ok, Err, arith, inl, inr, refl, sym, ◌∙◌}
+use Rattle.std.proofs.Common.{◌≡◌, ℕ, Bool, List, [], Option, None, Some, Ok, Err, arith, inl, inr, refl, sym, ◌∙◌}
 use Rattle.std.specs.Prelude.{Result, take}
 use Rattle.std.proofs.lemmas.Bool.{true≢false}
 use Rattle.flashbase.specs.Device.{next_count}

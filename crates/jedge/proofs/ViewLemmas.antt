@@ -1,6 +1,6 @@
 -- What a command goes on with that shows an image.
-use Rattle.std.proofs.Common.{◌≡◌, ◌∙◌, ℕ, Bool, true, false, List, Option, None, Some, Ok, Err, refl, sym, subst}
-use Rattle.std.specs.Prelude.{Result, option_map}
+use Rattle.std.proofs.Common.{◌≡◌, ℕ, Bool, true, false, List, Option, None, Some, Ok, Err, refl, sym, subst}
+use Rattle.std.specs.Prelude.{Result}
 use Rattle.jnode.specs.declared.order.Endian.{Endian}
 use Rattle.jmount.specs.declared.fault.FindFault.TheVariants as find
 use Rattle.jreport.specs.NoNodes.{TellsNone}

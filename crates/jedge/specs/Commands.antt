@@ -18,10 +18,11 @@ use Rattle.jreport.specs.NoNodes.{none_notes_of}
 use Rattle.jreport.specs.Notes.{note_line_of, noted as findings}
 use Rattle.jedge.specs.Acts.{Act, IsSaidBy, Saying, Then, Whole, answers, loads, opens, prints, reads_whole}
 use Rattle.jedge.specs.Calls.{Event}
+use Rattle.jedge.specs.Comparing.{Differs, compared}
 use Rattle.jedge.specs.Faults.{TellsFault}
 use Rattle.jedge.specs.Images.{HasNodes, MountsOrRefuses}
 use Rattle.jedge.specs.Showing.{Checks, Contains, Lists}
-use Rattle.jedge.specs.Told.{Told}
+use Rattle.jedge.specs.Told.{Told, either}
 use Rattle.jedge.specs.Views.{HasBlockSize, NamesPart, NamesPath, Viewed, views}
 use Rattle.jedge.specs.declared.fault.Fault.{Fault}
 use Rattle.jedge.specs.declared.fault.Fault.TheVariants as fault
@@ -70,10 +71,6 @@ abbrev pub info_act : List ℕ → Act Told
 info_act name = Then (loads name) (λ image. prints (Whole (info_text image) (informed image)))
 
 -- ---- `damage`
-
--- of two numbers of things found one that is not zero, if there is one
-abbrev pub either : ℕ → ℕ → ℕ
-either n m = if n == 0 then m else n
 
 -- the note on so many findings
 abbrev pub findings_noted : ℕ → Option (List ℕ)
@@ -164,6 +161,27 @@ cats e size decompress name word =
 abbrev pub cat_act : Options → Bool → List ℕ → List ℕ → Act Told
 cat_act options = cats options.endian options.geometry.block
 
+-- ---- `diff`
+
+-- of two images in which nodes are found both are mounted, and the lines on their trees are printed
+abbrev pub compares : Endian → ℕ → Bool → List ℕ → List ℕ → List ℕ → List ℕ → Act Told
+compares e size times first second image other =
+    Then (answers (HasNodes e size (Some first) image)) (λ _.
+    Then (answers (HasNodes e size (Some second) other)) (λ _.
+    Then (answers (MountsOrRefuses e size image)) (λ left.
+    Then (answers (MountsOrRefuses e size other)) (λ right.
+    prints (Differs times left right (compared first second left right))))))
+
+-- the files of two names are read, and their images compared
+abbrev pub diffs : Endian → ℕ → Bool → List ℕ → List ℕ → Act Told
+diffs e size times first second =
+    Then (loads first) (λ image.
+    Then (loads second) (λ other.
+    compares e size times first second image other))
+
+abbrev pub diff_act : Options → Bool → List ℕ → List ℕ → Act Told
+diff_act options = diffs options.endian options.geometry.block
+
 -- ---- all commands
 
 -- a command, and what it is given
@@ -173,6 +191,7 @@ pub data Command : Type 0 where
   Cat : Options → Bool → List ℕ → List ℕ → Command
   Info : List ℕ → Command
   Damage : Options → List ℕ → Command
+  Diff : Options → Bool → List ℕ → List ℕ → Command
 
 abbrev pub act_of : Command → Act Told
 act_of (Check options shape name) = check_act options shape name
@@ -180,3 +199,4 @@ act_of (Ls options decompress name word) = list_act options decompress name word
 act_of (Cat options decompress name word) = cat_act options decompress name word
 act_of (Info name) = info_act name
 act_of (Damage options name) = damage_act options name
+act_of (Diff options times first second) = diff_act options times first second

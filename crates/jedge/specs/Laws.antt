@@ -1,6 +1,5 @@
 -- What is true of the acts of all commands.
-use Rattle.std.specs.Prelude.{◌≡◌, ◌⊎◌, ℕ, Bool, List, [], ◌∷◌, Option, Result, Err, string_bytes}
-use Rattle.jcommand.specs.declared.parsed.Options.{Options}
+use Rattle.std.specs.Prelude.{◌≡◌, ◌⊎◌, ℕ, List, [], ◌∷◌, Result, Err, string_bytes}
 use Rattle.jlog.specs.declared.fault.SessionFault.TheVariants as session
 use Rattle.flashbase.specs.declared.source.LoadFault.TheVariants as load
 use Rattle.jmount.specs.declared.fault.MountFault.TheVariants as mount
@@ -9,7 +8,7 @@ use Rattle.jreport.specs.declared.faults.ProgramFault.TheVariants as program
 use Rattle.jreport.specs.declared.reason.Reason.{Reason}
 use Rattle.jedge.specs.Acts.{Act}
 use Rattle.jedge.specs.Calls.{Call, Event, Did, Failed, Answers, Errors, Open, Read, ReadPart, Print, Create, Write, Sync, SyncFolder, Rename, Remove, Close}
-use Rattle.jedge.specs.Commands.{Command, act_of, cat_act, check_act, damage_act, info_act, list_act, reported}
+use Rattle.jedge.specs.Commands.{Command, Cat, Check, Damage, Diff, Info, Ls, act_of, reported}
 use Rattle.jedge.specs.declared.fault.Fault.{Fault}
 use Rattle.jedge.specs.declared.fault.Fault.TheVariants as fault
 
@@ -134,26 +133,21 @@ ComesFirst fault.OutOfMemory events = NonePrinted events
 abbrev pub JudgesFirst : {A : Type 0} → Act A → Type 0
 JudgesFirst act = (events : List Event) (f : Fault) → act events (Err f) → ComesFirst f events
 
--- the same of one that may end by such faults when it has printed
+-- the same of one that may also end by such faults when it has printed
 abbrev pub JudgesFirstBut : {A : Type 0} → (Fault → Type 0) → Act A → Type 0
 JudgesFirstBut Late act = (events : List Event) (f : Fault) → (Late f → ⊥) → act events (Err f)
     → ComesFirst f events
 
--- there is no memory for a listing that is begun, or for a mount behind a report
-abbrev pub IsLateInList : Fault → Type 0
-IsLateInList f = f ≡ fault.OutOfMemory
+-- Those of each command: memory alone is wanted later. `ls` and `diff` take it while they print,
+-- and `check` mounts an image behind the report of it.
+abbrev pub IsLate : Command → Fault → Type 0
+IsLate (Check options shape name) f =
+    (f ≡ fault.OutOfMemory) ⊎ (f ≡ fault.Refused (program.Mount mount.OutOfMemory))
+IsLate (Ls options decompress name word) f = f ≡ fault.OutOfMemory
+IsLate (Cat options decompress name word) f = ⊥
+IsLate (Info name) f = ⊥
+IsLate (Damage options name) f = ⊥
+IsLate (Diff options times first second) f = f ≡ fault.OutOfMemory
 
-abbrev pub IsLateInCheck : Fault → Type 0
-IsLateInCheck f = (f ≡ fault.OutOfMemory) ⊎ (f ≡ fault.Refused (program.Mount mount.OutOfMemory))
-
--- Memory alone may be wanting later: `ls` takes it while it prints, and `check` mounts an image
--- behind the report of it.
 abbrev pub JudgedFirst : Type 0
-JudgedFirst = ((name : List ℕ) → JudgesFirst (info_act name))
-    × ((options : Options) (name : List ℕ) → JudgesFirst (damage_act options name))
-    × ((options : Options) (decompress : Bool) (name word : List ℕ)
-    → JudgesFirst (cat_act options decompress name word))
-    × ((options : Options) (decompress : Bool) (name : List ℕ) (word : Option (List ℕ))
-    → JudgesFirstBut IsLateInList (list_act options decompress name word))
-    × ((options : Options) (shape : Bool) (name : List ℕ)
-    → JudgesFirstBut IsLateInCheck (check_act options shape name))
+JudgedFirst = (command : Command) → JudgesFirstBut (IsLate command) (act_of command)

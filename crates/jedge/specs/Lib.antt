@@ -1,6 +1,7 @@
 pub mod Acts
 pub mod Calls
 pub mod Commands
+pub mod Comparing
 pub mod Faults
 pub mod Images
 pub mod Laws

@@ -22,10 +22,10 @@ fn print_bytes<H: Host>(
     host: &mut H,
     mounted: &Mounted<'_>,
     path: &[u8],
-    found: Found,
-) -> Result<Found, Fault>
+    found: Found<'static>,
+) -> Result<Found<'static>, Fault>
     ensures { DoesFrom (H.history host.old) (H.history host.new)
-        (prints (Contains (content_of mounted.now.state path.now) (found_told found)))
+        (prints (Contains (content_of mounted.now.state path.now) (found_told found.entry)))
         (seen_as found_told result) }
 {
     let mut out = match host.output() {
@@ -44,7 +44,7 @@ pub fn cat<E: Order, H: Host>(
     decompress: bool,
     image: &str,
     path: &str,
-) -> Result<Found, Fault>
+) -> Result<Found<'static>, Fault>
     requires { options.endian ≡ E.order }
     ensures { DoesFrom (H.history host.old) (H.history host.new)
         (cat_act options decompress image.now path.now) (seen_as found_told result) }

@@ -27,7 +27,7 @@ fn judge_block_size(geometry: Geometry) -> Result<(), Fault>
 }
 
 /// What a check comes to.
-fn found_checked(found: bool) -> Found
+fn found_checked(found: bool) -> Found<'static>
     ensures { found_told result ≡ found_checked found }
 {
     Found {
@@ -37,7 +37,7 @@ fn found_checked(found: bool) -> Found
 }
 
 /// The same, by what was put of it.
-fn check_found(put: Result<bool, ProgramFault<'static>>) -> Result<Found, Fault>
+fn check_found(put: Result<bool, ProgramFault<'static>>) -> Result<Found<'static>, Fault>
     ensures { seen_as found_told result ≡ check_found put.entry }
 {
     match put {
@@ -52,7 +52,7 @@ fn print_check<E: Order, H: Host>(
     image: &[u8],
     geometry: Geometry,
     shape: bool,
-) -> Result<Found, Fault>
+) -> Result<Found<'static>, Fault>
     requires { IsScannable geometry.block image.now }
     ensures { DoesFrom (H.history host.old) (H.history host.new)
         (prints (Checks E.order geometry.block shape image.now)) (seen_as found_told result) }
@@ -72,7 +72,7 @@ pub fn check<E: Order, H: Host>(
     options: Options,
     shape: bool,
     image: &str,
-) -> Result<Found, Fault>
+) -> Result<Found<'static>, Fault>
     requires { options.endian ≡ E.order }
     ensures { DoesFrom (H.history host.old) (H.history host.new)
         (check_act options shape image.now) (seen_as found_told result) }

@@ -1,16 +1,17 @@
 //! The commands as the program runs them: each is gone through, and its answer told.
 ghost use Rattle.std.specs.Prelude.{◌≡◌, Ok, option_map};
 ghost use Rattle.jedge.specs.Acts.{DoesFrom};
-ghost use Rattle.jedge.specs.Commands.{cat_act, check_act, damage_act, info_act, list_act, reported};
+ghost use Rattle.jedge.specs.Commands.{cat_act, check_act, damage_act, diff_act, info_act, list_act, reported};
 
 use crate::cat::cat;
 use crate::check::check;
 use crate::damage::damage;
+use crate::diff::diff;
 use crate::host::Host;
 use crate::info::info;
 use crate::list::list;
 use crate::reporting::report;
-use jcommand::{Examination, Options, Outcome};
+use jcommand::{Comparison, Examination, Options, Outcome};
 use jnode::Order;
 
 /// `info`.
@@ -77,5 +78,16 @@ pub fn run_cat<E: Order, H: Host>(
         (reported (cat_act options decompress image.now path.now)) (Ok result) }
 {
     let answer = cat::<E, H>(host, options, decompress, image, path);
+    report(host, answer)
+}
+
+/// `diff`.
+pub fn run_diff<E: Order, H: Host>(host: &mut H, asked: Comparison<'_>) -> Outcome
+    requires { asked.options.endian ≡ E.order }
+    ensures { DoesFrom (H.history host.old) (H.history host.new)
+        (reported (diff_act asked.entry.options asked.entry.times asked.entry.first.now
+        asked.entry.second.now)) (Ok result) }
+{
+    let answer = diff::<E, H>(host, asked);
     report(host, answer)
 }

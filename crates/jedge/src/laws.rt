@@ -14,7 +14,7 @@ pub fn blamed_is_failed()
 {}
 
 /// A command that ends by another fault than that of standard output has printed nothing there. But
-/// memory may be wanting later: in `ls` while it prints, in `check` behind its report.
+/// memory may be wanting later: in `ls` and `diff` while they print, in `check` behind its report.
 pub fn judged_first()
     ensures { JudgedFirst }
 {}

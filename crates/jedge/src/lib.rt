@@ -10,6 +10,7 @@ pub mod cat;
 pub mod check;
 pub mod commands;
 pub mod damage;
+pub mod diff;
 pub mod fault;
 pub mod found;
 pub mod host;

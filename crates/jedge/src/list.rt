@@ -38,9 +38,9 @@ fn put_lines<T: Sink>(
 /// What a command comes to that put all of a text, or why it did not.
 pub(crate) fn put_found(
     put: Result<(), ProgramFault<'static>>,
-    found: Found,
-) -> Result<Found, Fault>
-    ensures { seen_as found_told result ≡ put_found (found_told found) put.entry }
+    found: Found<'static>,
+) -> Result<Found<'static>, Fault>
+    ensures { seen_as found_told result ≡ put_found (found_told found.entry) put.entry }
 {
     match put {
         Ok(()) => Ok(found),
@@ -53,11 +53,11 @@ fn print_lines<H: Host>(
     host: &mut H,
     mounted: &Mounted<'_>,
     part: &Option<Vec<u8>>,
-    found: Found,
-) -> Result<Found, Fault>
+    found: Found<'static>,
+) -> Result<Found<'static>, Fault>
     ensures { DoesFrom (H.history host.old) (H.history host.new)
         (prints (Lists mounted.now.state (option_map (λ path. path.items) part.now)
-        (found_told found))) (seen_as found_told result) }
+        (found_told found.entry))) (seen_as found_told result) }
 {
     let mut out = match host.output() {
         Ok(out) => out,
@@ -75,7 +75,7 @@ pub fn list<E: Order, H: Host>(
     decompress: bool,
     image: &str,
     path: Option<&str>,
-) -> Result<Found, Fault>
+) -> Result<Found<'static>, Fault>
     requires { options.endian ≡ E.order }
     ensures { DoesFrom (H.history host.old) (H.history host.new)
         (list_act options decompress image.now (option_map (λ p. p.now) path.entry))

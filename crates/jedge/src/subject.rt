@@ -152,7 +152,7 @@ fn findings_shown(read: Option<u64>, mounted: &Mounted<'_>) -> u64
 }
 
 /// The note on it.
-fn shown_noted(findings: u64, others: Option<u64>) -> Option<Note>
+fn shown_noted(findings: u64, others: Option<u64>) -> Option<Note<'static>>
     ensures { option_map note_text result ≡ shown_noted findings others }
 {
     match others {
@@ -163,7 +163,7 @@ fn shown_noted(findings: u64, others: Option<u64>) -> Option<Note>
 
 impl Subject {
     /// What a command comes to that shows it.
-    pub(crate) fn found(&self, mounted: &Mounted<'_>) -> Found
+    pub(crate) fn found(&self, mounted: &Mounted<'_>) -> Found<'static>
         ensures { found_told result ≡ shown_told (viewed self.now) mounted.now }
     {
         Found {

@@ -1,4 +1,4 @@
-use Rattle.std.proofs.Common.{List, ℕ, Err, subst, sym}
+use Rattle.std.proofs.Common.{Err, subst, sym}
 use Rattle.jedge.specs.Views.{NamesPath}
 use Rattle.jedge.specs.declared.fault.Fault.{Fault}
 use Rattle.jedge.proofs.ViewLemmas.{word_refused}

@@ -1,4 +1,3 @@
-use Rattle.std.proofs.Common.{subst}
 use Rattle.jedge.proofs.ViewLemmas.{plain_viewed, viewed_at}
 use Rattle.jedge.proofs.subject.view_of.Goals as goal
 
