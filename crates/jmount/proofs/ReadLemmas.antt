@@ -1,8 +1,8 @@
 -- The bytes that a read gives.
-use Rattle.std.proofs.Common.{◌≡◌, ℕ, ◌+◌, ◌-◌, ◌<◌, ◌≤◌, true, ◌==◌, ◌||◌, cond, List, [], length, take, drop, slice_index, Some, None, refl, ap, sym, ◌∙◌, arith}
+use Rattle.std.proofs.Common.{◌≡◌, ℕ, ◌+◌, ◌-◌, ◌<◌, ◌≤◌, Bool, true, false, ◌==◌, ◌||◌, cond, List, [], ◌++◌, length, take, drop, slice_index, Some, None, refl, ap, sym, ◌∙◌, arith}
 use Rattle.std.specs.Prelude.{min}
 use Rattle.std.proofs.lemmas.Bool.{false≢true}
-use Rattle.std.proofs.lemmas.List.{same_lists, length-take, length-drop, get_or-take, get_or-drop}
+use Rattle.std.proofs.lemmas.List.{same_lists, length-take, length-drop, get_or-take, get_or-drop, get_or_append_left}
 use Rattle.flashbase.specs.Lists.{each_below}
 use Rattle.flashbase.proofs.ListLemmas.{length-each_below, get_or-each_below}
 use Rattle.jmount.specs.Tree.{ObjectOf, type_bits, regular_bits, symlink_bits}
@@ -39,6 +39,22 @@ pub length-stored : (stored : Stored) → ((type_bits stored.mode == regular_bit
     → length (bytes_if (Some (stored_object stored))) ≡ stored.size
 length-stored stored has =
     ap length (bytes-stored (stored_object stored) has) ∙ length-each_below stored.size (λ place. byte_at (visible_in stored.bytes place))
+
+pub length-stored_most : (stored : Stored) → length (bytes_if (Some (stored_object stored))) ≤ stored.size
+length-stored_most stored = by_kind ((type_bits stored.mode == regular_bits) || (type_bits stored.mode == symlink_bits)) refl
+  where
+    by_kind : (b : Bool) → ((type_bits stored.mode == regular_bits) || (type_bits stored.mode == symlink_bits)) ≡ b → length (bytes_if (Some (stored_object stored))) ≤ stored.size
+    by_kind true has = omega (arith, length-stored stored has)
+    by_kind false has = omega (arith, ap (λ b. length (cond b (stored_object stored).body [])) has)
+
+-- a byte at the front of a buffer that was read from an offset on
+pub byte-read : (bytes rest : List ℕ) (offset count k : ℕ) → count ≤ length bytes - offset → k < count
+    → slice_index (take count (take count (drop offset bytes) ++ rest)) k ≡ slice_index bytes (offset + k)
+byte-read bytes rest offset count k fits within =
+    let front = take count (drop offset bytes) in
+    let len : length front ≡ count = omega (arith, length-take count (drop offset bytes), length-drop offset bytes) in
+    get_or-take count (front ++ rest) k 0 within ∙ get_or_append_left front rest 0 k (omega arith)
+    ∙ get_or-take count (drop offset bytes) k 0 within ∙ get_or-drop offset bytes k 0
 
 -- ---- zeros that no node has
 

@@ -1,5 +1,5 @@
 -- What callers are shown of a mounted image.
-use Rattle.std.specs.Prelude.{ℕ, ◌==◌, ◌||◌, List, [], map, Option, Some, None, unwrap_or, if◌then◌else◌}
+use Rattle.std.specs.Prelude.{◌≡◌, ◌≢◌, ℕ, ◌<◌, ◌≤◌, ◌==◌, ◌||◌, List, [], length, map, slice_index, Option, Some, None, unwrap_or, if◌then◌else◌}
 use Rattle.std.specs.Ordering.{nat_cmp}
 use Rattle.std.specs.FinMap as finite
 use Rattle.std.specs.FinMap.{FinMap}
@@ -51,3 +51,9 @@ readable s i = bytes_if (object s i)
 
 abbrev pub top_at : FinMap nat_cmp ℕ → ℕ → ℕ
 top_at tops i = unwrap_or (finite.get tops i) 0
+
+-- so many bytes are 0, and the next one is not
+pub record IsZeroRun (bytes : List ℕ) (count : ℕ) : Type 0 where
+  pub within : count ≤ length bytes
+  pub zeros : (i : ℕ) → i < count → slice_index bytes i ≡ 0
+  pub stops : count < length bytes → slice_index bytes count ≢ 0

@@ -1,6 +1,6 @@
 //! A mounted image.
 
-ghost use Rattle.std.specs.Prelude.{◌≡◌, ℕ, ◌-◌, ◌<◌, ◌≤◌, ◌++◌, true, not, Decides, IsOk, IfOk, map, max, option_map, length, min, slice_index, take, drop};
+ghost use Rattle.std.specs.Prelude.{◌≡◌, ◌≢◌, ℕ, ◌-◌, ◌<◌, ◌≤◌, ◌++◌, true, not, Decides, IsOk, IfOk, map, max, option_map, length, min, slice_index, take, drop};
 ghost use Rattle.flashbase.specs.Sinks.{PutsTo};
 ghost use Rattle.jmount.specs.Tree as tree;
 ghost use Rattle.jmount.specs.Find as walk;
@@ -11,7 +11,7 @@ use crate::directories::{NamedObjects, directory_kept};
 use crate::fault::FindFault;
 use crate::object::Object;
 use crate::path;
-use crate::read::{hole_end_stored, put_stored, read_stored};
+use crate::read::{put_stored, read_stored, zeros_end_stored};
 use crate::shape::has_shape;
 use crate::shown::shown;
 use crate::stored::Stored;
@@ -290,17 +290,20 @@ impl<'a> Mounted<'a> {
         }
     }
 
-    /// From an offset on, where the zeros of a regular file or a symlink end that no node has: a
-    /// hole, or a ZERO node's zeros. What comes next may be one more. It is the offset itself where
-    /// there is a node's byte, or the end. Who passes over these zeros reads only what nodes have.
+    /// From an offset on, where zeros of a regular file or a symlink end that are found at once: a
+    /// hole, a ZERO node's zeros, or else zeros among the next 64 bytes of a node. More zeros may
+    /// come next. It is the offset itself only if the byte there is no zero, or at the end. Who
+    /// passes over these zeros reads only what nodes have.
     pub fn hole_end(&self, ino: u32, offset: u64) -> u64
         ensures from { offset ≤ result }
         ensures within { result ≤ max offset (length (readable self.now.state ino)) }
         ensures zeros { (i : ℕ) → offset ≤ i → i < result
             → slice_index (readable self.now.state ino) i ≡ 0 }
+        ensures stops { result ≡ offset → offset < length (readable self.now.state ino)
+            → slice_index (readable self.now.state ino) offset ≢ 0 }
     {
         match self.objects.get(&ino) {
-            Some(stored) => hole_end_stored(stored, offset),
+            Some(stored) => zeros_end_stored(stored, offset),
             None => offset,
         }
     }

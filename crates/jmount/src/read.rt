@@ -1,10 +1,10 @@
 //! The bytes of an object.
 
-ghost use Rattle.std.specs.Prelude.{◌≡◌, ℕ, ◌-◌, ◌<◌, ◌≤◌, ◌++◌, false, Some, length, max, min, slice_index, take, drop};
+ghost use Rattle.std.specs.Prelude.{◌≡◌, ◌≢◌, ℕ, ◌-◌, ◌<◌, ◌≤◌, ◌++◌, false, Some, length, max, min, slice_index, take, drop};
 ghost use Rattle.flashbase.specs.Sinks.{PutsTo};
 ghost use Rattle.jfrag.specs.IntervalMap.{is_hole};
 ghost use Rattle.jfrag.specs.Intervals.{piece_at};
-ghost use Rattle.jmount.specs.Shown.{bytes_if};
+ghost use Rattle.jmount.specs.Shown.{bytes_if, IsZeroRun};
 ghost use Rattle.jmount.specs.Stored.{stored_object};
 
 use crate::shown::has_bytes;
@@ -14,6 +14,9 @@ use jfrag::Overlay;
 
 /// An object's bytes go out in pieces of this many.
 const PIECE: usize = 4096;
+
+/// Among so many of a node's next bytes zeros are looked for.
+const GLANCE: usize = 64;
 
 /// Fills the front of the slice with an object's bytes from an offset on, and says how many there
 /// were.
@@ -50,6 +53,40 @@ pub fn hole_end_stored(stored: &Stored<'_>, offset: u64) -> u64
     }
     let end = stored.bytes.hole_end(offset as u32);
     u64::from(end.min(stored.size))
+}
+
+/// How many zeros there are before the first byte that is none.
+fn zero_run(bytes: &[u8]) -> usize
+    ensures { IsZeroRun bytes.now result }
+{
+    bytes
+        .iter()
+        .position(|byte| *byte != 0)
+        .unwrap_or(bytes.len())
+}
+
+/// From an offset on, where the zeros end that are found at once: those that no node has, or else
+/// those at the front of a node's next bytes. It is the offset itself only if the byte there is no
+/// zero, or at the end.
+pub fn zeros_end_stored(stored: &Stored<'_>, offset: u64) -> u64
+    ensures from { offset ≤ result }
+    ensures within { result ≤ max offset (length (bytes_if (Some (stored_object stored.now)))) }
+    ensures zeros { (i : ℕ) → offset ≤ i → i < result
+        → slice_index (bytes_if (Some (stored_object stored.now))) i ≡ 0 }
+    ensures stops { result ≡ offset → offset < length (bytes_if (Some (stored_object stored.now)))
+        → slice_index (bytes_if (Some (stored_object stored.now))) offset ≢ 0 }
+{
+    let size = u64::from(stored.size);
+    if size <= offset {
+        return offset;
+    }
+    let hole = hole_end_stored(stored, offset);
+    if offset < hole {
+        return hole;
+    }
+    let mut next = [0u8; GLANCE];
+    let count = read_stored(stored, offset, &mut next);
+    offset + zero_run(&next[..count]) as u64
 }
 
 /// Puts all of an object's bytes, piece by piece.

@@ -37,8 +37,11 @@ pub(crate) struct Taken<'o> {
     pub chosen: Chosen,
 }
 
-/// The steps of an operation, or why it has none.
-fn plan<'o>(
+/// The steps of an operation, by a page, or why it has none.
+///
+/// # Errors
+/// `Refused` with the operation's fault, and `OutOfMemory`.
+pub fn plan<'o>(
     alloc: Global,
     index: &Index,
     page: Page,

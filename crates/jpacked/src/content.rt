@@ -23,8 +23,8 @@ fn tile_len<E: Order>(image: &[u8], geometry: Geometry, addr: u32, seen: &Seen<'
 }
 
 /// How many bytes the contents of the compressed nodes of an image have, of which no node is
-/// refused. Nothing is decompressed.
-pub(crate) fn contents_len<E: Order>(image: &[u8], geometry: Geometry) -> u32
+/// refused: at most 1 GiB. Nothing is decompressed.
+pub fn contents_len<E: Order>(image: &[u8], geometry: Geometry) -> u32
     requires { IsSoundThrough E.order geometry.block image.now }
     ensures { result ≡ length (unpacked_bytes E.order geometry.block image.now) }
 {

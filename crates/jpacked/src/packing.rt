@@ -13,9 +13,9 @@ use std::alloc::{AllocError, Global};
 /// A node of this length spells the magic of a header.
 const SPELLING: usize = 0x1985;
 
-/// Where data are packed.
+/// Where data are packed: the memory of a compressor, and data of a node put together.
 #[derive(Drop)]
-pub(crate) struct Packing {
+pub struct Packing {
     packer: Packer,
     /// Data of which the end is missing.
     whole: Vec<u8>,

@@ -19,8 +19,8 @@ use std::alloc::{AllocError, Global};
 /// How many bytes the contents of the compressed nodes of an image have at most.
 const GREATEST_CONTENTS: u32 = 1 << 30;
 
-/// How long the form of a step's node with packed data is.
-pub(crate) fn form_len(step: &Step<'_>, stream: &[u8]) -> usize
+/// How many bytes the form of a step's node with packed data has; with none, the node's own form.
+pub fn form_len(step: &Step<'_>, stream: &[u8]) -> usize
     requires step { node_len step.now ≤ totlen_most }
     requires stream { length stream.now ≤ totlen_most }
     ensures { result ≡ form_len step.now stream.now }
@@ -72,10 +72,10 @@ fn choose(
 
 /// What was chosen for steps.
 #[derive(Drop)]
-pub(crate) struct Chosen {
-    /// Packed data, or none, of each.
+pub struct Chosen {
+    /// Packed data, or none, of each, in their order.
     pub streams: Vec<Stream>,
-    /// How much content is held with them.
+    /// How many bytes of content are held with them.
     pub held: u32,
 }
 
@@ -128,8 +128,13 @@ fn choose_none<E: Order>(
     Ok(Chosen { streams, held })
 }
 
-/// What is chosen for steps by a session that packs, and by one that does not.
-pub(crate) fn choose_by<E: Order>(
+/// What is chosen for steps, with so many bytes of content held before: by a session that packs,
+/// packed data where they are worth it and their content is not too much; by one that does not,
+/// none.
+///
+/// # Errors
+/// Out of memory.
+pub fn choose_by<E: Order>(
     alloc: Global,
     index: &Index,
     steps: &[Step<'_>],

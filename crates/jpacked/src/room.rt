@@ -44,8 +44,8 @@ pub(crate) fn has_room<E: Order>(
     true
 }
 
-/// The bytes that the forms of steps need.
-pub(crate) fn needed<E: Order>(_index: &Index, steps: &[Step<'_>], streams: &[Stream]) -> u64
+/// The bytes that the forms of steps need, each up to a multiple of 4.
+pub fn needed<E: Order>(_index: &Index, steps: &[Step<'_>], streams: &[Stream]) -> u64
     requires steps { (page : ℕ) × IsPage page × CanWriteAll page E.order _index.now steps.now }
     requires few { length steps.now ≤ most_steps }
     requires made { AreMadeOf E.order (nodes_of _index.now steps.now) streams.now }

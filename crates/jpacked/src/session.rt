@@ -69,8 +69,11 @@ fn packing_for(alloc: Global, forms: NodeForms) -> Result<Option<Packing>, Alloc
 }
 
 /// What a session has beside its sink: the index of a mounted image, a buffer for a node, and where
-/// data are packed.
-fn index_and_buffer(
+/// data are packed, if nodes are.
+///
+/// # Errors
+/// Out of memory.
+pub fn index_and_buffer(
     alloc: Global,
     mounted: &Mounted<'_>,
     page: Page,

@@ -25,12 +25,12 @@ fn holds(geometry: Geometry, blocks: u32, len: usize) -> bool
         && len as u64 <= bytes
 }
 
-/// The address where writing goes on: that of the block from which on the flash is blank. Takes no
-/// memory.
+/// The address where writing goes on in the tail of an image: that of the block from which on the
+/// flash is blank. Takes no memory.
 ///
 /// # Errors
 /// `ReadOnly` and `Geometry` as a session of `jlog` answers them.
-pub(crate) fn start_at<E: Order>(
+pub fn start_at<E: Order>(
     mounted: &Mounted<'_>,
     geometry: Geometry,
     blocks: u32,

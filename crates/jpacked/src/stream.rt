@@ -7,7 +7,7 @@ use std::marker::Model;
 
 /// Packed data of a step's node; none where the node goes out as it is.
 #[derive(Drop)]
-pub(crate) struct Stream {
+pub struct Stream {
     bytes: Vec<u8>,
 }
 
@@ -38,7 +38,8 @@ impl Stream {
         Ok(Stream { bytes: copy })
     }
 
-    pub(crate) fn as_slice(&self) -> &[u8]
+    /// The bytes.
+    pub fn as_slice(&self) -> &[u8]
         ensures { result.now ≡ self.now }
     {
         &self.bytes

@@ -49,8 +49,12 @@ fn node_with_stream<'a>(inode: &InodeNode<'_>, stream: &'a [u8]) -> CompressedNo
     }
 }
 
-/// Writes the form of a node over the bytes of a buffer.
-fn write_form<E: Order>(
+/// Writes the form of a node over the bytes of a buffer: with packed data a compressed node, and
+/// with none the node's own form.
+///
+/// # Errors
+/// The form is not written, for want of memory, and then the buffer may hold anything.
+pub fn write_form<E: Order>(
     out: &mut Vec<u8>,
     node: &NodeRef<'_>,
     stream: &[u8],
@@ -71,7 +75,7 @@ fn write_form<E: Order>(
 }
 
 /// Appends a place for which there is room.
-fn push_place(places: &mut Vec<Place>, addr: u32, totlen: u32)
+pub fn push_place(places: &mut Vec<Place>, addr: u32, totlen: u32)
     requires { vec_len places.old + 1 ≤ vec_capacity places.old }
     ensures items { places.new.items
         ≡ places.old.items ++ record { addr = addr; totlen = totlen } ∷ [] }

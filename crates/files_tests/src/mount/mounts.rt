@@ -124,6 +124,26 @@ fn of_gaps() -> &'static [Fact] {
     ]
 }
 
+/// Zeros that a node has as bytes: they are passed over too, 64 at once.
+fn zero_bytes() -> &'static [Item] {
+    &[
+        Item::Marker,
+        Item::Data(Version(2, 1, FILE, 77), 0, &[0; 70]),
+        Item::Data(Version(2, 2, FILE, 77), 70, b"\0\0a\0\0"),
+    ]
+}
+
+fn of_zero_bytes() -> &'static [Fact] {
+    &[
+        Fact::HoleEnd(2, 0, 64),
+        Fact::HoleEnd(2, 64, 72),
+        Fact::HoleEnd(2, 71, 72),
+        Fact::HoleEnd(2, 72, 72),
+        Fact::HoleEnd(2, 73, 77),
+        Fact::HoleEnd(2, 77, 77),
+    ]
+}
+
 /// Twins that are equal are one node.
 fn twins() -> &'static [Item] {
     &[
@@ -193,6 +213,7 @@ fn images_mount_in_either_order(rt: HostRuntime) -> Result<(), Fail> {
             of_out_of_order(),
         ),
         ("a size that no node reaches, and a gap", gaps(), of_gaps()),
+        ("zeros that a node has", zero_bytes(), of_zero_bytes()),
         ("twins that are equal", twins(), of_twins()),
         ("names that stand for nothing", dangling(), of_dangling()),
         ("a root of version 0", root(), of_root()),
