@@ -18,7 +18,7 @@ use test_support::{BIG_ENTRY_A, ENTRY_A};
 
 /// What was found, what standard error is told of it, and the exit status.
 struct Row {
-    found: Found,
+    found: Found<'static>,
     wanted: &'static str,
     status: u8,
 }
@@ -65,7 +65,7 @@ jffs2_image: note: 1 finding, see check --scan; a wrong --block or --endian show
 fn reports(
     rt: &impl Abort,
     alloc: Global,
-    answer: Result<Found, Fault>,
+    answer: Result<Found<'static>, Fault>,
     wanted: &str,
 ) -> Result<u8, Fail> {
     let mut host = MemoryHost::new(rt, alloc, IMAGE);
@@ -85,7 +85,7 @@ fn what_was_found_is_told(rt: HostRuntime) -> Result<(), Fail> {
 }
 
 /// Whether an image is gone on with, in little order, where it is read beside others.
-fn judged(alloc: Global, image: &[u8]) -> Result<Found, Fault> {
+fn judged(alloc: Global, image: &[u8]) -> Result<Found<'static>, Fault> {
     match judge_nodes::<LittleEndian>(alloc, image, Geometry { block: 4096 }, Some("b.img")) {
         Ok(()) => Ok(Found {
             counted: 0,

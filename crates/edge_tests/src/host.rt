@@ -1,4 +1,4 @@
-//! A host in memory. It has one file, its calls fail where a test wants it, and what happened is
+//! A host in memory. It has a file or two, its calls fail where a test wants it, and what happened is
 //! known.
 ghost use Rattle.std.specs.Prelude.{◌≡◌, ◌++◌, [], ◌∷◌, string_bytes};
 ghost use Rattle.jedge.specs.Acts.{seen_as};
@@ -112,33 +112,32 @@ impl<'a, R: Abort> MemoryHost<'a, R> {
     }
 
     /// Notes that reading ended before the end of the file.
-    fn leave(&mut self, name: String, why: LoadFault) -> Fault
+    fn leave(&mut self, name: String, bytes: &'a [u8], why: LoadFault) -> Fault
         ensures events { events_of self.new.events.items ≡ events_of self.old.events.items
-            ++ Did (ReadPart (string_bytes name) self.old.plan.bytes.now) ∷ [] }
+            ++ Did (ReadPart (string_bytes name) bytes.entry.now) ∷ [] }
         ensures fault { result ≡ Fault.Refused (ProgramFault.Load why) }
     {
-        self.note(Happened::ReadPart(name, self.plan.bytes));
+        self.note(Happened::ReadPart(name, bytes));
         Fault::Refused(ProgramFault::Load(why))
     }
 
     /// Reads the file to its end.
-    fn read_all(&mut self, name: String) -> Result<Vec<u8>, Fault>
+    fn read_all(&mut self, name: String, bytes: &'a [u8]) -> Result<Vec<u8>, Fault>
         ensures { AddsRead (string_bytes name) (events_of self.old.events.items)
             (events_of self.new.events.items) (seen_as (λ bytes. bytes.items) result) }
     {
-        let bytes = self.plan.bytes;
         if bytes.len() > GREATEST_IMAGE {
-            return Err(self.leave(name, LoadFault::TooLarge));
+            return Err(self.leave(name, bytes, LoadFault::TooLarge));
         }
         if self.plan.lacking == Lacking::Bytes {
-            return Err(self.leave(name, LoadFault::OutOfMemory));
+            return Err(self.leave(name, bytes, LoadFault::OutOfMemory));
         }
         match Vec::from_slice(self.alloc, bytes) {
             Ok(all) => {
                 self.note(Happened::Read(name, bytes));
                 Ok(all)
             }
-            Err(_) => Err(self.leave(name, LoadFault::OutOfMemory)),
+            Err(_) => Err(self.leave(name, bytes, LoadFault::OutOfMemory)),
         }
     }
 }
@@ -180,14 +179,14 @@ impl<'a, R: Abort> Host for MemoryHost<'a, R> {
     fn read(&mut self, input: Opened) -> Result<Vec<u8>, Fault> {
         let Opened { name } = input;
         let noted = self.copied(name.as_str());
-        match self.plan.cut {
+        let (bytes, cut) = self.plan.file(name.as_str());
+        match cut {
             Some((len, reason)) => {
-                let bytes = self.plan.bytes;
                 let part = &bytes[..len.min(bytes.len())];
                 self.note(Happened::NotRead(noted, part, reason));
                 Err(Fault::NotRead(FailedFile { name, reason }))
             }
-            None => self.read_all(noted),
+            None => self.read_all(noted, bytes),
         }
     }
 

@@ -26,6 +26,7 @@ pub(crate) const IMAGE: Plan<'static> = Plan {
     bytes: &MADE,
     closed: None,
     cut: None,
+    other: None,
     lacking: Lacking::Nowhere,
     answers: Stream::SOUND,
     errors: Stream::SOUND,

@@ -7,11 +7,15 @@ mod calls;
 mod checks;
 #[cfg(test)]
 mod damage;
+#[cfg(test)]
+mod diff;
 pub mod happened;
 #[cfg(test)]
 mod host;
 #[cfg(test)]
 mod info;
+#[cfg(test)]
+mod looks;
 pub mod plan;
 #[cfg(test)]
 mod shown;

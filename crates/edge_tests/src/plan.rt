@@ -34,7 +34,7 @@ pub enum Lacking {
     Output,
 }
 
-/// The one file, and where the calls of its host fail.
+/// A file, and where the calls of its host fail.
 #[derive(Clone, Copy)]
 pub struct Plan<'a> {
     pub name: &'a str,
@@ -43,6 +43,8 @@ pub struct Plan<'a> {
     pub closed: Option<Reason>,
     /// After how many bytes a read of it fails, and why.
     pub cut: Option<(usize, Reason)>,
+    /// Another file, and its bytes. It is read to its end.
+    pub other: Option<(&'a str, &'a [u8])>,
     pub lacking: Lacking,
     pub answers: Stream,
     pub errors: Stream,
@@ -56,6 +58,7 @@ impl<'a> Plan<'a> {
             bytes,
             closed: None,
             cut: None,
+            other: None,
             lacking: Lacking::Nowhere,
             answers: Stream::SOUND,
             errors: Stream::SOUND,
@@ -69,12 +72,30 @@ impl<'a> Plan<'a> {
         }
     }
 
+    /// The bytes of the other file, if it has this name.
+    fn bytes_of_other(&self, name: &str) -> Option<&'a [u8]> {
+        match self.other {
+            Some((other, bytes)) if name == other => Some(bytes),
+            _ => None,
+        }
+    }
+
     /// Why the file of a name is not opened; none where it is.
     pub fn refusal(&self, name: &str) -> Option<Reason> {
         if name == self.name {
             self.closed
+        } else if self.bytes_of_other(name).is_some() {
+            None
         } else {
             Some(Reason::NotFound)
+        }
+    }
+
+    /// The bytes of the file of a name, and where a read of it fails.
+    pub fn file(&self, name: &str) -> (&'a [u8], Option<(usize, Reason)>) {
+        match self.bytes_of_other(name) {
+            Some(bytes) => (bytes, None),
+            None => (self.bytes, self.cut),
         }
     }
 }

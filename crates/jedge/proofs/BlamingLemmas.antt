@@ -1,17 +1,29 @@
 -- A fault is an event.
-use Rattle.std.proofs.Common.{◌≡◌, ◌⊎◌, ℕ, List, [], ◌∷◌, ◌++◌, Option, None, Result, Ok, Err, arith, sym, ap, subst, inl, inr, ◌∙◌, refl}
+use Rattle.std.proofs.Common.{◌≡◌, ℕ, Bool, List, [], ◌∷◌, ◌++◌, Option, None, Some, Result, Ok, Err, arith, sym, ap, subst, inl, inr, ◌∙◌, refl}
 use Rattle.jcommand.specs.declared.parsed.Options.{Options}
 use Rattle.jnode.specs.declared.order.Endian.{Endian}
 use Rattle.flashbase.specs.Device.{next_count}
 use Rattle.jnode.specs.declared.node.NodeRef.{NodeRef}
+use Rattle.jmount.specs.Mount.{Mount}
+use Rattle.jmount.specs.Tree.{State}
 use Rattle.jmount.specs.declared.fault.MountFault.{MountFault}
 use Rattle.jmount.specs.declared.fault.MountFault.TheVariants as mount
+use Rattle.jexpand.specs.declared.fault.ConvertFault.{ConvertFault}
+use Rattle.jexpand.specs.declared.fault.ConvertFault.TheVariants as convert
+use Rattle.jconvert.specs.Converting.{Converts}
+use Rattle.jreport.specs.Content.{IsContentFault, content_of}
 use Rattle.jreport.specs.Refusal.{IsShownRefusal}
 use Rattle.jreport.specs.declared.faults.ProgramFault.{ProgramFault}
+use Rattle.jreport.specs.declared.faults.ProgramFault.TheVariants as program
 use Rattle.jscan.specs.Image.{nodes}
-use Rattle.jedge.specs.Acts.{Act, CountsOutput, Then, Ends, GoesOn, IsPrintedInPart, IsUnfinished, Whole, and_closed, answers, closes, loads, opens, prints, reads_whole}
-use Rattle.jedge.specs.Calls.{Event, Stream, Answers, Failed, Open, Print, ReadPart, printed}
+use Rattle.jedge.specs.Acts.{Act, CountsOutput, Then, Ends, GoesOn, IsPrintedInPart, IsUnfinished, Saying, Whole, and_closed, answers, closes, loads, opens, prints, reads_whole}
+use Rattle.jedge.specs.Calls.{Event, Answers, Failed, Open, Print, ReadPart, printed}
+use Rattle.jedge.specs.Commands.{Cat, Check, Damage, Diff, Info, Ls, cat_act, check_act, compares, damage_act, diff_act, info_act, list_act, shown_told}
+use Rattle.jedge.specs.Comparing.{Differs, compared}
 use Rattle.jedge.specs.Images.{HasNodes, MountsOrRefuses}
+use Rattle.jedge.specs.Showing.{Checks, Contains, Lists, NamesNothing}
+use Rattle.jedge.specs.Told.{Told}
+use Rattle.jedge.specs.Views.{HasBlockSize, IsViewed, NamesPart, NamesPath, Viewed, conversion_refusal, views}
 use Rattle.jedge.specs.Laws.{BlamesEvent, BlamedIsFailed, BlamesFailed, Happened, IsOfBytes}
 use Rattle.jedge.specs.declared.fault.Fault.{Fault}
 use Rattle.jedge.specs.declared.fault.Fault.TheVariants as fault
@@ -94,31 +106,92 @@ failed_blames failures text events (Err (fault.Refused why)) one is = absurd is
 failed_blames failures text events (Err fault.Output) one is = cut_blames text events is
 failed_blames failures text events (Err fault.OutOfMemory) one is = absurd is
 
-put_blames : {A : Type 0} (whole : List ℕ) (x : A) (text : List ℕ) (failures : ℕ) (events : List Event) (f : Fault) (answer : Result A Fault) (closed : Result Unit Fault)
-    → Whole whole x text answer → CountsOutput 0 failures answer → closes Answers failures text events closed → Err f ≡ and_closed answer closed → BlamesEvent f events
-put_blames whole x text failures events f (Ok y) (Ok _) says counts out is = let no : ⊥ = cc in absurd no
-put_blames whole x text failures events f (Ok y) (Err g) says counts out is = let alike : f ≡ g = cc in
+-- a fault of a call that prints names no file
+abbrev pub IsUnnamed : Fault → Type 0
+IsUnnamed (fault.File file) = ⊥
+IsUnnamed (fault.NotRead file) = ⊥
+IsUnnamed (fault.NoNodes of others) = Unit {0}
+IsUnnamed (fault.Refused why) = IsOfBytes why
+IsUnnamed fault.Output = Unit {0}
+IsUnnamed fault.OutOfMemory = Unit {0}
+
+abbrev pub Unnamed : {A : Type 0} → Saying A → Type 0
+Unnamed {A} Says = (text : List ℕ) (f : Fault) → Says text (Err f) → IsUnnamed f
+
+put_blames : {A : Type 0} (Says : Saying A) → Unnamed Says → (text : List ℕ) (failures : ℕ) (events : List Event) (f : Fault) (answer : Result A Fault) (closed : Result Unit Fault)
+    → Says text answer → CountsOutput 0 failures answer → closes Answers failures text events closed → Err f ≡ and_closed answer closed → BlamesEvent f events
+put_blames Says quiet text failures events f (Ok y) (Ok _) says counts out is = let no : ⊥ = cc in absurd no
+put_blames Says quiet text failures events f (Ok y) (Err g) says counts out is = let alike : f ≡ g = cc in
     subst (λ (h : Fault). BlamesEvent h events) (sym alike) (closed_blames failures text events g out)
-put_blames whole x text failures events f (Err (fault.File file)) closed says counts out is = absurd says
-put_blames whole x text failures events f (Err (fault.NotRead file)) closed says counts out is = absurd says
-put_blames whole x text failures events f (Err (fault.NoNodes of others)) closed says counts out is = absurd says
-put_blames whole x text failures events f (Err (fault.Refused why)) closed says counts out is = absurd says
-put_blames whole x text failures events f (Err fault.Output) closed says counts out is = let alike : f ≡ fault.Output = cc in
+put_blames Says quiet text failures events f (Err (fault.File file)) closed says counts out is = absurd (quiet text (fault.File file) says)
+put_blames Says quiet text failures events f (Err (fault.NotRead file)) closed says counts out is = absurd (quiet text (fault.NotRead file) says)
+put_blames Says quiet text failures events f (Err (fault.NoNodes of others)) closed says counts out is = let alike : f ≡ fault.NoNodes of others = cc in
+    subst (λ (h : Fault). BlamesEvent h events) (sym alike) tt
+put_blames Says quiet text failures events f (Err (fault.Refused why)) closed says counts out is = let alike : f ≡ fault.Refused why = cc in
+    subst (λ (h : Fault). BlamesEvent h events) (sym alike) (quiet text (fault.Refused why) says)
+put_blames Says quiet text failures events f (Err fault.Output) closed says counts out is = let alike : f ≡ fault.Output = cc in
     subst (λ (h : Fault). BlamesEvent h events) (sym alike) (failed_blames failures text events closed counts out)
-put_blames whole x text failures events f (Err fault.OutOfMemory) closed says counts out is = let alike : f ≡ fault.OutOfMemory = cc in
+put_blames Says quiet text failures events f (Err fault.OutOfMemory) closed says counts out is = let alike : f ≡ fault.OutOfMemory = cc in
     subst (λ (h : Fault). BlamesEvent h events) (sym alike) tt
 
-prints_blames : {A : Type 0} (whole : List ℕ) (x : A) → BlamesFailed (prints (Whole whole x))
-prints_blames whole x events f (inl put) = put_blames whole x put.text put.failures events f put.answer put.closed put.says put.counts put.out put.comes_to
-prints_blames whole x events f (inr none) = let alike : f ≡ fault.OutOfMemory = cc in subst (λ (h : Fault). BlamesEvent h events) (sym alike) tt
+prints_blames : {A : Type 0} (Says : Saying A) → Unnamed Says → BlamesFailed (prints Says)
+prints_blames Says quiet events f (inl put) = put_blames Says quiet put.text put.failures events f put.answer put.closed put.says put.counts put.out put.comes_to
+prints_blames Says quiet events f (inr none) = let alike : f ≡ fault.OutOfMemory = cc in subst (λ (h : Fault). BlamesEvent h events) (sym alike) tt
 
-nodes_blame : (e : Endian) (size : ℕ) (image : List ℕ) → BlamesFailed (answers (HasNodes e size None image))
-nodes_blame e size image events (fault.File file) is = absurd is.1
-nodes_blame e size image events (fault.NotRead file) is = absurd is.1
-nodes_blame e size image events (fault.NoNodes of others) is = tt
-nodes_blame e size image events (fault.Refused why) is = absurd is.1
-nodes_blame e size image events fault.Output is = absurd is.1
-nodes_blame e size image events fault.OutOfMemory is = tt
+whole_unnamed : {A : Type 0} (whole : List ℕ) (x : A) → Unnamed (Whole whole x)
+whole_unnamed whole x text (fault.File file) is = absurd is
+whole_unnamed whole x text (fault.NotRead file) is = absurd is
+whole_unnamed whole x text (fault.NoNodes of others) is = absurd is
+whole_unnamed whole x text (fault.Refused why) is = absurd is
+whole_unnamed whole x text fault.Output is = tt
+whole_unnamed whole x text fault.OutOfMemory is = tt
+
+whole_blames : {A : Type 0} (whole : List ℕ) (x : A) → BlamesFailed (prints (Whole whole x))
+whole_blames whole x = prints_blames (Whole whole x) (whole_unnamed whole x)
+
+of_bytes : {f : ProgramFault} (why : ProgramFault) → why ≡ f → IsOfBytes f → IsOfBytes why
+of_bytes why is of = subst (λ (g : ProgramFault). IsOfBytes g) (sym is) of
+
+checks_unnamed : (e : Endian) (size : ℕ) (shape : Bool) (image : List ℕ) → Unnamed (Checks e size shape image)
+checks_unnamed e size shape image text (fault.File file) is = absurd is
+checks_unnamed e size shape image text (fault.NotRead file) is = absurd is
+checks_unnamed e size shape image text (fault.NoNodes of others) is = absurd is
+checks_unnamed e size shape image text (fault.Refused why) is = of_bytes why is.0 tt
+checks_unnamed e size shape image text fault.Output is = tt
+checks_unnamed e size shape image text fault.OutOfMemory is = tt
+
+nothing_of : (s : State) (part : Option (List ℕ)) (why : ProgramFault) → NamesNothing s part why → IsOfBytes why
+nothing_of s None why is = absurd is
+nothing_of s (Some path) why is = of_bytes why is.1 tt
+
+lists_unnamed : (s : State) (part : Option (List ℕ)) (told : Told) → Unnamed (Lists s part told)
+lists_unnamed s part told text (fault.File file) is = absurd is
+lists_unnamed s part told text (fault.NotRead file) is = absurd is
+lists_unnamed s part told text (fault.NoNodes of others) is = absurd is
+lists_unnamed s part told text (fault.Refused why) is = nothing_of s part why is.0
+lists_unnamed s part told text fault.Output is = tt
+lists_unnamed s part told text fault.OutOfMemory is = tt
+
+content_of_bytes : (content : Result (List ℕ) ProgramFault) (why : ProgramFault) → IsContentFault content why → IsOfBytes why
+content_of_bytes content (program.Path reason) is = tt
+content_of_bytes content program.NotRegular is = tt
+content_of_bytes content why is = absurd is
+
+contains_unnamed : (content : Result (List ℕ) ProgramFault) (told : Told) → Unnamed (Contains content told)
+contains_unnamed content told text (fault.File file) is = absurd is
+contains_unnamed content told text (fault.NotRead file) is = absurd is
+contains_unnamed content told text (fault.NoNodes of others) is = absurd is
+contains_unnamed content told text (fault.Refused why) is = content_of_bytes content why is.0
+contains_unnamed content told text fault.Output is = tt
+contains_unnamed content told text fault.OutOfMemory is = tt
+
+nodes_blame : (e : Endian) (size : ℕ) (name : Option (List ℕ)) (image : List ℕ) → BlamesFailed (answers (HasNodes e size name image))
+nodes_blame e size name image events (fault.File file) is = absurd is.1
+nodes_blame e size name image events (fault.NotRead file) is = absurd is.1
+nodes_blame e size name image events (fault.NoNodes of others) is = tt
+nodes_blame e size name image events (fault.Refused why) is = absurd is.1
+nodes_blame e size name image events fault.Output is = absurd is.1
+nodes_blame e size name image events fault.OutOfMemory is = tt
 
 mounts_blame : (e : Endian) (size : ℕ) (image : List ℕ) → BlamesFailed (answers (MountsOrRefuses e size image))
 mounts_blame e size image events (fault.File file) is = absurd is.1
@@ -131,10 +204,102 @@ mounts_blame e size image events fault.OutOfMemory is = absurd is.1
 loads_blames : (name : List ℕ) → BlamesFailed (loads name)
 loads_blames name = then_blames (opens name) reads_whole (opens_blames name) reads_blames
 
+size_blames : (size : ℕ) → BlamesFailed (answers (HasBlockSize size))
+size_blames size events (fault.File file) is = absurd is.1
+size_blames size events (fault.NotRead file) is = absurd is.1
+size_blames size events (fault.NoNodes of others) is = tt
+size_blames size events (fault.Refused why) is = of_bytes why is.1.0 tt
+size_blames size events fault.Output is = absurd is.1
+size_blames size events fault.OutOfMemory is = tt
+
+path_blames : (word : List ℕ) → BlamesFailed (answers (NamesPath word))
+path_blames word events (fault.File file) is = absurd is.1
+path_blames word events (fault.NotRead file) is = absurd is.1
+path_blames word events (fault.NoNodes of others) is = tt
+path_blames word events (fault.Refused why) is = of_bytes why is.1.0 tt
+path_blames word events fault.Output is = absurd is.1
+path_blames word events fault.OutOfMemory is = tt
+
+part_blames : (word : Option (List ℕ)) → BlamesFailed (answers (NamesPart word))
+part_blames None events f is = absurd is.1
+part_blames (Some word) events f is = path_blames word events f is
+
+-- no sink is blamed for an image that is not decompressed
+conversion_of : (e : Endian) (size : ℕ) (image : List ℕ) (refused : ConvertFault) → Converts e size image (Err refused) → IsOfBytes (conversion_refusal refused)
+conversion_of e size image convert.BlockSize is = tt
+conversion_of e size image convert.TooLarge is = tt
+conversion_of e size image (convert.Incompatible addr nodetype) is = tt
+conversion_of e size image (convert.Compressed addr compr) is = tt
+conversion_of e size image (convert.Data addr) is = tt
+conversion_of e size image (convert.TooLong addr) is = tt
+conversion_of e size image convert.ReadOnly is = tt
+conversion_of e size image convert.Geometry is = tt
+conversion_of e size image (convert.Full needed free) is = tt
+conversion_of e size image convert.Sink is = absurd is
+conversion_of e size image convert.OutOfMemory is = tt
+
+viewed_blames : (e : Endian) (size : ℕ) (decompress : Bool) (image : List ℕ) → BlamesFailed (answers (IsViewed e size decompress image))
+viewed_blames e size decompress image events (fault.File file) is = absurd is.1
+viewed_blames e size decompress image events (fault.NotRead file) is = absurd is.1
+viewed_blames e size decompress image events (fault.NoNodes of others) is = tt
+viewed_blames e size decompress image events (fault.Refused why) is =
+    of_bytes why is.1.1.1 (conversion_of e size image is.1.1.0 is.1.1.2)
+viewed_blames e size decompress image events fault.Output is = absurd is.1
+viewed_blames e size decompress image events fault.OutOfMemory is = tt
+
+views_blames : (e : Endian) (size : ℕ) (decompress : Bool) (name : List ℕ) → BlamesFailed (views e size decompress name)
+views_blames e size decompress name = then_blames (loads name) _ (loads_blames name) (λ (image : List ℕ). viewed_blames e size decompress image)
+
+check_blames : (options : Options) (shape : Bool) (name : List ℕ) → BlamesFailed (check_act options shape name)
+check_blames options shape name = then_blames (opens name) _ (opens_blames name) (λ (opened : List ℕ).
+    then_blames _ _ (size_blames options.geometry.block) (λ _.
+    then_blames (reads_whole opened) _ (reads_blames opened) (λ (image : List ℕ).
+    prints_blames _ (checks_unnamed options.endian options.geometry.block shape image))))
+
+list_blames : (options : Options) (decompress : Bool) (name : List ℕ) (word : Option (List ℕ)) → BlamesFailed (list_act options decompress name word)
+list_blames options decompress name word = then_blames _ _ (part_blames word) (λ (part : Option (List ℕ)).
+    then_blames _ _ (views_blames options.endian options.geometry.block decompress name) (λ (view : Viewed).
+    then_blames _ _ (mounts_blame options.endian options.geometry.block view.image) (λ (m : Mount).
+    prints_blames _ (lists_unnamed m.state part (shown_told view m)))))
+
+cat_blames : (options : Options) (decompress : Bool) (name word : List ℕ) → BlamesFailed (cat_act options decompress name word)
+cat_blames options decompress name word = then_blames _ _ (path_blames word) (λ (path : List ℕ).
+    then_blames _ _ (views_blames options.endian options.geometry.block decompress name) (λ (view : Viewed).
+    then_blames _ _ (mounts_blame options.endian options.geometry.block view.image) (λ (m : Mount).
+    prints_blames _ (contains_unnamed (content_of m.state path) (shown_told view m)))))
+
+info_blames : (name : List ℕ) → BlamesFailed (info_act name)
+info_blames name = then_blames (loads name) _ (loads_blames name) (λ (image : List ℕ). whole_blames _ _)
+
+damage_blames : (options : Options) (name : List ℕ) → BlamesFailed (damage_act options name)
+damage_blames options name = then_blames (loads name) _ (loads_blames name)
+    (λ (image : List ℕ). then_blames _ _ (nodes_blame options.endian options.geometry.block None image)
+    (λ _. then_blames _ _ (mounts_blame options.endian options.geometry.block image) (λ _. whole_blames _ _)))
+
+differs_unnamed : (times : Bool) (left right : Mount) (answer : ℕ → Told) → Unnamed (Differs times left right answer)
+differs_unnamed times left right answer text (fault.File file) is = absurd is
+differs_unnamed times left right answer text (fault.NotRead file) is = absurd is
+differs_unnamed times left right answer text (fault.NoNodes of others) is = absurd is
+differs_unnamed times left right answer text (fault.Refused why) is = absurd is
+differs_unnamed times left right answer text fault.Output is = tt
+differs_unnamed times left right answer text fault.OutOfMemory is = tt
+
+compare_blames : (e : Endian) (size : ℕ) (times : Bool) (first second image other : List ℕ) → BlamesFailed (compares e size times first second image other)
+compare_blames e size times first second image other = then_blames _ _ (nodes_blame e size (Some first) image) (λ _.
+    then_blames _ _ (nodes_blame e size (Some second) other) (λ _.
+    then_blames _ _ (mounts_blame e size image) (λ (left : Mount).
+    then_blames _ _ (mounts_blame e size other) (λ (right : Mount).
+    prints_blames _ (differs_unnamed times left right (compared first second left right))))))
+
+diff_blames : (options : Options) (times : Bool) (first second : List ℕ) → BlamesFailed (diff_act options times first second)
+diff_blames options times first second = then_blames (loads first) _ (loads_blames first) (λ (image : List ℕ).
+    then_blames (loads second) _ (loads_blames second) (λ (other : List ℕ).
+    compare_blames options.endian options.geometry.block times first second image other))
+
 pub blamed_is_failed : BlamedIsFailed
-blamed_is_failed = (
-  (λ (name : List ℕ). then_blames (loads name) _ (loads_blames name) (λ (image : List ℕ). prints_blames _ _)),
-  (λ (options : Options) (name : List ℕ). then_blames (loads name) _ (loads_blames name)
-      (λ (image : List ℕ). then_blames _ _ (nodes_blame options.endian options.geometry.block image)
-      (λ _. then_blames _ _ (mounts_blame options.endian options.geometry.block image) (λ _. prints_blames _ _)))),
-)
+blamed_is_failed (Check options shape name) = check_blames options shape name
+blamed_is_failed (Ls options decompress name word) = list_blames options decompress name word
+blamed_is_failed (Cat options decompress name word) = cat_blames options decompress name word
+blamed_is_failed (Info name) = info_blames name
+blamed_is_failed (Damage options name) = damage_blames options name
+blamed_is_failed (Diff options times first second) = diff_blames options times first second

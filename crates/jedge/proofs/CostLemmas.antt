@@ -1,5 +1,5 @@
 -- What the damage of a mount costs, as a call puts it into a sink.
-use Rattle.std.proofs.Common.{◌≡◌, ◌++◌, ℕ, List, [], Option, None, Some, Ok, Err, ap, refl, sym, ◌∙◌}
+use Rattle.std.proofs.Common.{◌≡◌, ℕ, List, [], Option, None, Some, Ok, Err, ap, refl, sym, ◌∙◌}
 use Rattle.std.specs.Io.KnownBytes.{Appends}
 use Rattle.std.specs.Prelude.{Result, take}
 use Rattle.std.proofs.lemmas.List.{append-nil}
@@ -13,7 +13,7 @@ use Rattle.jnode.specs.declared.order.Endian.{Endian}
 use Rattle.jedge.specs.Acts.{PutsBy}
 use Rattle.jedge.specs.Commands.{Costs, costs_found, examined}
 
-none_put : (old new : Option (List ℕ)) → new ≡ old → Appends old new []
+pub none_put : (old new : Option (List ℕ)) → new ≡ old → Appends old new []
 none_put None new same = tt
 none_put (Some bytes) None same = cc
 none_put (Some bytes) (Some all) same = let alike : all ≡ bytes = cc in alike ∙ sym (append-nil bytes)

@@ -1,9 +1,21 @@
 -- What is refused is refused before anything is printed.
-use Rattle.std.proofs.Common.{◌≡◌, ℕ, List, [], ◌∷◌, ◌++◌, None, Result, Ok, Err, sym, ap, subst, inl, inr, ◌∙◌, refl}
+use Rattle.std.proofs.Common.{◌≡◌, ◌⊎◌, ℕ, Bool, Option, List, [], ◌∷◌, ◌++◌, Result, Ok, Err, sym, ap, subst, inl, inr, ◌∙◌, refl}
 use Rattle.jcommand.specs.declared.parsed.Options.{Options}
-use Rattle.jedge.specs.Acts.{Act, Then, Ends, GoesOn, IsPrintedInPart, Whole, and_closed, answers, closes, loads, opens, prints, reads_whole}
+use Rattle.jnode.specs.declared.order.Endian.{Endian}
+use Rattle.jmount.specs.Mount.{Mount}
+use Rattle.jmount.specs.Tree.{State}
+use Rattle.jreport.specs.Content.{content_of}
+use Rattle.jmount.specs.declared.fault.MountFault.TheVariants as mount
+use Rattle.jreport.specs.declared.faults.ProgramFault.{ProgramFault}
+use Rattle.jreport.specs.declared.faults.ProgramFault.TheVariants as program
+use Rattle.jedge.specs.Acts.{Act, Then, Ends, GoesOn, Saying, Whole, and_closed, answers, closes, loads, opens, prints, reads_whole}
 use Rattle.jedge.specs.Calls.{Event, Answers, Did, Failed, Print, printed}
-use Rattle.jedge.specs.Laws.{ComesFirst, JudgedFirst, JudgesFirst, NonePrinted}
+use Rattle.jedge.specs.Commands.{Cat, Check, Damage, Diff, Info, Ls, cat_act, check_act, damage_act, diff_act, info_act, list_act, shown_told}
+use Rattle.jedge.specs.Comparing.{Differs, compared}
+use Rattle.jedge.specs.Laws.{ComesFirst, JudgedFirst, JudgesFirst, JudgesFirstBut, NonePrinted}
+use Rattle.jedge.specs.Showing.{Checks, Contains, Lists}
+use Rattle.jedge.specs.Told.{Told}
+use Rattle.jedge.specs.Views.{Viewed, views}
 use Rattle.jedge.specs.declared.fault.Fault.{Fault}
 use Rattle.jedge.specs.declared.fault.Fault.TheVariants as fault
 
@@ -89,30 +101,139 @@ closed_first failures text events (fault.Refused why) is = absurd is
 closed_first failures text events fault.Output is = tt
 closed_first failures text events fault.OutOfMemory is = absurd is
 
-put_first : {A : Type 0} (whole : List ℕ) (x : A) (text : List ℕ) (failures : ℕ) (events : List Event) (f : Fault) (answer : Result A Fault) (closed : Result Unit Fault)
-    → Whole whole x text answer → closes Answers failures text events closed → Err f ≡ and_closed answer closed → ComesFirst f events
-put_first whole x text failures events f (Ok y) (Ok _) says out is = let no : ⊥ = cc in absurd no
-put_first whole x text failures events f (Ok y) (Err g) says out is = let alike : f ≡ g = cc in
-    subst (λ (h : Fault). ComesFirst h events) (sym alike) (closed_first failures text events g out)
-put_first whole x text failures events f (Err (fault.File file)) closed says out is = absurd says
-put_first whole x text failures events f (Err (fault.NotRead file)) closed says out is = absurd says
-put_first whole x text failures events f (Err (fault.NoNodes of others)) closed says out is = absurd says
-put_first whole x text failures events f (Err (fault.Refused why)) closed says out is = absurd says
-put_first whole x text failures events f (Err fault.Output) closed says out is = let alike : f ≡ fault.Output = cc in
-    subst (λ (h : Fault). ComesFirst h events) (sym alike) tt
-put_first whole x text failures events f (Err fault.OutOfMemory) closed says out is =
-    none_first f events (empty_silent failures text events closed says out)
+-- where a call ends by this fault, and not by that of the output, it put nothing
+abbrev pub IsUnput : Fault → List ℕ → Type 0
+IsUnput (fault.File file) text = text ≡ []
+IsUnput (fault.NotRead file) text = text ≡ []
+IsUnput (fault.NoNodes of others) text = text ≡ []
+IsUnput (fault.Refused why) text = text ≡ []
+IsUnput fault.Output text = Unit {0}
+IsUnput fault.OutOfMemory text = text ≡ []
 
-prints_first : {A : Type 0} (whole : List ℕ) (x : A) → JudgesFirst (prints (Whole whole x))
-prints_first whole x events f (inl put) = put_first whole x put.text put.failures events f put.answer put.closed put.says put.out put.comes_to
-prints_first whole x events f (inr none) = none_first f events (same none.0 tt)
+unput_first : (g f : Fault) (text : List ℕ) (failures : ℕ) (events : List Event) (closed : Result Unit Fault)
+    → IsUnput g text → closes Answers failures text events closed → f ≡ g → ComesFirst f events
+unput_first fault.Output f text failures events closed none out is = subst (λ (h : Fault). ComesFirst h events) (sym is) tt
+unput_first (fault.File file) f text failures events closed none out is = none_first f events (empty_silent failures text events closed none out)
+unput_first (fault.NotRead file) f text failures events closed none out is = none_first f events (empty_silent failures text events closed none out)
+unput_first (fault.NoNodes of others) f text failures events closed none out is = none_first f events (empty_silent failures text events closed none out)
+unput_first (fault.Refused why) f text failures events closed none out is = none_first f events (empty_silent failures text events closed none out)
+unput_first fault.OutOfMemory f text failures events closed none out is = none_first f events (empty_silent failures text events closed none out)
+
+put_first : {A : Type 0} (Says : Saying A) (text : List ℕ) (failures : ℕ) (events : List Event) (f : Fault) (answer : Result A Fault) (closed : Result Unit Fault)
+    → Says text answer → (Says text (Err f) → IsUnput f text) → closes Answers failures text events closed → Err f ≡ and_closed answer closed → ComesFirst f events
+put_first Says text failures events f (Ok y) (Ok _) says unput out is = let no : ⊥ = cc in absurd no
+put_first Says text failures events f (Ok y) (Err g) says unput out is = let alike : f ≡ g = cc in
+    subst (λ (h : Fault). ComesFirst h events) (sym alike) (closed_first failures text events g out)
+put_first {A} Says text failures events f (Err g) closed says unput out is =
+    let alike : f ≡ g = cc in
+    let none : IsUnput f text = unput (subst (λ (h : Fault). Says text (Err h)) (sym alike) says) in
+    unput_first g f text failures events closed (subst (λ (h : Fault). IsUnput h text) alike none) out alike
+
+prints_first : {A : Type 0} (Says : Saying A) → ((text : List ℕ) (f : Fault) → Says text (Err f) → IsUnput f text) → JudgesFirst (prints Says)
+prints_first Says unput events f (inl put) = put_first Says put.text put.failures events f put.answer put.closed put.says (unput put.text f) put.out put.comes_to
+prints_first Says unput events f (inr none) = none_first f events (same none.0 tt)
+
+whole_unput : {A : Type 0} (whole : List ℕ) (x : A) (text : List ℕ) (f : Fault) → Whole whole x text (Err f) → IsUnput f text
+whole_unput whole x text (fault.File file) is = absurd is
+whole_unput whole x text (fault.NotRead file) is = absurd is
+whole_unput whole x text (fault.NoNodes of others) is = absurd is
+whole_unput whole x text (fault.Refused why) is = absurd is
+whole_unput whole x text fault.Output is = tt
+whole_unput whole x text fault.OutOfMemory is = is
+
+whole_first : {A : Type 0} (whole : List ℕ) (x : A) → JudgesFirst (prints (Whole whole x))
+whole_first whole x = prints_first (Whole whole x) (whole_unput whole x)
+
+contains_unput : (content : Result (List ℕ) ProgramFault) (told : Told) (text : List ℕ) (f : Fault) → Contains content told text (Err f) → IsUnput f text
+contains_unput content told text (fault.File file) is = absurd is
+contains_unput content told text (fault.NotRead file) is = absurd is
+contains_unput content told text (fault.NoNodes of others) is = absurd is
+contains_unput content told text (fault.Refused why) is = is.1
+contains_unput content told text fault.Output is = tt
+contains_unput content told text fault.OutOfMemory is = absurd is
+
+-- ---- one that may want memory when it has printed
+
+then_first_but : {A B : Type 0} (Late : Fault → Type 0) (first : Act A) (next : A → Act B) → Silent first → ((a : A) → JudgesFirstBut Late (next a)) → JudgesFirstBut Late (Then first next)
+then_first_but Late first next one two events f not (Ends g did is) = none_first f events (one events (Err g) did)
+then_first_but Late first next one two events f not (GoesOn a before after did more is) =
+    subst (λ (l : List Event). ComesFirst f l) (sym is) (first_after f before after (one before (Ok a) did) (two a after f not more))
+
+prints_first_but : {A : Type 0} (Late : Fault → Type 0) (Says : Saying A) → ((text : List ℕ) (f : Fault) → (Late f → ⊥) → Says text (Err f) → IsUnput f text) → JudgesFirstBut Late (prints Says)
+prints_first_but Late Says unput events f not (inl put) = put_first Says put.text put.failures events f put.answer put.closed put.says (unput put.text f not) put.out put.comes_to
+prints_first_but Late Says unput events f not (inr none) = none_first f events (same none.0 tt)
+
+lists_unput : (s : State) (part : Option (List ℕ)) (told : Told) (text : List ℕ) (f : Fault) → (f ≡ fault.OutOfMemory → ⊥) → Lists s part told text (Err f) → IsUnput f text
+lists_unput s part told text (fault.File file) not is = absurd is
+lists_unput s part told text (fault.NotRead file) not is = absurd is
+lists_unput s part told text (fault.NoNodes of others) not is = absurd is
+lists_unput s part told text (fault.Refused why) not is = is.1
+lists_unput s part told text fault.Output not is = tt
+lists_unput s part told text fault.OutOfMemory not is = absurd (not refl)
+
+-- memory is wanted behind the report too
+abbrev pub IsWanting : Fault → Type 0
+IsWanting f = (f ≡ fault.OutOfMemory) ⊎ (f ≡ fault.Refused (program.Mount mount.OutOfMemory))
+
+checks_unput : (e : Endian) (size : ℕ) (shape : Bool) (image text : List ℕ) (f : Fault) → (IsWanting f → ⊥) → Checks e size shape image text (Err f) → IsUnput f text
+checks_unput e size shape image text (fault.File file) not is = absurd is
+checks_unput e size shape image text (fault.NotRead file) not is = absurd is
+checks_unput e size shape image text (fault.NoNodes of others) not is = absurd is
+checks_unput e size shape image text (fault.Refused why) not is = absurd (not (inr (ap (λ (w : ProgramFault). fault.Refused w) is.0)))
+checks_unput e size shape image text fault.Output not is = tt
+checks_unput e size shape image text fault.OutOfMemory not is = absurd (not (inl refl))
+
+-- ---- the commands
 
 loads_silent : (name : List ℕ) → Silent (loads name)
 loads_silent name = then_silent (opens name) reads_whole (opens_silent name) reads_silent
 
+views_silent : (e : Endian) (size : ℕ) (decompress : Bool) (name : List ℕ) → Silent (views e size decompress name)
+views_silent e size decompress name = then_silent (loads name) _ (loads_silent name) (λ (image : List ℕ). answers_silent _)
+
+cat_first : (options : Options) (decompress : Bool) (name word : List ℕ) → JudgesFirst (cat_act options decompress name word)
+cat_first options decompress name word = then_first _ _ (answers_silent _) (λ (path : List ℕ).
+    then_first _ _ (views_silent options.endian options.geometry.block decompress name) (λ (view : Viewed).
+    then_first _ _ (answers_silent _) (λ (m : Mount).
+    prints_first _ (contains_unput (content_of m.state path) (shown_told view m)))))
+
+list_first : (options : Options) (decompress : Bool) (name : List ℕ) (word : Option (List ℕ)) → JudgesFirstBut (λ f. f ≡ fault.OutOfMemory) (list_act options decompress name word)
+list_first options decompress name word = then_first_but _ _ _ (answers_silent _) (λ (part : Option (List ℕ)).
+    then_first_but _ _ _ (views_silent options.endian options.geometry.block decompress name) (λ (view : Viewed).
+    then_first_but _ _ _ (answers_silent _) (λ (m : Mount). prints_first_but _ _ (lists_unput m.state part (shown_told view m)))))
+
+differs_unput : (times : Bool) (left right : Mount) (answer : ℕ → Told) (text : List ℕ) (f : Fault) → (f ≡ fault.OutOfMemory → ⊥) → Differs times left right answer text (Err f) → IsUnput f text
+differs_unput times left right answer text (fault.File file) not is = absurd is
+differs_unput times left right answer text (fault.NotRead file) not is = absurd is
+differs_unput times left right answer text (fault.NoNodes of others) not is = absurd is
+differs_unput times left right answer text (fault.Refused why) not is = absurd is
+differs_unput times left right answer text fault.Output not is = tt
+differs_unput times left right answer text fault.OutOfMemory not is = absurd (not refl)
+
+diff_first : (options : Options) (times : Bool) (first second : List ℕ) → JudgesFirstBut (λ f. f ≡ fault.OutOfMemory) (diff_act options times first second)
+diff_first options times first second = then_first_but _ (loads first) _ (loads_silent first) (λ (image : List ℕ).
+    then_first_but _ (loads second) _ (loads_silent second) (λ (other : List ℕ).
+    then_first_but _ _ _ (answers_silent _) (λ _. then_first_but _ _ _ (answers_silent _) (λ _.
+    then_first_but _ _ _ (answers_silent _) (λ (left : Mount). then_first_but _ _ _ (answers_silent _) (λ (right : Mount).
+    prints_first_but _ _ (differs_unput times left right (compared first second left right))))))))
+
+check_first : (options : Options) (shape : Bool) (name : List ℕ) → JudgesFirstBut IsWanting (check_act options shape name)
+check_first options shape name = then_first_but _ (opens name) _ (opens_silent name) (λ (opened : List ℕ).
+    then_first_but _ _ _ (answers_silent _) (λ _.
+    then_first_but _ (reads_whole opened) _ (reads_silent opened) (λ (image : List ℕ).
+    prints_first_but _ _ (checks_unput options.endian options.geometry.block shape image))))
+
+info_first : (name : List ℕ) → JudgesFirst (info_act name)
+info_first name = then_first (loads name) _ (loads_silent name) (λ (image : List ℕ). whole_first _ _)
+
+damage_first : (options : Options) (name : List ℕ) → JudgesFirst (damage_act options name)
+damage_first options name = then_first (loads name) _ (loads_silent name)
+    (λ (image : List ℕ). then_first _ _ (answers_silent _) (λ _. then_first _ _ (answers_silent _) (λ _. whole_first _ _)))
+
 pub judged_first : JudgedFirst
-judged_first = (
-  (λ (name : List ℕ). then_first (loads name) _ (loads_silent name) (λ (image : List ℕ). prints_first _ _)),
-  (λ (options : Options) (name : List ℕ). then_first (loads name) _ (loads_silent name)
-      (λ (image : List ℕ). then_first _ _ (answers_silent _) (λ _. then_first _ _ (answers_silent _) (λ _. prints_first _ _)))),
-)
+judged_first (Check options shape name) = check_first options shape name
+judged_first (Ls options decompress name word) = list_first options decompress name word
+judged_first (Cat options decompress name word) = λ events f not did. cat_first options decompress name word events f did
+judged_first (Info name) = λ events f not did. info_first name events f did
+judged_first (Damage options name) = λ events f not did. damage_first options name events f did
+judged_first (Diff options times first second) = diff_first options times first second

@@ -1,16 +1,17 @@
 -- How the steps of a command go together: one after another, an end by a fault, a text that is
 -- printed.
-use Rattle.std.proofs.Common.{◌≡◌, ◌⊎◌, ℕ, List, [], ◌∷◌, ◌++◌, Option, None, Some, Ok, Err, refl, sym, ap, arith, subst, ◌∙◌, inl, inr, append_assoc}
+use Rattle.std.proofs.Common.{◌≡◌, ℕ, List, [], ◌++◌, Option, None, Some, Ok, Err, refl, sym, ap, arith, subst, ◌∙◌, inl, inr, append_assoc}
 use Rattle.std.specs.Io.KnownBytes.{Appends}
 use Rattle.std.specs.Prelude.{IfSome, Result, drop, option_map, take}
 use Rattle.std.proofs.lemmas.List.{append-nil, take-append-drop}
 use Rattle.flashbase.specs.Device.{Puts, next_count}
 use Rattle.flashbase.specs.Sinks.{SinkChange}
 use Rattle.flashbase.specs.declared.source.DeviceFault.{DeviceFault}
-use Rattle.jedge.specs.Acts.{Act, Then, Ends, GoesOn, DoesFrom, CountsOutput, PutsBy, Saying, answers, and_closed, IsPrintedInPart, closes, closes_errors, prints, prints_put, says, seen_as}
-use Rattle.jedge.specs.Calls.{Answers, Errors, Event, printed, Failed, Print}
+use Rattle.jedge.specs.Acts.{Act, Then, Ends, GoesOn, DoesFrom, CountsOutput, PutsBy, Saying, answers, and_closed, IsPrintedInPart, closes, closes_errors, prints, says, seen_as}
+use Rattle.jedge.specs.Calls.{Answers, Errors, Event}
 use Rattle.jcommand.specs.declared.outcome.Outcome.{Outcome}
-use Rattle.jedge.specs.Commands.{Told, ends, reported}
+use Rattle.jedge.specs.Commands.{ends, reported}
+use Rattle.jedge.specs.Told.{Told}
 use Rattle.jedge.specs.declared.fault.Fault.{Fault}
 use Rattle.jedge.specs.declared.fault.Fault.TheVariants as fault
 

@@ -1,5 +1,5 @@
 -- What each command does: read it as the manual page. The order is that of the steps.
-use Rattle.std.specs.Prelude.{◌≡◌, ◌++◌, ◌==◌, ◌+◌, ◌-◌, ◌^◌, ℕ, is_some, min, if◌then◌else◌, List, Option, Some, None, option_map, Result, Ok, Err}
+use Rattle.std.specs.Prelude.{◌≡◌, ◌++◌, ◌==◌, ◌+◌, ◌-◌, ◌^◌, ℕ, Bool, is_some, min, if◌then◌else◌, List, Option, Some, None, option_map, Result, Ok, Err}
 use Rattle.jcommand.specs.Status.{outcome_of}
 use Rattle.jcommand.specs.declared.outcome.Outcome.{Outcome}
 use Rattle.jcommand.specs.declared.outcome.Outcome.TheVariants as outcome
@@ -13,31 +13,19 @@ use Rattle.jinfo.specs.Infos.{order_of}
 use Rattle.jinfo.specs.InfoText.{info_text}
 use Rattle.jmount.specs.Mount.{Mount}
 use Rattle.jnode.specs.declared.order.Endian.{Endian}
+use Rattle.jreport.specs.Content.{content_of}
+use Rattle.jreport.specs.NoNodes.{none_notes_of}
 use Rattle.jreport.specs.Notes.{note_line_of, noted as findings}
-use Rattle.jedge.specs.Acts.{Act, IsSaidBy, Saying, Then, Whole, answers, loads, prints}
+use Rattle.jedge.specs.Acts.{Act, IsSaidBy, Saying, Then, Whole, answers, loads, opens, prints, reads_whole}
 use Rattle.jedge.specs.Calls.{Event}
+use Rattle.jedge.specs.Comparing.{Differs, compared}
 use Rattle.jedge.specs.Faults.{TellsFault}
 use Rattle.jedge.specs.Images.{HasNodes, MountsOrRefuses}
+use Rattle.jedge.specs.Showing.{Checks, Contains, Lists}
+use Rattle.jedge.specs.Told.{Told, either}
+use Rattle.jedge.specs.Views.{HasBlockSize, NamesPart, NamesPath, Viewed, views}
 use Rattle.jedge.specs.declared.fault.Fault.{Fault}
 use Rattle.jedge.specs.declared.fault.Fault.TheVariants as fault
-use Rattle.jedge.specs.declared.found.Found.{Found}
-use Rattle.jedge.specs.declared.found.Note.{Note}
-use Rattle.jedge.specs.declared.found.Note.TheVariants as note
-
--- ---- what a command found
-
--- how much of what it looks for, and what is noted of it on standard error
-pub record Told : Type 0 where
-  pub counted : ℕ
-  pub noted : Option (List ℕ)
-
--- the text of a note
-abbrev pub note_text : Note → List ℕ
-note_text (note.Container container) = container_line container
-note_text (note.Findings findings) = note_line_of findings
-
-abbrev pub found_told : Found → Told
-found_told found = record { counted = found.counted; noted = option_map note_text found.note }
 
 -- ---- how a command ends
 
@@ -84,10 +72,6 @@ info_act name = Then (loads name) (λ image. prints (Whole (info_text image) (in
 
 -- ---- `damage`
 
--- of two numbers of things found one that is not zero, if there is one
-abbrev pub either : ℕ → ℕ → ℕ
-either n m = if n == 0 then m else n
-
 -- the note on so many findings
 abbrev pub findings_noted : ℕ → Option (List ℕ)
 findings_noted n = if n == 0 then None else Some (note_line_of n)
@@ -119,3 +103,100 @@ examines options image =
 -- the file is read, and its image examined
 abbrev pub damage_act : Options → List ℕ → Act Told
 damage_act options name = Then (loads name) (examines options)
+
+-- ---- `check`
+
+-- The file is opened, and then the size of a block is judged; the file is read, and the report of
+-- its image and the verdict on its mount are printed.
+abbrev pub checks : Endian → ℕ → Bool → List ℕ → Act Told
+checks e size shape name =
+    Then (opens name) (λ opened.
+    Then (answers (HasBlockSize size)) (λ _.
+    Then (reads_whole opened) (λ image.
+    prints (Checks e size shape image))))
+
+abbrev pub check_act : Options → Bool → List ℕ → Act Told
+check_act options = checks options.endian options.geometry.block
+
+-- ---- `ls` and `cat`
+
+-- the note on an image that is shown: on its findings, and on nodes of the other byte order where
+-- it has none
+abbrev pub shown_noted : ℕ → Option ℕ → Option (List ℕ)
+shown_noted n None = findings_noted n
+shown_noted n (Some others) = Some (none_notes_of n others)
+
+-- how many findings those are: those of the image that was read
+abbrev pub findings_shown : Option ℕ → ℕ → ℕ
+findings_shown None n = n
+findings_shown (Some read) n = read
+
+-- nothing of an image that is shown is found
+abbrev pub shown_told : Viewed → Mount → Told
+shown_told view m = record {
+  counted = 0;
+  noted = shown_noted (findings_shown view.findings (findings m)) view.others;
+}
+
+-- The word of a path is judged, where one is given; the file is read, and with `--decompress` its
+-- image decompressed; the image is mounted, and the lines of its tree are printed.
+abbrev pub lists : Endian → ℕ → Bool → List ℕ → Option (List ℕ) → Act Told
+lists e size decompress name word =
+    Then (answers (NamesPart word)) (λ part.
+    Then (views e size decompress name) (λ view.
+    Then (answers (MountsOrRefuses e size view.image)) (λ m.
+    prints (Lists m.state part (shown_told view m)))))
+
+abbrev pub list_act : Options → Bool → List ℕ → Option (List ℕ) → Act Told
+list_act options = lists options.endian options.geometry.block
+
+-- the same of the bytes of the file that the path names
+abbrev pub cats : Endian → ℕ → Bool → List ℕ → List ℕ → Act Told
+cats e size decompress name word =
+    Then (answers (NamesPath word)) (λ path.
+    Then (views e size decompress name) (λ view.
+    Then (answers (MountsOrRefuses e size view.image)) (λ m.
+    prints (Contains (content_of m.state path) (shown_told view m)))))
+
+abbrev pub cat_act : Options → Bool → List ℕ → List ℕ → Act Told
+cat_act options = cats options.endian options.geometry.block
+
+-- ---- `diff`
+
+-- of two images in which nodes are found both are mounted, and the lines on their trees are printed
+abbrev pub compares : Endian → ℕ → Bool → List ℕ → List ℕ → List ℕ → List ℕ → Act Told
+compares e size times first second image other =
+    Then (answers (HasNodes e size (Some first) image)) (λ _.
+    Then (answers (HasNodes e size (Some second) other)) (λ _.
+    Then (answers (MountsOrRefuses e size image)) (λ left.
+    Then (answers (MountsOrRefuses e size other)) (λ right.
+    prints (Differs times left right (compared first second left right))))))
+
+-- the files of two names are read, and their images compared
+abbrev pub diffs : Endian → ℕ → Bool → List ℕ → List ℕ → Act Told
+diffs e size times first second =
+    Then (loads first) (λ image.
+    Then (loads second) (λ other.
+    compares e size times first second image other))
+
+abbrev pub diff_act : Options → Bool → List ℕ → List ℕ → Act Told
+diff_act options = diffs options.endian options.geometry.block
+
+-- ---- all commands
+
+-- a command, and what it is given
+pub data Command : Type 0 where
+  Check : Options → Bool → List ℕ → Command
+  Ls : Options → Bool → List ℕ → Option (List ℕ) → Command
+  Cat : Options → Bool → List ℕ → List ℕ → Command
+  Info : List ℕ → Command
+  Damage : Options → List ℕ → Command
+  Diff : Options → Bool → List ℕ → List ℕ → Command
+
+abbrev pub act_of : Command → Act Told
+act_of (Check options shape name) = check_act options shape name
+act_of (Ls options decompress name word) = list_act options decompress name word
+act_of (Cat options decompress name word) = cat_act options decompress name word
+act_of (Info name) = info_act name
+act_of (Damage options name) = damage_act options name
+act_of (Diff options times first second) = diff_act options times first second

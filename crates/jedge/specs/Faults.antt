@@ -31,6 +31,12 @@ IsToldAs (fault.Refused why) told = told ≡ why
 IsToldAs fault.Output told = told ≡ program.Output
 IsToldAs fault.OutOfMemory told = told ≡ program.OutOfMemory
 
+-- a fault of a library, as the command ends by it
+abbrev pub command_fault : ProgramFault → Fault
+command_fault program.Output = fault.Output
+command_fault program.OutOfMemory = fault.OutOfMemory
+command_fault why = fault.Refused why
+
 -- the lines of a fault, and of the note after it
 pub record TellsFault (f : Fault) (text : List ℕ) : Type 0 where
   pub why : ProgramFault

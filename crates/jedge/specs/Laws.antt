@@ -1,13 +1,14 @@
 -- What is true of the acts of all commands.
 use Rattle.std.specs.Prelude.{◌≡◌, ◌⊎◌, ℕ, List, [], ◌∷◌, Result, Err, string_bytes}
-use Rattle.jcommand.specs.declared.parsed.Options.{Options}
+use Rattle.jlog.specs.declared.fault.SessionFault.TheVariants as session
 use Rattle.flashbase.specs.declared.source.LoadFault.TheVariants as load
+use Rattle.jmount.specs.declared.fault.MountFault.TheVariants as mount
 use Rattle.jreport.specs.declared.faults.ProgramFault.{ProgramFault}
 use Rattle.jreport.specs.declared.faults.ProgramFault.TheVariants as program
 use Rattle.jreport.specs.declared.reason.Reason.{Reason}
 use Rattle.jedge.specs.Acts.{Act}
 use Rattle.jedge.specs.Calls.{Call, Event, Did, Failed, Answers, Errors, Open, Read, ReadPart, Print, Create, Write, Sync, SyncFolder, Rename, Remove, Close}
-use Rattle.jedge.specs.Commands.{damage_act, info_act, reported}
+use Rattle.jedge.specs.Commands.{Command, Cat, Check, Damage, Diff, Info, Ls, act_of, reported}
 use Rattle.jedge.specs.declared.fault.Fault.{Fault}
 use Rattle.jedge.specs.declared.fault.Fault.TheVariants as fault
 
@@ -40,10 +41,9 @@ abbrev pub MakesNothing : {A : Type 0} → Act A → Type 0
 MakesNothing {A} act =
     (events : List Event) (result : Result A Fault) → act events result → LooksOnly events
 
--- `info` and `damage` make nothing
+-- no command of these makes anything
 abbrev pub ReadsOnly : Type 0
-ReadsOnly = ((name : List ℕ) → MakesNothing (reported (info_act name)))
-    × ((options : Options) (name : List ℕ) → MakesNothing (reported (damage_act options name)))
+ReadsOnly = (command : Command) → MakesNothing (reported (act_of command))
 
 -- ---- a fault is an event
 
@@ -51,26 +51,32 @@ abbrev pub Happened : Event → List Event → Type 0
 Happened event [] = ⊥
 Happened event (first ∷ events) = (first ≡ event) ⊎ Happened event events
 
--- What was read is too long, or does not mount, or there is no memory for it. That names no file,
--- and blames no call.
+-- What was read, or is asked for, is refused for what it is, or there is no memory for it. That
+-- names no file, and blames no call.
 abbrev pub IsOfBytes : ProgramFault → Type 0
 IsOfBytes (program.Load load.Device) = ⊥
 IsOfBytes (program.Load load.TooLarge) = Unit {0}
 IsOfBytes (program.Load load.OutOfMemory) = Unit {0}
-IsOfBytes (program.Scan why) = ⊥
+IsOfBytes (program.Scan why) = Unit {0}
 IsOfBytes (program.Mount why) = Unit {0}
 IsOfBytes (program.Clash addr other) = Unit {0}
 IsOfBytes (program.File file) = ⊥
 IsOfBytes (program.NotRead file) = ⊥
 IsOfBytes (program.Listing line) = ⊥
-IsOfBytes (program.Session why line cause) = ⊥
-IsOfBytes (program.Path why) = ⊥
-IsOfBytes program.NotRegular = ⊥
+IsOfBytes (program.Session (session.Refused why) line cause) = Unit {0}
+IsOfBytes (program.Session (session.Full needed free) line cause) = Unit {0}
+IsOfBytes (program.Session session.ReadOnly line cause) = Unit {0}
+IsOfBytes (program.Session session.Sink line cause) = ⊥
+IsOfBytes (program.Session session.OutOfMemory line cause) = Unit {0}
+IsOfBytes (program.Session session.Broken line cause) = Unit {0}
+IsOfBytes (program.Session session.Geometry line cause) = Unit {0}
+IsOfBytes (program.Path why) = Unit {0}
+IsOfBytes program.NotRegular = Unit {0}
 IsOfBytes program.Output = ⊥
 IsOfBytes program.OutOfMemory = ⊥
 IsOfBytes (program.NoSpace name) = ⊥
-IsOfBytes (program.Data addr) = ⊥
-IsOfBytes (program.TooLong addr) = ⊥
+IsOfBytes (program.Data addr) = Unit {0}
+IsOfBytes (program.TooLong addr) = Unit {0}
 IsOfBytes (program.Image why) = ⊥
 
 -- A fault that names a file comes with a call on that file that failed, for the same reason; that
@@ -90,8 +96,7 @@ abbrev pub BlamesFailed : {A : Type 0} → Act A → Type 0
 BlamesFailed act = (events : List Event) (f : Fault) → act events (Err f) → BlamesEvent f events
 
 abbrev pub BlamedIsFailed : Type 0
-BlamedIsFailed = ((name : List ℕ) → BlamesFailed (info_act name))
-    × ((options : Options) (name : List ℕ) → BlamesFailed (damage_act options name))
+BlamedIsFailed = (command : Command) → BlamesFailed (act_of command)
 
 -- ---- all that is refused is refused before anything is printed
 
@@ -128,6 +133,21 @@ ComesFirst fault.OutOfMemory events = NonePrinted events
 abbrev pub JudgesFirst : {A : Type 0} → Act A → Type 0
 JudgesFirst act = (events : List Event) (f : Fault) → act events (Err f) → ComesFirst f events
 
+-- the same of one that may also end by such faults when it has printed
+abbrev pub JudgesFirstBut : {A : Type 0} → (Fault → Type 0) → Act A → Type 0
+JudgesFirstBut Late act = (events : List Event) (f : Fault) → (Late f → ⊥) → act events (Err f)
+    → ComesFirst f events
+
+-- Those of each command: memory alone is wanted later. `ls` and `diff` take it while they print,
+-- and `check` mounts an image behind the report of it.
+abbrev pub IsLate : Command → Fault → Type 0
+IsLate (Check options shape name) f =
+    (f ≡ fault.OutOfMemory) ⊎ (f ≡ fault.Refused (program.Mount mount.OutOfMemory))
+IsLate (Ls options decompress name word) f = f ≡ fault.OutOfMemory
+IsLate (Cat options decompress name word) f = ⊥
+IsLate (Info name) f = ⊥
+IsLate (Damage options name) f = ⊥
+IsLate (Diff options times first second) f = f ≡ fault.OutOfMemory
+
 abbrev pub JudgedFirst : Type 0
-JudgedFirst = ((name : List ℕ) → JudgesFirst (info_act name))
-    × ((options : Options) (name : List ℕ) → JudgesFirst (damage_act options name))
+JudgedFirst = (command : Command) → JudgesFirstBut (IsLate command) (act_of command)

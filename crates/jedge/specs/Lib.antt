@@ -1,6 +1,10 @@
 pub mod Acts
 pub mod Calls
 pub mod Commands
+pub mod Comparing
 pub mod Faults
 pub mod Images
 pub mod Laws
+pub mod Showing
+pub mod Told
+pub mod Views

@@ -2,7 +2,8 @@
 ghost use Rattle.std.specs.Prelude.{◌≡◌, option_map};
 ghost use Rattle.jscan.specs.Scans.{IsScannable};
 ghost use Rattle.jedge.specs.Acts.{DoesFrom, prints, seen_as};
-ghost use Rattle.jedge.specs.Commands.{Costs, costs_found, damage_act, either, examined, findings_noted, found_told, note_text};
+ghost use Rattle.jedge.specs.Commands.{Costs, costs_found, damage_act, examined, findings_noted};
+ghost use Rattle.jedge.specs.Told.{either, found_told, note_text};
 
 use crate::fault::Fault;
 use crate::found::{Found, Note, finished};
@@ -28,7 +29,7 @@ pub(crate) fn either(first: u64, second: u64) -> u64
 }
 
 /// The note on so many findings.
-pub(crate) fn findings_noted(findings: u64) -> Option<Note>
+pub(crate) fn findings_noted(findings: u64) -> Option<Note<'static>>
     ensures { option_map note_text result ≡ findings_noted findings }
 {
     match findings {
@@ -38,7 +39,7 @@ pub(crate) fn findings_noted(findings: u64) -> Option<Note>
 }
 
 /// What an examination comes to.
-fn examined(totals: Totals, mounted: &Mounted<'_>) -> Found
+fn examined(totals: Totals, mounted: &Mounted<'_>) -> Found<'static>
     ensures { found_told result ≡ examined totals mounted.now }
 {
     let told = (totals.damaged as u64).saturating_add(totals.missing as u64);
@@ -50,7 +51,10 @@ fn examined(totals: Totals, mounted: &Mounted<'_>) -> Found
 }
 
 /// What the damage of a mount comes to, by what was put of it.
-fn costs_found(mounted: &Mounted<'_>, put: Result<Totals, DamageFault>) -> Result<Found, Fault>
+fn costs_found(
+    mounted: &Mounted<'_>,
+    put: Result<Totals, DamageFault>,
+) -> Result<Found<'static>, Fault>
     ensures { seen_as found_told result ≡ costs_found mounted.now put }
 {
     match put {
@@ -65,7 +69,7 @@ fn print_costs<E: Order, H: Host>(
     host: &mut H,
     mounted: &Mounted<'_>,
     geometry: Geometry,
-) -> Result<Found, Fault>
+) -> Result<Found<'static>, Fault>
     requires { IsScannable geometry.block mounted.now.image }
     ensures { DoesFrom (H.history host.old) (H.history host.new)
         (prints (Costs E.order geometry.block mounted.now)) (seen_as found_told result) }
@@ -80,7 +84,10 @@ fn print_costs<E: Order, H: Host>(
 }
 
 /// `damage`.
-pub fn damage<E: Order, H: Host>(host: &mut H, asked: Examination<'_>) -> Result<Found, Fault>
+pub fn damage<E: Order, H: Host>(
+    host: &mut H,
+    asked: Examination<'_>,
+) -> Result<Found<'static>, Fault>
     requires { asked.options.endian ≡ E.order }
     ensures { DoesFrom (H.history host.old) (H.history host.new)
         (damage_act asked.entry.options asked.entry.image.now) (seen_as found_told result) }

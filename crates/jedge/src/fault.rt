@@ -1,6 +1,6 @@
 //! Why a command ends early. A fault owns the names that it tells.
 ghost use Rattle.std.specs.Prelude.{◌≡◌, option_map, string_bytes};
-ghost use Rattle.jedge.specs.Faults.{IsToldAs};
+ghost use Rattle.jedge.specs.Faults.{IsToldAs, command_fault};
 
 use jreport::{ImageFault, ProgramFault, Reason, Unopened};
 
@@ -51,6 +51,17 @@ fn name_of(name: &Option<String>) -> Option<&str>
 }
 
 impl Fault {
+    /// A fault of a library, as a command ends by it.
+    pub(crate) fn of(fault: ProgramFault<'static>) -> Fault
+        ensures { result ≡ command_fault fault.entry }
+    {
+        match fault {
+            ProgramFault::Output => Fault::Output,
+            ProgramFault::OutOfMemory => Fault::OutOfMemory,
+            refused => Fault::Refused(refused),
+        }
+    }
+
     /// As the program tells it.
     pub fn told(&self) -> ProgramFault<'_>
         ensures { IsToldAs self.now result }

@@ -7,18 +7,29 @@ use jinfo::Container;
 
 /// What is noted of it on standard error.
 #[derive(Clone, Copy)]
-pub enum Note {
+pub enum Note<'a> {
     /// The file begins as this.
     Container(Container),
     /// The image has so many findings.
     Findings(u64),
+    /// No node is found in the image; in the other byte order there are `others`.
+    NoNodes { findings: u64, others: u64 },
+    /// Of two images, the findings of each.
+    Both(Named<'a>, Named<'a>),
+}
+
+/// How many findings the image of a name has.
+#[derive(Clone, Copy)]
+pub struct Named<'a> {
+    pub name: &'a str,
+    pub findings: u64,
 }
 
 /// How much a command found of what it looks for, and what is noted.
 #[derive(Clone, Copy)]
-pub struct Found {
+pub struct Found<'a> {
     pub counted: u64,
-    pub note: Option<Note>,
+    pub note: Option<Note<'a>>,
 }
 
 /// The answer of a call whose output was closed.

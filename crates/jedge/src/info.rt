@@ -5,7 +5,8 @@ ghost use Rattle.jscan.specs.Image.{greatest_image};
 ghost use Rattle.jinfo.specs.InfoText.{info_text};
 ghost use Rattle.jinfo.specs.Infos.{order_of};
 ghost use Rattle.jedge.specs.Acts.{DoesFrom, PutsBy, Whole, seen_as};
-ghost use Rattle.jedge.specs.Commands.{info_act, informed, found_told};
+ghost use Rattle.jedge.specs.Commands.{info_act, informed};
+ghost use Rattle.jedge.specs.Told.{found_told};
 
 use crate::fault::Fault;
 use crate::found::{Found, Note, finished};
@@ -16,7 +17,7 @@ use jinfo::{InfoFault, container_of, put_info};
 use jnode::Endian;
 
 /// What an image was found to be.
-fn informed(image: &[u8], order: Option<Endian>) -> Found
+fn informed(image: &[u8], order: Option<Endian>) -> Found<'static>
     requires { order ≡ order_of image.now }
     ensures { found_told result ≡ informed image.now }
 {
@@ -30,7 +31,7 @@ fn informed(image: &[u8], order: Option<Endian>) -> Found
 }
 
 /// Puts all lines of an image, and answers what it was found to be.
-fn put_lines<T: Sink>(image: &[u8], sink: &mut T) -> Result<Found, Fault>
+fn put_lines<T: Sink>(image: &[u8], sink: &mut T) -> Result<Found<'static>, Fault>
     requires { length image.now ≤ greatest_image }
     ensures { PutsBy (Whole (info_text image.now) (informed image.now))
         (change_of T.Sink sink.old sink.new) (seen_as found_told result) }
@@ -42,7 +43,7 @@ fn put_lines<T: Sink>(image: &[u8], sink: &mut T) -> Result<Found, Fault>
 }
 
 /// `info`.
-pub fn info<H: Host>(host: &mut H, name: &str) -> Result<Found, Fault>
+pub fn info<H: Host>(host: &mut H, name: &str) -> Result<Found<'static>, Fault>
     ensures { DoesFrom (H.history host.old) (H.history host.new) (info_act name.now)
         (seen_as found_told result) }
 {

@@ -13,7 +13,8 @@ pub fn blamed_is_failed()
     ensures { BlamedIsFailed }
 {}
 
-/// A command that ends by another fault than that of standard output has printed nothing there.
+/// A command that ends by another fault than that of standard output has printed nothing there. But
+/// memory may be wanting later: in `ls` and `diff` while they print, in `check` behind its report.
 pub fn judged_first()
     ensures { JudgedFirst }
 {}

@@ -6,13 +6,18 @@
 //! each command, as its manual page has it.
 #![tactic(auto)]
 
+pub mod cat;
+pub mod check;
 pub mod commands;
 pub mod damage;
+pub mod diff;
 pub mod fault;
 pub mod found;
 pub mod host;
 pub mod info;
 pub mod laws;
+pub mod list;
 pub mod mounting;
 pub mod reading;
 pub mod reporting;
+pub mod subject;

@@ -2,8 +2,9 @@
 ghost use Rattle.std.specs.Prelude.{◌≡◌, ℕ, List, Ok, Err, Some, option_map};
 ghost use Rattle.flashbase.specs.Sinks.{PutsTo};
 ghost use Rattle.jedge.specs.Acts.{DoesFrom, says, seen_as};
-ghost use Rattle.jedge.specs.Commands.{ends, note_text, found_told};
+ghost use Rattle.jedge.specs.Commands.{ends};
 ghost use Rattle.jedge.specs.Faults.{TellsFault};
+ghost use Rattle.jedge.specs.Told.{found_told, note_text};
 
 use crate::fault::Fault;
 use crate::found::{Found, Note};
@@ -11,7 +12,7 @@ use crate::host::Host;
 use flashbase::{DeviceFault, Sink};
 use jcommand::Outcome;
 use jinfo::put_container_note;
-use jreport::{put_fault_and_note, put_note};
+use jreport::{put_fault_and_note, put_named_notes, put_none_notes, put_note};
 
 /// Puts the lines of a fault.
 fn put_fault<T: Sink>(fault: &Fault, sink: &mut T) -> Result<(), DeviceFault>
@@ -32,19 +33,27 @@ fn say_fault<H: Host>(host: &mut H, fault: &Fault)
 }
 
 /// Puts a note.
-fn put_noted<T: Sink>(note: Note, sink: &mut T) -> Result<(), DeviceFault>
-    ensures { PutsTo T.Sink sink.old sink.new (note_text note) result }
+fn put_noted<T: Sink>(note: Note<'_>, sink: &mut T) -> Result<(), DeviceFault>
+    ensures { PutsTo T.Sink sink.old sink.new (note_text note.entry) result }
 {
     match note {
         Note::Container(container) => put_container_note(Some(container), sink),
         Note::Findings(findings) => put_note(findings, sink),
+        Note::NoNodes { findings, others } => put_none_notes(findings, others, sink),
+        Note::Both(first, second) => put_named_notes(
+            first.name.as_bytes(),
+            first.findings,
+            second.name.as_bytes(),
+            second.findings,
+            sink,
+        ),
     }
 }
 
 /// Says it.
-fn say_note<H: Host>(host: &mut H, note: Note)
-    ensures { DoesFrom (H.history host.old) (H.history host.new) (says (Some (note_text note)))
-        (Ok result) }
+fn say_note<H: Host>(host: &mut H, note: Note<'_>)
+    ensures { DoesFrom (H.history host.old) (H.history host.new)
+        (says (Some (note_text note.entry))) (Ok result) }
 {
     let mut errors = host.errors();
     let _ = put_noted(note, &mut errors);
@@ -52,9 +61,9 @@ fn say_note<H: Host>(host: &mut H, note: Note)
 }
 
 /// Says it where there is one.
-fn say_noted<H: Host>(host: &mut H, note: Option<Note>)
-    ensures { DoesFrom (H.history host.old) (H.history host.new) (says (option_map note_text note))
-        (Ok result) }
+fn say_noted<H: Host>(host: &mut H, note: Option<Note<'_>>)
+    ensures { DoesFrom (H.history host.old) (H.history host.new)
+        (says (option_map note_text note.entry)) (Ok result) }
 {
     match note {
         Some(note) => say_note(host, note),
@@ -63,9 +72,9 @@ fn say_noted<H: Host>(host: &mut H, note: Option<Note>)
 }
 
 /// Tells an answer on standard error, and how the program ends with it.
-pub fn report<H: Host>(host: &mut H, answer: Result<Found, Fault>) -> Outcome
-    ensures { DoesFrom (H.history host.old) (H.history host.new) (ends (seen_as found_told answer))
-        (Ok result) }
+pub fn report<H: Host>(host: &mut H, answer: Result<Found<'_>, Fault>) -> Outcome
+    ensures { DoesFrom (H.history host.old) (H.history host.new)
+        (ends (seen_as found_told answer.entry)) (Ok result) }
 {
     match answer {
         Ok(found) => {

@@ -1,6 +1,6 @@
 use Rattle.std.proofs.Common.{◌∙◌, ap}
 use Rattle.jedge.specs.Acts.{and_closed, seen_as}
-use Rattle.jedge.specs.Commands.{Told, found_told}
+use Rattle.jedge.specs.Told.{Told, found_told}
 use Rattle.jedge.specs.declared.fault.Fault.{Fault}
 use Rattle.std.specs.Prelude.{Result}
 use Rattle.jedge.proofs.CostLemmas.{costs_put}

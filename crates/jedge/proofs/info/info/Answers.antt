@@ -1,7 +1,8 @@
 use Rattle.std.proofs.Common.{ℕ, List, ◌∙◌, ap}
 use Rattle.jinfo.specs.InfoText.{info_text}
 use Rattle.jedge.specs.Acts.{Whole, seen_as}
-use Rattle.jedge.specs.Commands.{informed, found_told}
+use Rattle.jedge.specs.Commands.{informed}
+use Rattle.jedge.specs.Told.{found_told}
 use Rattle.jedge.proofs.Steps.{not_printed, printed_put, puts_at, seen_closed, then_err, then_ok}
 use Rattle.jedge.proofs.info.info.Goals as goal
 

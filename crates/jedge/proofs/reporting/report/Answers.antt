@@ -2,7 +2,8 @@ use Rattle.std.proofs.Common.{Ok, Some, ap, refl, sym}
 use Rattle.std.specs.Prelude.{Result, option_map}
 use Rattle.jcommand.specs.declared.outcome.Outcome.{Outcome}
 use Rattle.jedge.specs.Acts.{seen_as}
-use Rattle.jedge.specs.Commands.{ends, note_text, found_told}
+use Rattle.jedge.specs.Commands.{ends}
+use Rattle.jedge.specs.Told.{found_told, note_text}
 use Rattle.jedge.specs.declared.fault.Fault.{Fault}
 use Rattle.jedge.specs.declared.found.Found.{Found}
 use Rattle.jedge.proofs.Steps.{does_at, mapped}

@@ -1,7 +1,7 @@
 use Rattle.std.proofs.Common.{refl, sym}
 use Rattle.std.specs.Prelude.{Option, option_map}
 use Rattle.jedge.specs.Acts.{says}
-use Rattle.jedge.specs.Commands.{note_text}
+use Rattle.jedge.specs.Told.{note_text}
 use Rattle.jedge.specs.declared.found.Note.{Note}
 use Rattle.jedge.proofs.Steps.{does_at, nothing_done}
 use Rattle.jedge.proofs.reporting.say_noted.Goals as goal

@@ -1,0 +1,174 @@
+//! What a command goes on with that shows an image: a path that a word names, and the image, or
+//! what `decompress` makes of it.
+ghost use Rattle.std.specs.Prelude.{◌≡◌, true, option_map};
+ghost use Rattle.jreport.specs.NoNodes.{TellsNone};
+ghost use Rattle.jreport.specs.Notes.{noted};
+ghost use Rattle.jedge.specs.Acts.{DoesFrom, seen_as};
+ghost use Rattle.jedge.specs.Commands.{findings_shown, shown_noted, shown_told};
+ghost use Rattle.jedge.specs.Told.{found_told, note_text};
+ghost use Rattle.jedge.specs.Views.{IsViewed, NamesPart, NamesPath, conversion_refusal, viewed, views};
+
+use crate::damage::findings_noted;
+use crate::fault::Fault;
+use crate::found::{Found, Note};
+use crate::host::Host;
+use crate::reading::load;
+use jconvert::{ConvertFault, decompressed};
+use jlog::SessionFault;
+use jmount::{MountFault, Mounted};
+use jnode::Order;
+use jreport::{Cause, Limit, ProgramFault, found_in, noted, others_if_none, path_word};
+use jscan::Geometry;
+use std::alloc::Global;
+
+/// The path that a word names.
+pub(crate) fn path_named(alloc: Global, word: &str) -> Result<Vec<u8>, Fault>
+    ensures { NamesPath word.now (seen_as (λ path. path.items) result) }
+{
+    match path_word(alloc, word.as_bytes()) {
+        Ok(path) => Ok(path),
+        Err(fault) => Err(Fault::of(fault)),
+    }
+}
+
+/// The same, where a word is given.
+pub(crate) fn part_named(alloc: Global, word: Option<&str>) -> Result<Option<Vec<u8>>, Fault>
+    ensures { NamesPart (option_map (λ w. w.now) word.entry)
+        (seen_as (option_map (λ path. path.items)) result) }
+{
+    match word {
+        Some(word) => match path_named(alloc, word) {
+            Ok(path) => Ok(Some(path)),
+            Err(fault) => Err(fault),
+        },
+        None => Ok(None),
+    }
+}
+
+/// An image that is shown, and what is noted of the one that was read.
+#[derive(Drop)]
+pub struct Subject {
+    pub image: Vec<u8>,
+    /// How many findings the image has that was read, where this one is made of it.
+    pub findings: Option<u64>,
+    /// Where no node is found in the image that was read, how many the other byte order has.
+    pub others: Option<u64>,
+}
+
+/// Why nothing is made of an image.
+fn conversion_refusal(fault: ConvertFault) -> ProgramFault<'static>
+    ensures { result ≡ conversion_refusal fault }
+{
+    match fault {
+        ConvertFault::BlockSize => ProgramFault::Mount(MountFault::BlockSize),
+        ConvertFault::TooLarge => ProgramFault::Mount(MountFault::TooLarge),
+        ConvertFault::Incompatible { addr, nodetype } => {
+            ProgramFault::Mount(MountFault::Incompatible { addr, nodetype })
+        }
+        ConvertFault::Compressed { addr, compr } => {
+            ProgramFault::Mount(MountFault::Compressed { addr, compr })
+        }
+        ConvertFault::Data { addr } => ProgramFault::Data { addr },
+        ConvertFault::TooLong { addr } => ProgramFault::TooLong { addr },
+        ConvertFault::ReadOnly => ProgramFault::from(SessionFault::ReadOnly),
+        ConvertFault::Geometry => ProgramFault::Session {
+            fault: SessionFault::Geometry,
+            line: None,
+            cause: Cause::Limit(Limit::SmallBlock),
+        },
+        ConvertFault::Full { needed, free } => {
+            ProgramFault::from(SessionFault::Full { needed, free })
+        }
+        ConvertFault::Sink => ProgramFault::from(SessionFault::Sink),
+        ConvertFault::OutOfMemory => ProgramFault::from(SessionFault::OutOfMemory),
+    }
+}
+
+/// What `decompress` makes of an image.
+fn made_view<E: Order>(
+    alloc: Global,
+    image: &[u8],
+    geometry: Geometry,
+    others: Option<u64>,
+) -> Result<Subject, Fault>
+    requires { TellsNone E.order geometry.block image.now others }
+    ensures { IsViewed E.order geometry.block true image.now (seen_as viewed result) }
+{
+    match decompressed::<E>(alloc, image, geometry) {
+        Ok(made) => Ok(Subject {
+            image: made,
+            findings: Some(found_in::<E>(image, geometry).noted),
+            others,
+        }),
+        Err(fault) => Err(Fault::Refused(conversion_refusal(fault))),
+    }
+}
+
+/// The image that is shown of one that was read.
+fn view_of<E: Order>(
+    alloc: Global,
+    image: Vec<u8>,
+    geometry: Geometry,
+    decompress: bool,
+) -> Result<Subject, Fault>
+    ensures { IsViewed E.order geometry.block decompress image.items (seen_as viewed result) }
+{
+    let others = others_if_none::<E>(image.as_slice(), geometry);
+    if decompress {
+        made_view::<E>(alloc, image.as_slice(), geometry, others)
+    } else {
+        Ok(Subject {
+            image,
+            findings: None,
+            others,
+        })
+    }
+}
+
+/// The image that is shown of the file of a name.
+pub fn view<E: Order, H: Host>(
+    host: &mut H,
+    geometry: Geometry,
+    decompress: bool,
+    name: &str,
+) -> Result<Subject, Fault>
+    ensures { DoesFrom (H.history host.old) (H.history host.new)
+        (views E.order geometry.block decompress name.now) (seen_as viewed result) }
+{
+    match load(host, name) {
+        Ok(image) => view_of::<E>(host.alloc(), image, geometry, decompress),
+        Err(fault) => Err(fault),
+    }
+}
+
+/// How many findings are noted of an image that is shown.
+fn findings_shown(read: Option<u64>, mounted: &Mounted<'_>) -> u64
+    ensures { result ≡ findings_shown read (noted mounted.now) }
+{
+    match read {
+        Some(findings) => findings,
+        None => noted(mounted),
+    }
+}
+
+/// The note on it.
+fn shown_noted(findings: u64, others: Option<u64>) -> Option<Note<'static>>
+    ensures { option_map note_text result ≡ shown_noted findings others }
+{
+    match others {
+        Some(others) => Some(Note::NoNodes { findings, others }),
+        None => findings_noted(findings),
+    }
+}
+
+impl Subject {
+    /// What a command comes to that shows it.
+    pub(crate) fn found(&self, mounted: &Mounted<'_>) -> Found<'static>
+        ensures { found_told result ≡ shown_told (viewed self.now) mounted.now }
+    {
+        Found {
+            counted: 0,
+            note: shown_noted(findings_shown(self.findings, mounted), self.others),
+        }
+    }
+}
