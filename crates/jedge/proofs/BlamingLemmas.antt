@@ -19,7 +19,7 @@ use Rattle.jscan.specs.Image.{nodes}
 use Rattle.jedge.specs.Acts.{Act, CountsOutput, Then, Ends, GoesOn, IsPrintedInPart, IsUnfinished, Saying, Whole, and_closed, answers, closes, loads, opens, prints, reads_whole}
 use Rattle.jedge.specs.Calls.{Event, Answers, Failed, Open, Print, ReadPart, printed}
 use Rattle.jedge.specs.Commands.{Cat, Check, Damage, Diff, Info, Ls, cat_act, check_act, compares, damage_act, diff_act, info_act, list_act, shown_told}
-use Rattle.jedge.specs.Comparing.{Differs, compared}
+use Rattle.jedge.specs.Comparing.{Compares, compared}
 use Rattle.jedge.specs.Images.{HasNodes, MountsOrRefuses}
 use Rattle.jedge.specs.Showing.{Checks, Contains, Lists, NamesNothing}
 use Rattle.jedge.specs.Told.{Told}
@@ -276,7 +276,7 @@ damage_blames options name = then_blames (loads name) _ (loads_blames name)
     (λ (image : List ℕ). then_blames _ _ (nodes_blame options.endian options.geometry.block None image)
     (λ _. then_blames _ _ (mounts_blame options.endian options.geometry.block image) (λ _. whole_blames _ _)))
 
-differs_unnamed : (times : Bool) (left right : Mount) (answer : ℕ → Told) → Unnamed (Differs times left right answer)
+differs_unnamed : (times : Bool) (left right : Mount) (answer : ℕ → Told) → Unnamed (Compares times left right answer)
 differs_unnamed times left right answer text (fault.File file) is = absurd is
 differs_unnamed times left right answer text (fault.NotRead file) is = absurd is
 differs_unnamed times left right answer text (fault.NoNodes of others) is = absurd is

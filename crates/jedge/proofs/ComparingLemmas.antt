@@ -8,11 +8,11 @@ use Rattle.jdiff.specs.Differing.{PutsDifferences}
 use Rattle.jreport.specs.declared.faults.ProgramFault.{ProgramFault}
 use Rattle.jreport.specs.declared.faults.ProgramFault.TheVariants as program
 use Rattle.jedge.specs.Acts.{PutsBy}
-use Rattle.jedge.specs.Comparing.{Differs, lines_compared}
+use Rattle.jedge.specs.Comparing.{Compares, lines_compared}
 use Rattle.jedge.specs.Told.{Told}
 
 pub differs_put : (times : Bool) (left right : Mount) (answer : ℕ → Told) (s : SinkChange) (put : Result ℕ ProgramFault)
-    → PutsDifferences times left.state right.state s.old s.new s.before s.now put → PutsBy (Differs times left right answer) s (lines_compared answer put)
+    → PutsDifferences times left.state right.state s.old s.new s.before s.now put → PutsBy (Compares times left right answer) s (lines_compared answer put)
 differs_put times left right answer s (Ok count) is = record {
   text = flat_map (λ line. line) is.0;
   says = (is.0, is.1, refl, ap answer is.2);

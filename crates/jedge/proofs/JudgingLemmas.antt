@@ -11,7 +11,7 @@ use Rattle.jreport.specs.declared.faults.ProgramFault.TheVariants as program
 use Rattle.jedge.specs.Acts.{Act, Then, Ends, GoesOn, Saying, Whole, and_closed, answers, closes, loads, opens, prints, reads_whole}
 use Rattle.jedge.specs.Calls.{Event, Answers, Did, Failed, Print, printed}
 use Rattle.jedge.specs.Commands.{Cat, Check, Damage, Diff, Info, Ls, cat_act, check_act, damage_act, diff_act, info_act, list_act, shown_told}
-use Rattle.jedge.specs.Comparing.{Differs, compared}
+use Rattle.jedge.specs.Comparing.{Compares, compared}
 use Rattle.jedge.specs.Laws.{ComesFirst, JudgedFirst, JudgesFirst, JudgesFirstBut, NonePrinted}
 use Rattle.jedge.specs.Showing.{Checks, Contains, Lists}
 use Rattle.jedge.specs.Told.{Told}
@@ -202,7 +202,7 @@ list_first options decompress name word = then_first_but _ _ _ (answers_silent _
     then_first_but _ _ _ (views_silent options.endian options.geometry.block decompress name) (λ (view : Viewed).
     then_first_but _ _ _ (answers_silent _) (λ (m : Mount). prints_first_but _ _ (lists_unput m.state part (shown_told view m)))))
 
-differs_unput : (times : Bool) (left right : Mount) (answer : ℕ → Told) (text : List ℕ) (f : Fault) → (f ≡ fault.OutOfMemory → ⊥) → Differs times left right answer text (Err f) → IsUnput f text
+differs_unput : (times : Bool) (left right : Mount) (answer : ℕ → Told) (text : List ℕ) (f : Fault) → (f ≡ fault.OutOfMemory → ⊥) → Compares times left right answer text (Err f) → IsUnput f text
 differs_unput times left right answer text (fault.File file) not is = absurd is
 differs_unput times left right answer text (fault.NotRead file) not is = absurd is
 differs_unput times left right answer text (fault.NoNodes of others) not is = absurd is

@@ -18,7 +18,7 @@ use Rattle.jreport.specs.NoNodes.{none_notes_of}
 use Rattle.jreport.specs.Notes.{note_line_of, noted as findings}
 use Rattle.jedge.specs.Acts.{Act, IsSaidBy, Saying, Then, Whole, answers, loads, opens, prints, reads_whole}
 use Rattle.jedge.specs.Calls.{Event}
-use Rattle.jedge.specs.Comparing.{Differs, compared}
+use Rattle.jedge.specs.Comparing.{Compares, compared}
 use Rattle.jedge.specs.Faults.{TellsFault}
 use Rattle.jedge.specs.Images.{HasNodes, MountsOrRefuses}
 use Rattle.jedge.specs.Showing.{Checks, Contains, Lists}
@@ -170,7 +170,7 @@ compares e size times first second image other =
     Then (answers (HasNodes e size (Some second) other)) (λ _.
     Then (answers (MountsOrRefuses e size image)) (λ left.
     Then (answers (MountsOrRefuses e size other)) (λ right.
-    prints (Differs times left right (compared first second left right))))))
+    prints (Compares times left right (compared first second left right))))))
 
 -- the files of two names are read, and their images compared
 abbrev pub diffs : Endian → ℕ → Bool → List ℕ → List ℕ → Act Told

@@ -38,14 +38,14 @@ IsPartOfDifferences times left right text = (lines : List (List ℕ))
 
 -- The lines on two trees, and by their number, or the greatest u64, what is told; or a beginning of
 -- them, where the output fails or memory runs out.
-abbrev pub Differs : Bool → Mount → Mount → (ℕ → Told) → Saying Told
-Differs times left right answer text (Ok told) = (lines : List (List ℕ))
+abbrev pub Compares : Bool → Mount → Mount → (ℕ → Told) → Saying Told
+Compares times left right answer text (Ok told) = (lines : List (List ℕ))
     × AreDifferences times left.state right.state lines × (text ≡ flat_map (λ line. line) lines)
     × (told ≡ answer (min (length lines) (2 ^ 64 - 1)))
-Differs times left right answer text (Err (fault.File file)) = ⊥
-Differs times left right answer text (Err (fault.NotRead file)) = ⊥
-Differs times left right answer text (Err (fault.NoNodes of others)) = ⊥
-Differs times left right answer text (Err (fault.Refused why)) = ⊥
-Differs times left right answer text (Err fault.Output) = IsPartOfDifferences times left right text
-Differs times left right answer text (Err fault.OutOfMemory) =
+Compares times left right answer text (Err (fault.File file)) = ⊥
+Compares times left right answer text (Err (fault.NotRead file)) = ⊥
+Compares times left right answer text (Err (fault.NoNodes of others)) = ⊥
+Compares times left right answer text (Err (fault.Refused why)) = ⊥
+Compares times left right answer text (Err fault.Output) = IsPartOfDifferences times left right text
+Compares times left right answer text (Err fault.OutOfMemory) =
     IsPartOfDifferences times left right text

@@ -2,7 +2,7 @@
 ghost use Rattle.std.specs.Prelude.{◌≡◌, option_map};
 ghost use Rattle.jedge.specs.Acts.{DoesFrom, prints, seen_as};
 ghost use Rattle.jedge.specs.Commands.{compares, diff_act};
-ghost use Rattle.jedge.specs.Comparing.{Differs, both_noted, compared, lines_compared};
+ghost use Rattle.jedge.specs.Comparing.{Compares, both_noted, compared, lines_compared};
 ghost use Rattle.jedge.specs.Told.{found_told, note_text};
 
 use crate::damage::either;
@@ -77,7 +77,7 @@ fn print_differences<'a, 'm, 'i, H: Host>(
     right: &'m Mounted<'i>,
 ) -> Result<Found<'a>, Fault>
     ensures { DoesFrom (H.history host.old) (H.history host.new)
-        (prints (Differs asked.entry.times left.now right.now (compared asked.entry.first.now
+        (prints (Compares asked.entry.times left.now right.now (compared asked.entry.first.now
         asked.entry.second.now left.now right.now))) (seen_as found_told result) }
 {
     let mut out = match host.output() {
