@@ -22,15 +22,19 @@ fn is_in(rows: Rows, opening: &Opening) -> bool {
 
 /// Whether these are the openings of a ground that are to be found.
 fn are_all(found: &[Opening], ground: &Ground, fronts: &Fronts, rows: Rows) -> bool {
-    let mut left = found.iter();
-    let mut is_well = true;
+    let mut met = 0usize;
     for block in 0..ground.blocks {
         if let Some(place) = ground.opening(fronts, block) {
             let opening = Opening { block, place };
-            is_well = is_well && (!is_in(rows, &opening) || left.next() == Some(&opening));
+            if is_in(rows, &opening) {
+                if found.get(met) != Some(&opening) {
+                    return false;
+                }
+                met = met.wrapping_add(1);
+            }
         }
     }
-    is_well && left.next().is_none()
+    met == found.len()
 }
 
 fn are_found<E: Order>(
