@@ -1,8 +1,8 @@
 #!/usr/bin/env python3
 """Refuses each growth in turn to every call that takes memory: tests/growths.py [--built DIR]
 
-Runs each test of a module `growth`, as `rt test` built it here or `rt ci` in DIR, once for each growth that it asks for, with that
-one refused (tests/refuse.c). The test passes whichever it is: it sees to it that the call answers out of memory by its own number
+Runs each test of a module `growth`, and each that is named `refused_growth..`, as `rt test` built it here or `rt ci` in DIR, once
+for each growth that it asks for, with that one refused (tests/refuse.c). The test passes whichever it is: it sees to it that the call answers out of memory by its own number
 or what it answers anyway, that what stands after it is as the contract says, and that the same call then does what it did
 not. The last line is 'N passed, M failed', one for each growth.
 """
@@ -33,7 +33,21 @@ def tests_of(binary):
     """The names of a crate's tests on growth."""
     listed = subprocess.run([binary, "--list"], capture_output=True, text=True, check=True).stdout
     names = [line.removesuffix(": test") for line in listed.split("\n") if line.endswith(": test")]
-    return [name for name in names if name.split("::")[-2] == "growth"]
+    return [name for name in names if is_of_growth(*name.split("::")[-2:])]
+
+
+def is_of_growth(module, name):
+    """Whether a test is one on growth, by its module or by its own name."""
+    return module == "growth" or name.startswith("refused_growth")
+
+
+def has_tests(folder):
+    """Whether a crate has such a test."""
+    for file in glob.glob(f"{folder}/src/**/*.rt", recursive=True):
+        with open(file, encoding="utf-8") as source:
+            if os.path.basename(file) == "growth.rt" or "fn refused_growth" in source.read():
+                return True
+    return False
 
 
 def try_tests(shim, built):
@@ -41,7 +55,7 @@ def try_tests(shim, built):
     passed, failed = 0, 0
     for folder in sorted(glob.glob(f"{ROOT}/crates/*_tests")):
         crate = os.path.basename(folder)
-        if not glob.glob(f"{folder}/src/**/growth.rt", recursive=True):
+        if not has_tests(folder):
             continue
         binary = f"{built}/crates/{crate}/out/{crate}_tests"
         for name in tests_of(binary):
