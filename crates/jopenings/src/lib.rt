@@ -3,7 +3,7 @@
 //! It is built on `jrests` (which blocks may be written, where nodes go in a row of openings, what
 //! a stop leaves there). A writer needs no more than the row that is left: more nodes go out as if
 //! the row had begun there. While they do, all nodes before them stand whole, whatever the byte
-//! where writing stops. No call here writes the log itself.
+//! where writing stops. No call here writes the log itself; `jrow` puts the parts of a block.
 //!
 //! - `Stretch`: that so many bytes went out to an opening.
 //! - `put_with_stretches`: an image with what went out to openings of it, put block by block
@@ -20,7 +20,6 @@
 #![tactic(auto)]
 
 pub mod laws;
-mod pieces;
 mod placing;
 
 pub use crate::placing::{Stretch, StretchesOnFlash, len_with_stretches, put_with_stretches};

@@ -6,9 +6,8 @@ ghost use Rattle.flashbase.specs.Sinks.{PutsTo};
 ghost use Rattle.jscan.specs.Image.{is_block_size, greatest_image};
 ghost use Rattle.jopenings.specs.Stretches.{AreStretches, block_behind, block_in, flash_with, end_in, length_after};
 
-use crate::pieces::put_part;
 use flashbase::{Part, PutFault, Sink};
-use jrow::block_part;
+use jrow::{block_part, put_part};
 use jscan::Geometry;
 
 /// So many bytes went out to an opening.

@@ -11,6 +11,8 @@
 //! - `block_part`, `is_blank_block`: a block of an image, and whether it is blank.
 //! - `put_with_row`: an image with bytes in its row, put block by block without a copy of it, and
 //!   how much of it went out if the sink failed; `written_len` says how long it is then.
+//! - `put_behind`, `put_clear`, `put_part`: bytes, erased bytes or a part of a block, put behind
+//!   others of the same call.
 //! - `laws`, each the contract of a function that does nothing, and `examples`, a worked row.
 //!
 //! No call here writes the log itself: the packing session of `jpacked` does.
@@ -27,5 +29,5 @@ pub mod laws;
 mod placing;
 mod row;
 
-pub use crate::placing::{RowOnFlash, put_with_row, written_len};
+pub use crate::placing::{RowOnFlash, put_behind, put_clear, put_part, put_with_row, written_len};
 pub use crate::row::{Row, block_part, is_blank_block};

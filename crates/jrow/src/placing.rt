@@ -25,7 +25,7 @@ pub struct RowOnFlash<'a> {
 const PIECE: usize = 256;
 
 /// Puts bytes behind `before` others. A fault counts those too.
-fn put_behind<S: Sink>(sink: &mut S, before: usize, bytes: &[u8]) -> Result<(), PutFault>
+pub fn put_behind<S: Sink>(sink: &mut S, before: usize, bytes: &[u8]) -> Result<(), PutFault>
     requires { before + length bytes.now < 2 ^ 64 }
     ensures puts { PutsTo S.Sink sink.old sink.new bytes.now result }
     ensures part { IfErr result (λ fault. (before ≤ fault.taken)
@@ -42,7 +42,7 @@ fn put_behind<S: Sink>(sink: &mut S, before: usize, bytes: &[u8]) -> Result<(), 
 }
 
 /// Puts erased bytes behind `before` others. A fault counts those too.
-fn put_clear<S: Sink>(sink: &mut S, before: usize, count: usize) -> Result<(), PutFault>
+pub fn put_clear<S: Sink>(sink: &mut S, before: usize, count: usize) -> Result<(), PutFault>
     requires { before + count < 2 ^ 64 }
     ensures puts { PutsTo S.Sink sink.old sink.new (erased count) result }
     ensures part { IfErr result (λ fault. (before ≤ fault.taken) × (fault.taken < before + count)
@@ -60,7 +60,7 @@ fn put_clear<S: Sink>(sink: &mut S, before: usize, count: usize) -> Result<(), P
 }
 
 /// Puts the first `len` bytes of a part behind `before` others. A fault counts those too.
-fn put_part<S: Sink>(
+pub fn put_part<S: Sink>(
     sink: &mut S,
     before: usize,
     part: &Part<'_>,

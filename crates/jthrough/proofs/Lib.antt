@@ -1,3 +1,4 @@
+pub mod AddressedLemmas
 pub mod MountLemmas
 pub mod PlacedLemmas
 pub mod PlainLemmas

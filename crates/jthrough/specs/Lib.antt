@@ -1,3 +1,4 @@
+pub mod Addressed
 pub mod MountsThrough
 pub mod Plain
 pub mod Refusals

@@ -18,7 +18,7 @@ use std::alloc::{AllocError, Global};
 
 /// The node that a tile gives, if it gives one, by the contents from its own on; and the contents
 /// behind its own.
-fn node_of<'a, E: Order>(
+pub(crate) fn node_of<'a, E: Order>(
     image: &[u8],
     geometry: Geometry,
     addr: u32,
@@ -52,7 +52,7 @@ fn node_of<'a, E: Order>(
 }
 
 /// Adds a node with its address, if there is one.
-fn push_node<'a>(
+pub(crate) fn push_node<'a>(
     nodes: &mut Vec<(u32, NodeRef<'a>)>,
     addr: u32,
     node: Option<NodeRef<'a>>,
