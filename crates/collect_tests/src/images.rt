@@ -1,8 +1,15 @@
 //! How images are written down: items that are kept, and others.
 
-use jnode::{Fill, InodeNode, Order, Part, WriteFault, write_entry, write_inode, write_marker};
-use std::alloc::Global;
-use test_support::{entry, fill_up, object};
+use jnode::{
+    CompressedNode, Fill, InodeNode, Order, Part, WriteFault, write_compressed, write_entry,
+    write_inode, write_marker,
+};
+use std::alloc::{AllocError, Global};
+use test_support::{FILE, entry, fill_up, object};
+
+/// Compressed data: the number of their method, the data, and the bytes that they stand for.
+#[derive(Clone, Copy)]
+pub(crate) struct Stream(pub u8, pub &'static [u8], pub &'static [u8]);
 
 /// What an image has, one item after the other, each filled up to whole words.
 #[derive(Clone, Copy)]
@@ -15,6 +22,9 @@ pub(crate) enum Item {
     Data(u32, u32, u32, u32, u32, &'static [u8]),
     /// A version of a file of so many zeros: its number and its version.
     Zeros(u32, u32, u32),
+    /// A version of a file: its number, its version, its size, and its bytes from an offset on,
+    /// compressed.
+    Packed(u32, u32, u32, u32, Stream),
     /// Bytes as they are.
     Raw(&'static [u8]),
 }
@@ -26,6 +36,59 @@ pub(crate) enum Row {
     Dropped(Item),
     /// Bytes that are no node.
     Dirt(&'static [u8]),
+}
+
+/// The item of the same fields with its bytes as they are.
+fn unpacked(item: Item) -> Item {
+    match item {
+        Item::Packed(ino, version, size, offset, Stream(_, _, content)) => {
+            Item::Data(ino, version, FILE, size, offset, content)
+        }
+        other => other,
+    }
+}
+
+/// A row of the item of the same fields with its bytes as they are.
+fn unpacked_row(row: Row) -> Row {
+    match row {
+        Row::Kept(item) => Row::Kept(unpacked(item)),
+        Row::Dropped(item) => Row::Dropped(unpacked(item)),
+        Row::Dirt(bytes) => Row::Dirt(bytes),
+    }
+}
+
+/// The same rows, with all bytes as they are.
+pub(crate) fn unpacked_rows(alloc: Global, rows: &[Row]) -> Result<Vec<Row>, AllocError> {
+    let mut plain = Vec::new(alloc);
+    for row in rows {
+        plain.push(unpacked_row(*row))?;
+    }
+    Ok(plain)
+}
+
+fn packed(
+    ino: u32,
+    version: u32,
+    size: u32,
+    offset: u32,
+    stream: Stream,
+) -> CompressedNode<'static> {
+    let Stream(compr, data, content) = stream;
+    CompressedNode {
+        ino,
+        version,
+        mode: FILE,
+        uid: 3,
+        gid: 4,
+        isize: size,
+        atime: 1,
+        mtime: 2,
+        ctime: 2,
+        offset,
+        dsize: u32::try_from(content.len()).unwrap_or(u32::MAX),
+        compr,
+        data: Part::new(data, 0),
+    }
 }
 
 fn append<E: Order>(image: &mut Vec<u8>, item: Item) -> Result<(), WriteFault> {
@@ -50,6 +113,9 @@ fn append<E: Order>(image: &mut Vec<u8>, item: Item) -> Result<(), WriteFault> {
                 ..object(ino, version, 0o100644, count)
             };
             write_inode::<E>(image, &node)?;
+        }
+        Item::Packed(ino, version, size, offset, stream) => {
+            write_compressed::<E>(image, &packed(ino, version, size, offset, stream))?;
         }
         Item::Raw(bytes) => image
             .extend_from_slice(bytes)

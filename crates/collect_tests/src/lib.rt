@@ -6,6 +6,12 @@ mod checks;
 #[cfg(test)]
 mod images;
 #[cfg(test)]
+mod packed;
+#[cfg(test)]
+mod packed_refused;
+#[cfg(test)]
 mod refused;
+#[cfg(test)]
+mod streams;
 #[cfg(test)]
 mod written;

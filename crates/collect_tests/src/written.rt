@@ -13,13 +13,13 @@ use std::process::Abort;
 use std::test::Fail;
 use test_support::{DIRECTORY, FILE, Taker};
 
-const GEOMETRY: Geometry = Geometry { block: 8192 };
+pub(crate) const GEOMETRY: Geometry = Geometry { block: 8192 };
 
 /// What an image is about, and its items.
 #[derive(Clone, Copy)]
-struct Case(&'static str, &'static [Row]);
+pub(crate) struct Case(pub &'static str, pub &'static [Row]);
 
-const CASES: [Case; 7] = [
+pub(crate) const CASES: [Case; 7] = [
     Case("no bytes at all", &[]),
     Case(
         "superseded, deleted, twice, and unreached",
@@ -95,8 +95,8 @@ const CASES: [Case; 7] = [
 
 /// Whether two mounts have the same object of a number: its attributes and its first bytes.
 fn is_same(one: &Mounted<'_>, other: &Mounted<'_>, ino: u32) -> bool {
-    let mut bytes = [0; 8];
-    let mut others = [0; 8];
+    let mut bytes = [0; 64];
+    let mut others = [0; 64];
     let len = one.read_at(ino, 0, &mut bytes);
     let other_len = other.read_at(ino, 0, &mut others);
     one.object(ino) == other.object(ino) && len == other_len && bytes == others
@@ -105,22 +105,31 @@ fn is_same(one: &Mounted<'_>, other: &Mounted<'_>, ino: u32) -> bool {
 /// The numbers that some paths lead to, or the faults.
 fn leads_alike(one: &Mounted<'_>, other: &Mounted<'_>) -> bool {
     let paths = [
-        "/", "/a", "/ab", "/abc", "/abcd", "/d", "/d/a", "/d/hard", "/d/r/r", "/far", "/q",
-        "/zeros",
+        "/", "/a", "/ab", "/abc", "/abcd", "/b", "/c", "/d", "/d/a", "/d/hard", "/d/r/r", "/far",
+        "/q", "/zeros",
     ];
     paths.iter().all(|path| one.find(path.as_bytes()) == other.find(path.as_bytes()))
+}
+
+/// Whether the second mount has no finding, and shows what the first one does.
+pub(crate) fn shows_same(
+    alloc: Global,
+    one: &Mounted<'_>,
+    other: &Mounted<'_>,
+) -> Result<bool, Fail> {
+    let is_clean = other.findings().is_empty() && other.dangling(alloc)?.is_empty();
+    let mut is_same_tree = is_clean && leads_alike(one, other);
+    for (ino, _) in other.objects() {
+        is_same_tree = is_same_tree && is_same(one, other, ino);
+    }
+    Ok(is_same_tree)
 }
 
 /// Whether an image that went out has no finding, and shows what the other one does.
 fn shows<E: Order>(alloc: Global, image: &[u8], out: &[u8]) -> Result<bool, Fail> {
     let one = mount::<E>(alloc, image, GEOMETRY)?;
     let other = mount::<E>(alloc, out, GEOMETRY)?;
-    let is_clean = other.findings().is_empty() && other.dangling(alloc)?.is_empty();
-    let mut is_same_tree = is_clean && leads_alike(&one, &other);
-    for (ino, _) in other.objects() {
-        is_same_tree = is_same_tree && is_same(&one, &other, ino);
-    }
-    Ok(is_same_tree)
+    shows_same(alloc, &one, &other)
 }
 
 fn goes_out<E: Order>(rt: &(impl Abort + AllocGlobal), case: Case) -> Result<(), Fail> {

@@ -136,13 +136,12 @@ collects e size blocks image kept size_is part room =
       clean = out.has.clean;
     }
 
-kept_part : (e : Endian) (size : ℕ) (image : List ℕ) (kept : List Placed) → AreWhatMatters (nodes e size image) kept → (n : Placed) → Contains kept n → Contains (nodes e size image) n
-kept_part e size image kept matter n has =
-    (Contains-filter_from (matters (nodes e size image) matter.0) (nodes e size image) n (subst (λ (ns : List Placed). Contains ns n) matter.2 has)).0
+pub part_of : (ns kept : List Placed) → AreWhatMatters ns kept → (n : Placed) → Contains kept n → Contains ns n
+part_of ns kept matter n has = (Contains-filter_from (matters ns matter.0) ns n (subst (λ (l : List Placed). Contains l n) matter.2 has)).0
 
 collected : (e : Endian) (size blocks : ℕ) (image : List ℕ) (kept : List Placed) → MayCollect e size blocks image kept
     → Collects e size blocks image (copied_image e size image (addresses_of kept)) kept
-collected e size blocks image kept may = collects e size blocks image kept may.sound.0.0 (kept_part e size image kept may.matter) may.room
+collected e size blocks image kept may = collects e size blocks image kept may.sound.0.0 (part_of (nodes e size image) kept may.matter) may.room
 
 pub collected_is_compact : CollectedIsCompact
 collected_is_compact e size blocks image kept may =
@@ -196,7 +195,7 @@ collected_mounts e size blocks image kept s may small mounts =
     let compact : List ℕ = copied_image e size image (addresses_of kept) in
     let it = collected e size blocks image kept may in
     let apart : NoneClash (without_addresses kept) =
-    part_apart (nodes e size image) kept (kept_part e size image kept may.matter) (sound_nodes_are_apart e size image may.sound) in
+    part_apart (nodes e size image) kept (part_of (nodes e size image) kept may.matter) (sound_nodes_are_apart e size image may.sound) in
     let is : IsCompactOf e size image compact = collected_is_compact e size blocks image kept may in
     let root : object (state e size compact) 1 ≡ object (state e size image) 1 = compact_objects e size image compact is 1 ([], refl) in
     record {
@@ -211,22 +210,33 @@ each_at : (e : Endian) (size : ℕ) (image : List ℕ) (ns : List Placed) → Al
 each_at e size image [] all = tt
 each_at e size image (n ∷ ns) all = (all.0, each_at e size image ns all.1)
 
-pub found_nodes : (e : Endian) (size : ℕ) (image addresses : List ℕ) (count : ℕ) → IsFound e size image addresses count → AllByRecursion (IsSoundNodeAt e size image) addresses
-found_nodes e size image addresses count found =
+-- of some nodes, at each of which a sound one is sighted
+pub found_at : (ns : List Placed) (e : Endian) (size : ℕ) (image addresses : List ℕ) (count : ℕ) → IsFound ns addresses count
+    → ((n : Placed) → Contains ns n → IsSoundNodeAt e size image n.0) → AllByRecursion (IsSoundNodeAt e size image) addresses
+found_at ns e size image addresses count found at =
     subst (AllByRecursion (IsSoundNodeAt e size image)) (sym found.addresses_are)
     (each_at e size image found.kept
-    (all_from (λ (n : Placed). IsSoundNodeAt e size image n.0) found.kept (λ n has. node_at e size image n (kept_part e size image found.kept found.matter n has))))
+    (all_from (λ (n : Placed). IsSoundNodeAt e size image n.0) found.kept (λ n has. at n (part_of ns found.kept found.matter n has))))
 
-pub planned_may : (e : Endian) (size blocks : ℕ) (m : Mount) (addresses : List ℕ) (count bytes : ℕ) → ArePlanned e size blocks m addresses count bytes → MayPut e size m.image addresses
-planned_may e size blocks m addresses count bytes plan = record {
+pub found_nodes : (e : Endian) (size : ℕ) (image addresses : List ℕ) (count : ℕ) → IsFound (nodes e size image) addresses count → AllByRecursion (IsSoundNodeAt e size image) addresses
+found_nodes e size image addresses count found = found_at (nodes e size image) e size image addresses count found (node_at e size image)
+
+pub may_put : (ns : List Placed) (e : Endian) (size blocks : ℕ) (m : Mount) (addresses : List ℕ) (count bytes : ℕ) → ArePlanned ns e size blocks m addresses count bytes
+    → AllByRecursion (IsSoundNodeAt e size m.image) addresses → MayPut e size m.image addresses
+may_put ns e size blocks m addresses count bytes plan at = record {
   readable = flash_readable size blocks plan.flash;
-  nodes = found_nodes e size m.image addresses count plan.found;
+  nodes = at;
   blocks = blocks;
   small = (flash_limits size blocks plan.flash).small;
   room = plan.room;
 }
 
-pub planned_is_compact : (e : Endian) (size blocks : ℕ) (m : Mount) (addresses : List ℕ) (count bytes : ℕ) → IsMountOf e size m → ArePlanned e size blocks m addresses count bytes
+pub planned_may : (e : Endian) (size blocks : ℕ) (m : Mount) (addresses : List ℕ) (count bytes : ℕ) → ArePlanned (nodes e size m.image) e size blocks m addresses count bytes
+    → MayPut e size m.image addresses
+planned_may e size blocks m addresses count bytes plan =
+    may_put (nodes e size m.image) e size blocks m addresses count bytes plan (found_nodes e size m.image addresses count plan.found)
+
+pub planned_is_compact : (e : Endian) (size blocks : ℕ) (m : Mount) (addresses : List ℕ) (count bytes : ℕ) → IsMountOf e size m → ArePlanned (nodes e size m.image) e size blocks m addresses count bytes
     → IsCompactOf e size m.image (copied_image e size m.image addresses)
 planned_is_compact e size blocks m addresses count bytes mount plan =
     let same : addresses_of plan.found.kept ≡ addresses = sym plan.found.addresses_are in

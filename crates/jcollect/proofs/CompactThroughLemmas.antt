@@ -4,7 +4,7 @@ use Rattle.std.specs.Prelude.{IsTrue, filter, filter_map}
 use Rattle.std.specs.List.{AllByRecursion, cons_option, flat_map}
 use Rattle.std.specs.Option.{is_none, option_or}
 use Rattle.std.proofs.lemmas.Bool.{cases_Bool}
-use Rattle.flashbase.proofs.MemberLemmas.{Contains-here, Contains-there, Contains-filter_from, Contains-filter_map_from}
+use Rattle.flashbase.proofs.MemberLemmas.{Contains-here, Contains-there, Contains-filter_map_from}
 use Rattle.jnode.specs.Compressed.{compressed_of}
 use Rattle.jnode.specs.Reading.{seen_of}
 use Rattle.jnode.specs.Weak.{is_sound}
@@ -14,7 +14,7 @@ use Rattle.jnode.specs.declared.node.Seen.{Seen}
 use Rattle.jnode.specs.declared.node.Seen.TheVariants as seen
 use Rattle.jnode.specs.declared.order.Endian.{Endian}
 use Rattle.jcompr.specs.Content.{method_of}
-use Rattle.jscan.specs.Image.{is_block_size, sightings}
+use Rattle.jscan.specs.Image.{is_block_size, greatest_image, sightings}
 use Rattle.jexpand.specs.Expanded.{expanded_node, expanded_nodes, node_content, unpacked_bytes}
 use Rattle.jexpand.specs.Expanded as expanded
 use Rattle.jexpand.specs.declared.fault.ConvertFault.{ConvertFault}
@@ -22,20 +22,26 @@ use Rattle.jexpand.specs.declared.fault.ConvertFault.TheVariants as fault
 use Rattle.jmount.specs.Clash.{NoneClash}
 use Rattle.jmount.specs.Collected.{without_addresses}
 use Rattle.jmount.specs.Find.{find, path_names}
+use Rattle.jmount.specs.Mount.{Mount}
 use Rattle.jmount.specs.StateOf.{state_of}
 use Rattle.jmount.specs.Tree.{State, has_bits, directory_bits, object}
 use Rattle.jmount.proofs.NumbersLemmas.{object-state_of}
-use Rattle.jview.specs.Through.{node_by, content_by, fault_by, through_fault, through_fault_among, first_fault}
+use Rattle.jview.specs.Through.{node_by, content_by, fault_by, first_fault}
+use Rattle.jthrough.specs.Addressed.{addressed_nodes}
+use Rattle.jthrough.specs.View.{placed_node, placed_nodes}
+use Rattle.jthrough.proofs.AddressedLemmas.{addressed_are_expanded, none_among}
+use Rattle.jthrough.proofs.PlacedLemmas.{placed_is}
 use Rattle.jlog.specs.HeadlineThrough.{state_through}
-use Rattle.jlog.proofs.TellLemmas.{cons_cases}
+use Rattle.jlog.proofs.CodeLemmas.{flash_limits}
 use Rattle.jcompact.specs.Matters.{Placed, NamesLeadTo, matters}
 use Rattle.jcompact.proofs.ObjectLemmas.{object_kept}
 use Rattle.jcompact.proofs.PathLemmas.{find_same}
-use Rattle.jcollect.specs.Collecting.{addresses_of}
-use Rattle.jcollect.specs.Planning.{IsSoundNodeAt}
+use Rattle.jcollect.specs.Collecting.{addresses_of, FitBlocks}
+use Rattle.jcollect.specs.Planning.{IsSoundNodeAt, IsFound, ArePlanned, MayPut}
+use Rattle.jcollect.specs.PlanningThrough.{IsHeldThrough, ShowsCompact}
 use Rattle.jcollect.specs.Tiles.{tile_in, tiles_at, copied_image}
-use Rattle.jcollect.specs.Through.{tile_node, content_of_tile, IsReadTile, ShowsTiles, addressed_node, addressed_nodes, MayCollectThrough, CollectedThroughIsCompact, CollectedMountsThrough}
-use Rattle.jcollect.proofs.CollectLemmas.{all_from, part_apart}
+use Rattle.jcollect.specs.Through.{tile_node, content_of_tile, IsReadTile, ShowsTiles, MayCollectThrough, CollectedThroughIsCompact, CollectedMountsThrough}
+use Rattle.jcollect.proofs.CollectLemmas.{all_from, part_apart, part_of, found_at, may_put}
 use Rattle.jcollect.proofs.ImageLemmas.{output_has_tiles}
 use Rattle.jcollect.proofs.NodeLemmas.{nodes_storable}
 use Rattle.jcollect.proofs.ThroughLemmas.{node_is, content_is, copied_expands}
@@ -60,22 +66,6 @@ fault_moves size a b packed (seen.Incompatible t) none = absurd (cc)
 fault_moves size a b packed (seen.Compressed compr) none =
     judged_moves a b packed.compr (is_none (method_of packed.compr)) _ (is_none (node_content packed)) none
 fault_moves size a b packed _ none = refl
-
-first_none : (o p : Option ConvertFault) → option_or o p ≡ None → o ≡ None
-first_none None p h = refl
-first_none (Some f) p h = absurd (cc)
-
-second_none : (o p : Option ConvertFault) → option_or o p ≡ None → p ≡ None
-second_none None p h = h
-second_none (Some f) p h = absurd (cc)
-
-none_among : (e : Endian) (size : ℕ) (image : List ℕ) (ss : List (ℕ × Seen)) (s : ℕ × Seen) → through_fault_among e size image ss ≡ None → Contains ss s → through_fault e size image s ≡ None
-none_among e size image [] s none has = absurd (omega (arith, has.1))
-none_among e size image (t ∷ ts) s none has = elim (cons_cases t ts s has) [
-  | inl same ↦
-      subst (λ (x : ℕ × Seen). through_fault e size image x ≡ None) same (first_none (through_fault e size image t) (through_fault_among e size image ts) none)
-  | inr later ↦ none_among e size image ts s (second_none (through_fault e size image t) (through_fault_among e size image ts) none) later
-]
 
 -- ---- a node with its tile
 
@@ -102,10 +92,6 @@ has_node e size image s n size_is has is =
       gives = ap (node_by (compressed_of e tile)) (sym got.1) ∙ (sym (node_is e size image s) ∙ is);
     }
 
-mapped_to : (addr : ℕ) (o : Option NodeRef) (n : Placed) → option_map (λ x. (addr, x)) o ≡ Some n → (addr ≡ n.0) × (o ≡ Some n.1)
-mapped_to addr None n h = absurd (cc)
-mapped_to addr (Some x) n h = let same : (addr, x) ≡ n = cc in (ap (λ (p : Placed). p.0) same, ap (λ (p : Placed). Some p.1) same)
-
 record KeptNode (e : Endian) (size : ℕ) (image : List ℕ) (n : Placed) : Type 0 where
   at : IsSoundNodeAt e size image n.0
   gives : tile_node e (tile_in e size image n.0) ≡ Some n.1
@@ -113,9 +99,9 @@ record KeptNode (e : Endian) (size : ℕ) (image : List ℕ) (n : Placed) : Type
 
 kept_node : (e : Endian) (size : ℕ) (image : List ℕ) (n : Placed) → IsTrue (is_block_size size) → first_fault e size image ≡ None → Contains (addressed_nodes e size image) n → KeptNode e size image n
 kept_node e size image n size_is none has =
-    let it = Contains-filter_map_from (addressed_node e size image) (sightings e size image) n has in
+    let it = Contains-filter_map_from (placed_node e size image) (sightings e size image) n has in
     let s : ℕ × Seen = it.0 in
-    let is = mapped_to s.0 (expanded_node e size image s) n it.2 in
+    let is = placed_is e size image s n it.2 in
     let got = has_node e size image s n.1 size_is it.1 is.1 in
     let no : fault_by size s.0 (compressed_of e (tile_in e size image s.0)) s.1 ≡ None = none_among e size image (sightings e size image) s none it.1 in
     record {
@@ -142,16 +128,6 @@ kept_nodes : (e : Endian) (size : ℕ) (image : List ℕ) (ns : List Placed) →
 kept_nodes e size image [] all = refl
 kept_nodes e size image (n ∷ ns) all = ap₂ (λ (o : Option NodeRef) (l : List NodeRef). cons_option o l) all.0.gives (kept_nodes e size image ns all.1)
 
-placed_one : (addr : ℕ) (o : Option NodeRef) (placed : List Placed) (nodes : List NodeRef) → without_addresses placed ≡ nodes
-    → without_addresses (cons_option (option_map (λ n. (addr, n)) o) placed) ≡ cons_option o nodes
-placed_one addr None placed nodes same = same
-placed_one addr (Some n) placed nodes same = ap (λ (l : List NodeRef). n ∷ l) same
-
-placed_are : (e : Endian) (size : ℕ) (image : List ℕ) (ss : List (ℕ × Seen)) → without_addresses (filter_map (addressed_node e size image) ss) ≡ filter_map (expanded_node e size image) ss
-placed_are e size image [] = refl
-placed_are e size image (s ∷ ss) =
-    placed_one s.0 (expanded_node e size image s) (filter_map (addressed_node e size image) ss) (filter_map (expanded_node e size image) ss) (placed_are e size image ss)
-
 record Through (e : Endian) (size blocks : ℕ) (image compact : List ℕ) (kept : List Placed) : Type 0 where
   part : (n : Placed) → Contains kept n → Contains (addressed_nodes e size image) n
   within : length compact ≤ blocks * size
@@ -163,8 +139,7 @@ through : (e : Endian) (size blocks : ℕ) (image : List ℕ) (kept : List Place
     → Through e size blocks image (copied_image e size image (addresses_of kept)) kept
 through e size blocks image kept may =
     let size_is : IsTrue (is_block_size size) = may.sound.scannable.0 in
-    let part : (n : Placed) → Contains kept n → Contains (addressed_nodes e size image) n = λ n has.
-    (Contains-filter_from (matters (addressed_nodes e size image) may.matter.0) (addressed_nodes e size image) n (subst (λ (ns : List Placed). Contains ns n) may.matter.2 has)).0 in
+    let part : (n : Placed) → Contains kept n → Contains (addressed_nodes e size image) n = part_of (addressed_nodes e size image) kept may.matter in
     let all : AllByRecursion (KeptNode e size image) kept = all_from (KeptNode e size image) kept (λ n has. kept_node e size image n size_is may.sound.none (part n has)) in
     let nodes = kept_at e size image kept all in
     let has = copied_expands e size blocks image (addresses_of kept) size_is nodes may.room (kept_read e size image kept all) in
@@ -173,14 +148,14 @@ through e size blocks image kept may =
       within = (output_has_tiles e size blocks (tiles_at e size image (addresses_of kept)) size_is (nodes_storable e size image (addresses_of kept) size_is nodes may.room.each) may.room.room).within;
       has = has;
       same = has.nodes ∙ kept_nodes e size image kept all;
-      apart = subst NoneClash (sym (placed_are e size image (sightings e size image))) may.sound.apart;
+      apart = subst NoneClash (sym (addressed_are_expanded e size image)) may.sound.apart;
     }
 
 pub collected_through_is_compact : CollectedThroughIsCompact
 collected_through_is_compact e size blocks image kept may =
     let it = through e size blocks image kept may in
     let ns : List Placed = addressed_nodes e size image in
-    let old : state_of (without_addresses ns) ≡ state_through e size image = ap state_of (placed_are e size image (sightings e size image)) in
+    let old : state_of (without_addresses ns) ≡ state_through e size image = ap state_of (addressed_are_expanded e size image) in
     let compact : List ℕ = copied_image e size image (addresses_of kept) in
     let new : state_through e size compact ≡ state_of (without_addresses kept) = ap state_of it.same in
     record {
@@ -230,10 +205,10 @@ one_content e size image s rest others (Some n) size_is has is fewer =
     omega (arith, fewer, length-append own others, one, sum)
 
 placed_contents : (e : Endian) (size : ℕ) (image : List ℕ) (ss : List (ℕ × Seen)) → IsTrue (is_block_size size) → ((s : ℕ × Seen) → Contains ss s → Contains (sightings e size image) s)
-    → length (flat_map (content_of_tile e) (tiles_at e size image (addresses_of (filter_map (addressed_node e size image) ss)))) ≤ length (flat_map (expanded.tile_content e size image) ss)
+    → length (flat_map (content_of_tile e) (tiles_at e size image (addresses_of (placed_nodes e size image ss)))) ≤ length (flat_map (expanded.tile_content e size image) ss)
 placed_contents e size image [] size_is among = omega arith
 placed_contents e size image (s ∷ ss) size_is among =
-    one_content e size image s (filter_map (addressed_node e size image) ss) (flat_map (expanded.tile_content e size image) ss) (expanded_node e size image s) size_is
+    one_content e size image s (placed_nodes e size image ss) (flat_map (expanded.tile_content e size image) ss) (expanded_node e size image s) size_is
     (among s (Contains-here s ss)) refl (placed_contents e size image ss size_is (λ t has. among t (Contains-there s ss t has)))
 
 -- ---- it mounts through
@@ -261,3 +236,40 @@ collected_mounts_through e size blocks image kept s may small mounts =
       root = ap (has_bits directory_bits) root ∙ mounts.root;
       same = refl;
     }
+
+-- ---- what is found and planned
+
+addressed_at : (e : Endian) (size : ℕ) (image : List ℕ) (n : Placed) → Contains (addressed_nodes e size image) n → IsSoundNodeAt e size image n.0
+addressed_at e size image n has =
+    let it = Contains-filter_map_from (placed_node e size image) (sightings e size image) n has in
+    let s : ℕ × Seen = it.0 in
+    let is = placed_is e size image s n it.2 in
+    (s.1, subst (λ (a : ℕ). Contains (sightings e size image) (a, s.1)) is.0 it.1, gives_sound e size image s n.1 is.1)
+
+pub found_through : (e : Endian) (size : ℕ) (image addresses : List ℕ) (count : ℕ) → IsFound (addressed_nodes e size image) addresses count
+    → AllByRecursion (IsSoundNodeAt e size image) addresses
+found_through e size image addresses count found = found_at (addressed_nodes e size image) e size image addresses count found (addressed_at e size image)
+
+pub planned_through : (e : Endian) (size blocks : ℕ) (m : Mount) (addresses : List ℕ) (count bytes : ℕ) → ArePlanned (addressed_nodes e size m.image) e size blocks m addresses count bytes
+    → MayPut e size m.image addresses
+planned_through e size blocks m addresses count bytes plan =
+    may_put (addressed_nodes e size m.image) e size blocks m addresses count bytes plan (found_through e size m.image addresses count plan.found)
+
+pub planned_shows : (e : Endian) (size blocks : ℕ) (contents : List ℕ) (m : Mount) (addresses : List ℕ) (count bytes : ℕ) → IsHeldThrough e size contents m
+    → ArePlanned (addressed_nodes e size m.image) e size blocks m addresses count bytes → ShowsCompact e size m.image (copied_image e size m.image addresses)
+planned_shows e size blocks contents m addresses count bytes held plan =
+    let kept : List Placed = plan.found.kept in
+    let same : addresses_of kept ≡ addresses = sym plan.found.addresses_are in
+    let may : MayCollectThrough e size blocks m.image kept = record {
+      sound = held.mount.mounts.sound;
+      matter = plan.found.matter;
+      room = subst (FitBlocks e size blocks m.image) plan.found.addresses_are plan.room;
+    } in
+    let small : blocks * size ≤ greatest_image = (flash_limits size blocks plan.flash).small in
+    subst (λ (a : List ℕ). ShowsCompact e size m.image (copied_image e size m.image a)) same
+    (record {
+      kept = kept;
+      matter = plan.found.matter;
+      compact = collected_through_is_compact e size blocks m.image kept may;
+      mounts = collected_mounts_through e size blocks m.image kept m.state may small held.mount.mounts;
+    })

@@ -16,8 +16,9 @@ use Rattle.jlog.specs.Places.{place_after, end_after, place_within, end_of_all, 
 use Rattle.jlog.proofs.ImageLemmas.{block_size}
 use Rattle.jlog.proofs.IntactLemmas.{output_is_long}
 use Rattle.jlog.proofs.PlaceLemmas.{times_words, pad4_behind, block_floor}
+use Rattle.jcompact.specs.Matters.{Placed}
 use Rattle.jcollect.specs.Collecting.{FitBlocks}
-use Rattle.jcollect.specs.Planning.{IsSoundNodeAt, IsWriteCursor, IsRoomBehind, IsFound, IsUnplanned, long_fault, room_fault, tiles_fault}
+use Rattle.jcollect.specs.Planning.{IsSoundNodeAt, IsWriteCursor, IsRoomBehind, IsFound, IsNoPlan, long_fault, room_fault, tiles_fault}
 use Rattle.jcollect.specs.Tiles.{tile_in, tiles_at, copied_image}
 use Rattle.jcollect.specs.declared.fault.CollectFault.{CollectFault}
 use Rattle.jcollect.specs.declared.fault.CollectFault.TheVariants as fault
@@ -252,16 +253,16 @@ tiles_want e size blocks image addresses f is =
     or_wants (long_fault e size image addresses) (room_fault size blocks (tiles_at e size image addresses)) f
     (long_wants e size image addresses) (room_wants size blocks (tiles_at e size image addresses)) is
 
-pub unplanned : (e : Endian) (size blocks : ℕ) (m : Mount) (addresses : List ℕ) (count : ℕ) (f : CollectFault) → IsFound e size m.image addresses count → m.read_only ≡ false
-    → IsTrue (is_writable_flash size blocks) → (f ≢ fault.OutOfMemory → tiles_fault e size blocks m.image addresses ≡ Some f) → IsUnplanned e size blocks m f
-unplanned e size blocks m addresses count fault.ReadOnly found writable flash refused =
+pub unplanned : (ns : List Placed) (e : Endian) (size blocks : ℕ) (m : Mount) (addresses : List ℕ) (count : ℕ) (f : CollectFault) → IsFound ns addresses count → m.read_only ≡ false
+    → IsTrue (is_writable_flash size blocks) → (f ≢ fault.OutOfMemory → tiles_fault e size blocks m.image addresses ≡ Some f) → IsNoPlan ns e size blocks m f
+unplanned ns e size blocks m addresses count fault.ReadOnly found writable flash refused =
     absurd (false≢true (tiles_want e size blocks m.image addresses fault.ReadOnly (refused (λ same. absurd (cc)))))
-unplanned e size blocks m addresses count fault.Geometry found writable flash refused =
+unplanned ns e size blocks m addresses count fault.Geometry found writable flash refused =
     absurd (false≢true (tiles_want e size blocks m.image addresses fault.Geometry (refused (λ same. absurd (cc)))))
-unplanned e size blocks m addresses count (fault.TooLong addr) found writable flash refused =
+unplanned ns e size blocks m addresses count (fault.TooLong addr) found writable flash refused =
     record { addresses = addresses; count = count; found = found; writable = writable; flash = flash; refused = refused (λ same. absurd (cc)) }
-unplanned e size blocks m addresses count (fault.Full needed free) found writable flash refused =
+unplanned ns e size blocks m addresses count (fault.Full needed free) found writable flash refused =
     record { addresses = addresses; count = count; found = found; writable = writable; flash = flash; refused = refused (λ same. absurd (cc)) }
-unplanned e size blocks m addresses count fault.Sink found writable flash refused =
+unplanned ns e size blocks m addresses count fault.Sink found writable flash refused =
     absurd (false≢true (tiles_want e size blocks m.image addresses fault.Sink (refused (λ same. absurd (cc)))))
-unplanned e size blocks m addresses count fault.OutOfMemory found writable flash refused = tt
+unplanned ns e size blocks m addresses count fault.OutOfMemory found writable flash refused = tt

@@ -3,3 +3,4 @@ pub mod Tiles
 pub mod Collecting
 pub mod Planning
 pub mod Through
+pub mod PlanningThrough

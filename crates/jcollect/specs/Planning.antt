@@ -59,46 +59,55 @@ tiles_fault e size blocks image addresses = option_or (long_fault e size image a
 
 -- ---- which nodes go out
 
--- the addresses of the nodes of an image that matter, and the number of its sound nodes
-pub record IsFound (e : Endian) (size : ℕ) (image addresses : List ℕ) (count : ℕ) : Type 0 where
+-- the addresses of those of some nodes that matter, and the number of all
+pub record IsFound (ns : List Placed) (addresses : List ℕ) (count : ℕ) : Type 0 where
   pub kept : List Placed
-  pub matter : AreWhatMatters (nodes e size image) kept
+  pub matter : AreWhatMatters ns kept
   pub addresses_are : addresses ≡ addresses_of kept
-  pub count_is : count ≡ length (nodes e size image)
+  pub count_is : count ≡ length ns
 
--- The nodes at these addresses go out to so many blocks, in so many bytes.
-pub record ArePlanned (e : Endian) (size blocks : ℕ) (m : Mount) (addresses : List ℕ)
-    (count bytes : ℕ) : Type 0 where
-  pub found : IsFound e size m.image addresses count
+-- The nodes at these addresses go out to so many blocks, in so many bytes: of a mount of these
+-- nodes those that matter.
+pub record ArePlanned (ns : List Placed) (e : Endian) (size blocks : ℕ) (m : Mount)
+    (addresses : List ℕ) (count bytes : ℕ) : Type 0 where
+  pub found : IsFound ns addresses count
   pub writable : m.read_only ≡ false
   pub flash : IsTrue (is_writable_flash size blocks)
   pub room : FitBlocks e size blocks m.image addresses
   pub length_is : bytes ≡ length (copied_image e size m.image addresses)
 
-abbrev pub IsPlanOf : Endian → ℕ → ℕ → Mount → Plan → Type 0
-IsPlanOf e size blocks m plan =
-    ArePlanned e size blocks m plan.addresses.items plan.nodes plan.bytes
+abbrev pub IsPlan : List Placed → Endian → ℕ → ℕ → Mount → Plan → Type 0
+IsPlan ns e size blocks m plan =
+    ArePlanned ns e size blocks m plan.addresses.items plan.nodes plan.bytes
 
 -- or they are refused
-pub record AreRefused (e : Endian) (size blocks : ℕ) (m : Mount) (f : CollectFault) : Type 0 where
+pub record AreRefused (ns : List Placed) (e : Endian) (size blocks : ℕ) (m : Mount)
+    (f : CollectFault) : Type 0 where
   pub addresses : List ℕ
   pub count : ℕ
-  pub found : IsFound e size m.image addresses count
+  pub found : IsFound ns addresses count
   pub writable : m.read_only ≡ false
   pub flash : IsTrue (is_writable_flash size blocks)
   pub refused : tiles_fault e size blocks m.image addresses ≡ Some f
 
 -- Why no image of the nodes of a mounted one that matter goes out to so many blocks.
-abbrev pub IsUnplanned : Endian → ℕ → ℕ → Mount → CollectFault → Type 0
-IsUnplanned e size blocks m fault.ReadOnly = m.read_only ≡ true
-IsUnplanned e size blocks m fault.Geometry =
+abbrev pub IsNoPlan : List Placed → Endian → ℕ → ℕ → Mount → CollectFault → Type 0
+IsNoPlan ns e size blocks m fault.ReadOnly = m.read_only ≡ true
+IsNoPlan ns e size blocks m fault.Geometry =
     (m.read_only ≡ false) × IsFalse (is_writable_flash size blocks)
-IsUnplanned e size blocks m (fault.TooLong addr) =
-    AreRefused e size blocks m (fault.TooLong addr)
-IsUnplanned e size blocks m (fault.Full needed free) =
-    AreRefused e size blocks m (fault.Full needed free)
-IsUnplanned e size blocks m fault.Sink = ⊥
-IsUnplanned e size blocks m fault.OutOfMemory = ⊤
+IsNoPlan ns e size blocks m (fault.TooLong addr) =
+    AreRefused ns e size blocks m (fault.TooLong addr)
+IsNoPlan ns e size blocks m (fault.Full needed free) =
+    AreRefused ns e size blocks m (fault.Full needed free)
+IsNoPlan ns e size blocks m fault.Sink = ⊥
+IsNoPlan ns e size blocks m fault.OutOfMemory = ⊤
+
+-- so of an image that is mounted as it is
+abbrev pub IsPlanOf : Endian → ℕ → ℕ → Mount → Plan → Type 0
+IsPlanOf e size blocks m plan = IsPlan (nodes e size m.image) e size blocks m plan
+
+abbrev pub IsUnplanned : Endian → ℕ → ℕ → Mount → CollectFault → Type 0
+IsUnplanned e size blocks m f = IsNoPlan (nodes e size m.image) e size blocks m f
 
 -- ---- what goes out
 
@@ -118,26 +127,32 @@ tile_piece e size from tile = gap e size from (place_after size from (length til
 abbrev pub IsSinkUntouched : SinkChange → Type 0
 IsSinkUntouched sink = (sink.new ≡ sink.old) × (sink.now ≡ sink.before)
 
--- What compacting a mounted image into a sink answers: the image of the nodes that matter goes out,
--- with what is told of it; or a beginning, where the sink failed once; or it is refused before a
--- byte is put.
-abbrev pub Compacts : Endian → ℕ → ℕ → Mount → SinkChange → Result Collected CollectFault → Type 0
-Compacts e size blocks m sink (Ok told) =
-    (addresses : List ℕ) × ArePlanned e size blocks m addresses told.nodes told.bytes
+-- What compacting a mounted image into a sink answers, of its nodes: the image of those that matter
+-- goes out, with what is told of it; or a beginning, where the sink failed once; or it is refused
+-- before a byte is put.
+abbrev pub CompactsNodes : List Placed → Endian → ℕ → ℕ → Mount → SinkChange
+    → Result Collected CollectFault → Type 0
+CompactsNodes ns e size blocks m sink (Ok told) =
+    (addresses : List ℕ) × ArePlanned ns e size blocks m addresses told.nodes told.bytes
     × (told.kept ≡ length addresses)
     × Appends sink.old sink.new (copied_image e size m.image addresses)
     × (sink.now ≡ sink.before)
-Compacts e size blocks m sink (Err fault.Sink) =
+CompactsNodes ns e size blocks m sink (Err fault.Sink) =
     (addresses : List ℕ) × (count : ℕ) × (bytes : ℕ)
-    × ArePlanned e size blocks m addresses count bytes
+    × ArePlanned ns e size blocks m addresses count bytes
     × PutsPart sink.old sink.new (copied_image e size m.image addresses)
     × (sink.now ≡ next_count sink.before)
-Compacts e size blocks m sink (Err fault.ReadOnly) =
-    IsUnplanned e size blocks m fault.ReadOnly × IsSinkUntouched sink
-Compacts e size blocks m sink (Err fault.Geometry) =
-    IsUnplanned e size blocks m fault.Geometry × IsSinkUntouched sink
-Compacts e size blocks m sink (Err (fault.TooLong addr)) =
-    IsUnplanned e size blocks m (fault.TooLong addr) × IsSinkUntouched sink
-Compacts e size blocks m sink (Err (fault.Full needed free)) =
-    IsUnplanned e size blocks m (fault.Full needed free) × IsSinkUntouched sink
-Compacts e size blocks m sink (Err fault.OutOfMemory) = IsSinkUntouched sink
+CompactsNodes ns e size blocks m sink (Err fault.ReadOnly) =
+    IsNoPlan ns e size blocks m fault.ReadOnly × IsSinkUntouched sink
+CompactsNodes ns e size blocks m sink (Err fault.Geometry) =
+    IsNoPlan ns e size blocks m fault.Geometry × IsSinkUntouched sink
+CompactsNodes ns e size blocks m sink (Err (fault.TooLong addr)) =
+    IsNoPlan ns e size blocks m (fault.TooLong addr) × IsSinkUntouched sink
+CompactsNodes ns e size blocks m sink (Err (fault.Full needed free)) =
+    IsNoPlan ns e size blocks m (fault.Full needed free) × IsSinkUntouched sink
+CompactsNodes ns e size blocks m sink (Err fault.OutOfMemory) = IsSinkUntouched sink
+
+-- so of an image that is mounted as it is
+abbrev pub Compacts : Endian → ℕ → ℕ → Mount → SinkChange → Result Collected CollectFault → Type 0
+Compacts e size blocks m sink answer =
+    CompactsNodes (nodes e size m.image) e size blocks m sink answer

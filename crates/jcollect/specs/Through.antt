@@ -1,19 +1,19 @@
 -- The image of the nodes that matter, seen through its compression: compressed nodes are copied as
 -- they stand.
-use Rattle.std.specs.Prelude.{◌≡◌, ℕ, ◌*◌, ◌≤◌, false, IsTrue, List, [], filter_map, option_map, None, Option}
+use Rattle.std.specs.Prelude.{◌≡◌, ℕ, ◌*◌, ◌≤◌, false, IsTrue, List, [], filter_map, None, Option}
 use Rattle.std.specs.List.{AllByRecursion, flat_map}
 use Rattle.jnode.specs.Compressed.{compressed_of}
 use Rattle.jnode.specs.Reading.{seen_of}
 use Rattle.jnode.specs.declared.node.NodeRef.{NodeRef}
-use Rattle.jnode.specs.declared.node.Seen.{Seen}
 use Rattle.jnode.specs.declared.order.Endian.{Endian}
-use Rattle.jscan.specs.Image.{is_block_size, greatest_image, sightings}
+use Rattle.jscan.specs.Image.{is_block_size, greatest_image}
 use Rattle.jscan.specs.Scans.{findings, is_read_only}
-use Rattle.jexpand.specs.Expanded.{expanded_node, expanded_nodes, unpacked_bytes}
+use Rattle.jexpand.specs.Expanded.{expanded_nodes, unpacked_bytes}
 use Rattle.jmount.specs.Collected.{without_addresses}
 use Rattle.jmount.specs.Find.{find}
 use Rattle.jmount.specs.Tree.{State, object}
 use Rattle.jview.specs.Through.{node_by, content_by, fault_by, first_fault, IsSoundThrough, MountsThroughAs}
+use Rattle.jthrough.specs.Addressed.{addressed_nodes}
 use Rattle.jlog.specs.HeadlineThrough.{state_through}
 use Rattle.jcompact.specs.Matters.{Placed, AreWhatMatters, NamesLeadTo}
 use Rattle.jcollect.specs.Collecting.{addresses_of, FitBlocks}
@@ -53,15 +53,7 @@ CopiedExpands = (e : Endian) (size blocks : ℕ) (image addresses : List ℕ)
 
 -- ---- the nodes that matter
 
--- the node that a sighted tile gives, with its address
-abbrev pub addressed_node : Endian → ℕ → List ℕ → ℕ × Seen → Option Placed
-addressed_node e size image s = option_map (λ n. (s.0, n)) (expanded_node e size image s)
-
--- the nodes of an image through its compression, each with the address of its tile
-abbrev pub addressed_nodes : Endian → ℕ → List ℕ → List Placed
-addressed_nodes e size image = filter_map (addressed_node e size image) (sightings e size image)
-
--- Some of them that matter, for which there is room.
+-- Of the nodes of an image through its compression some that matter, for which there is room.
 pub record MayCollectThrough (e : Endian) (size blocks : ℕ) (image : List ℕ) (kept : List Placed)
     : Type 0 where
   pub sound : IsSoundThrough e size image

@@ -3,6 +3,7 @@
 ghost use Rattle.std.specs.Prelude.{◌≡◌, IfOk, IfErr, OnOk, List, ℕ};
 ghost use Rattle.std.specs.Io.KnownBytes.{Appends};
 ghost use Rattle.flashbase.specs.Sinks.{change_of};
+ghost use Rattle.jscan.specs.Image.{nodes};
 ghost use Rattle.jmount.specs.Mounts.{IsMountOf};
 ghost use Rattle.jlog.specs.Places.{is_writable_flash};
 ghost use Rattle.jcompact.specs.Compacted.{IsCompactOf};
@@ -43,7 +44,7 @@ pub struct Collected {
 }
 
 /// Whether a flash of so many blocks is one that is written.
-fn is_written(geometry: Geometry, blocks: u32) -> bool
+pub(crate) fn is_written(geometry: Geometry, blocks: u32) -> bool
     ensures { result ≡ is_writable_flash geometry.block blocks }
 {
     let bytes = u64::from(blocks) * u64::from(geometry.block);
@@ -53,7 +54,11 @@ fn is_written(geometry: Geometry, blocks: u32) -> bool
         && bytes <= GREATEST_IMAGE as u64
 }
 
-fn addresses_of(alloc: Global, nodes: &[(u32, NodeRef<'_>)]) -> Result<Vec<u32>, AllocError>
+/// Where nodes lie.
+pub(crate) fn addresses_of(
+    alloc: Global,
+    nodes: &[(u32, NodeRef<'_>)],
+) -> Result<Vec<u32>, AllocError>
     ensures { IfOk result (λ found. found.items ≡ addresses_of nodes.now) }
 {
     let mut addresses = Vec::new(alloc);
@@ -71,7 +76,7 @@ fn kept_addresses<E: Order>(
 ) -> Result<(Vec<u32>, usize), AllocError>
     requires { IsMountOf E.order geometry.block mounted.now }
     ensures { IfOk result (λ found.
-        IsFound E.order geometry.block mounted.now.image found.0.items found.1) }
+        IsFound (nodes E.order geometry.block mounted.now.image) found.0.items found.1) }
 {
     let Ok(found) = scan::<E>(alloc, mounted.image(), geometry) else {
         return Err(AllocError);

@@ -3,6 +3,7 @@
 ghost use Rattle.std.specs.Prelude.{◌≡◌};
 ghost use Rattle.jcollect.specs.declared.fault.CollectFault.TheVariants as fault;
 
+use jthrough::ViewFault;
 use std::alloc::AllocError;
 use thiserror::Error;
 
@@ -36,4 +37,15 @@ impl From<AllocError> for CollectFault {
     fn from(_error: AllocError) -> CollectFault {
         CollectFault::OutOfMemory
     }
+}
+
+/// Why no image of the nodes that matter is written of one that may have compressed nodes.
+#[derive(Clone, Copy, Debug, PartialEq, Eq, Error)]
+pub enum ThroughFault {
+    /// The image does not mount through its compression.
+    #[error("{0}")]
+    Unmounted(ViewFault),
+    /// It mounts through, and its nodes do not go out.
+    #[error("{0}")]
+    Uncollected(CollectFault),
 }

@@ -33,6 +33,7 @@
 //! | write there | [`OpeningSession::resume`], then as a [`Session`] |
 //! | put an image with what was written there | [`put_with_stretches`], by each [`Stretch`] |
 //! | write an image of the nodes alone that matter | [`compact_into`]; [`plan_of`] says how long |
+//! | write such an image of one with compressed data | [`compact_through`], [`plan_through`] |
 //! | know where such data lie, before it is mounted | [`view_image`], then [`mount_view`] |
 //! | have such an image with plain data in memory | [`decompressed`], then [`mount`] |
 //! | write such an image with plain data | [`decompress`] |
@@ -70,8 +71,11 @@ pub use jclash::clash_below;
 pub use jcollect::CollectFault;
 pub use jcollect::Collected;
 pub use jcollect::Plan;
+pub use jcollect::ThroughFault;
 pub use jcollect::compact_into;
+pub use jcollect::compact_through;
 pub use jcollect::plan_of;
+pub use jcollect::plan_through;
 pub use jconvert::Apart;
 pub use jconvert::ConvertFault;
 pub use jconvert::Converted;
@@ -159,5 +163,6 @@ pub use jthrough::View;
 pub use jthrough::ViewFault;
 pub use jthrough::mount_through;
 pub use jthrough::mount_view;
+pub use jthrough::nodes_through;
 pub use jthrough::view_image;
 pub use jupdate::OpeningSession;

@@ -1,5 +1,6 @@
 use Rattle.std.proofs.Common.{◌≡◌, ℕ, List, sym, ap₂, subst, ◌∙◌}
 use Rattle.std.specs.List.{AllByRecursion}
+use Rattle.jscan.specs.Image.{nodes}
 use Rattle.jcollect.specs.Planning.{IsSoundNodeAt, tiles_fault}
 use Rattle.jcollect.proofs.CollectLemmas.{found_nodes}
 use Rattle.jcollect.proofs.RoomLemmas.{unplanned}
@@ -19,5 +20,5 @@ returns-in-Err-bytes_needed-clause-refused g c =
     let size : ℕ = c.args.geometry.block in
     let same : tiles_fault e size c.args.blocks c.image.result.now c.deref.result.now ≡ tiles_fault e size c.args.blocks c.args.mounted.now.image c.in-Ok.found.0.items =
     ap₂ (λ (image addresses : List ℕ). tiles_fault e size c.args.blocks image addresses) c.image.ensures c.deref.ensures.value in
-    unplanned e size c.args.blocks c.args.mounted.now _ _ c.in-Err-bytes_needed.fault c.in-Ok.ensures (sym c.read_only.ensures ∙ c.if-read_only.false)
+    unplanned (nodes e size c.args.mounted.now.image) e size c.args.blocks c.args.mounted.now _ _ c.in-Err-bytes_needed.fault c.in-Ok.ensures (sym c.read_only.ensures ∙ c.if-read_only.false)
     (sym c.is_written.ensures ∙ c.if-not-is_written.false) (λ other. sym same ∙ c.in-Err-bytes_needed.ensures.refused other)
