@@ -52,7 +52,8 @@ typedef struct jffs2_how {
     uint32_t block;   /* the bytes of an erase block: 4096 to 4194304, a multiple of 4 */
     uint32_t big;     /* 0: little-endian order; any other number: big-endian order */
     uint32_t through; /* 0: compressed data are refused; any other number: they are read.
-                         Only jffs2_stat, jffs2_read, jffs2_read_many and jffs2_tree use it. */
+                         Only jffs2_stat, jffs2_read, jffs2_read_many, jffs2_tree and
+                         jffs2_tree_text use it. */
 } jffs2_how;
 
 /* The address of the node that a fault is about, and its type or the number of its compression; 0 if
@@ -218,6 +219,18 @@ uint32_t jffs2_read_many(const uint8_t *image, size_t len, const jffs2_how *how,
 uint32_t jffs2_tree(const uint8_t *image, size_t len, const jffs2_how *how,
                     jffs2_entry *rows, size_t row_count, uint8_t *names, size_t names_len,
                     jffs2_needed *needed, jffs2_fault *fault);
+
+/* The lines that `jffs2_image ls` prints of the object that a path names, and of what lies below it:
+ * of "/" those of the whole image. `needed` counts bytes; no zero byte ends them. 1 to 7, 10 to 12,
+ * 20, 21; JFFS2_SMALL. */
+uint32_t jffs2_tree_text(const uint8_t *image, size_t len, const jffs2_how *how,
+                         const uint8_t *path, size_t path_len,
+                         uint8_t *out, size_t out_len, size_t *needed, jffs2_fault *fault);
+
+/* What `jffs2_image check` prints of any image; with the shape of its tree if `shape` is not 0.
+ * JFFS2_BLOCK_SIZE, JFFS2_TOO_LARGE, JFFS2_OUT_OF_MEMORY; JFFS2_SMALL. */
+uint32_t jffs2_check_text(const uint8_t *image, size_t len, const jffs2_how *how, uint32_t shape,
+                          uint8_t *out, size_t out_len, size_t *needed, jffs2_fault *fault);
 
 /* The image of the same nodes with data not compressed. 1 to 4, 7, 20 to 24; JFFS2_SMALL. */
 uint32_t jffs2_decompress(const uint8_t *image, size_t len, const jffs2_how *how,

@@ -35,7 +35,7 @@ void rattle_dealloc(void *p) {
 
 static uint8_t image[1 << 17], out[1 << 17], small[1 << 17];
 static jffs2_entry rows[100];
-static const char *names_of_calls[] = {"stat", "read", "tree", "decompress", "compress"};
+static const char *names_of_calls[] = {"stat", "read", "tree", "decompress", "compress", "tree_text", "check_text"};
 
 static int untouched(const void *at, size_t len) {
     for (size_t i = 0; i < len; i++)
@@ -52,6 +52,9 @@ static uint32_t call(int which, size_t len, const jffs2_how *how, size_t plain_l
     if (which == 1) return jffs2_read(image, len, how, 5, 0, out, sizeof out, &got, &fault);
     if (which == 2) return jffs2_tree(image, len, how, rows, 100, out, sizeof out, &needed, &fault);
     if (which == 3) return jffs2_decompress(image, len, how, out, sizeof out, &got, &fault);
+    if (which == 5)
+        return jffs2_tree_text(image, len, how, (const uint8_t *)"/", 1, out, sizeof out, &got, &fault);
+    if (which == 6) return jffs2_check_text(image, len, how, 1, out, sizeof out, &got, &fault);
     return jffs2_compress(small, plain_len, how, out, sizeof out, &got, &fault);
 }
 
@@ -63,7 +66,7 @@ int main(int argc, char **argv) {
     jffs2_fault fault;
     left = -1;
     if (jffs2_decompress(image, len, &how, small, sizeof small, &plain_len, &fault)) return 2;
-    for (int which = 0; which < 5; which++) {
+    for (int which = 0; which < 7; which++) {
         long i;
         for (i = 0;; i++) {
             memset(out, 7, sizeof out), memset(rows, 7, sizeof rows);

@@ -54,6 +54,20 @@ static void look(const uint8_t *image, size_t len, const jffs2_how *how) {
     free(rows), free(names), free(out);
 }
 
+static void print(const uint8_t *image, size_t len, const jffs2_how *how) {
+    jffs2_fault fault = {0, 0};
+    size_t needed = 0, room = below(4000);
+    uint8_t *out = malloc(room + 1);
+    memset(out, 7, room);
+    uint32_t status = below(2) ? jffs2_tree_text(image, len, how, (const uint8_t *)"/etc", below(5), out, room, &needed, &fault)
+                               : jffs2_check_text(image, len, how, below(2), out, room, &needed, &fault);
+    seen[status]++;
+    if (!known(status)) fail("print", status);
+    if (status == JFFS2_SMALL && needed <= room) fail("print is small", status);
+    untouched("print wrote", status, out, status ? 0 : needed, room);
+    free(out);
+}
+
 static void convert(const uint8_t *image, size_t len, const jffs2_how *how) {
     jffs2_fault fault = {0, 0};
     size_t needed = 0, room = below(60000);
@@ -82,6 +96,7 @@ int main(int argc, char **argv) {
         for (uint32_t flips = below(4); flips && part; flips--) image[below((uint32_t)part)] ^= (uint8_t)(1u << below(8));
         jffs2_how how = {below(8) ? block : below(70000), below(8) == 0, below(2)};
         look(image, part, &how);
+        print(image, part, &how);
         if (i % 8 == 0) convert(image, part, &how);
         free(image);
     }

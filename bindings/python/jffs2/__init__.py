@@ -215,6 +215,8 @@ _CALLS = {
     "jffs2_read": [*_IMAGE, _U32, _U64, _AT, _LEN, _AT, _AT],
     "jffs2_read_many": [*_IMAGE, _AT, _LEN, _AT, _LEN, _AT, _AT],
     "jffs2_tree": [*_IMAGE, _AT, _LEN, _AT, _LEN, _AT, _AT],
+    "jffs2_tree_text": [*_IMAGE, _AT, _LEN, _AT, _LEN, _AT, _AT],
+    "jffs2_check_text": [*_IMAGE, _U32, _AT, _LEN, _AT, _AT],
     "jffs2_decompress": [*_IMAGE, _AT, _LEN, _AT, _AT],
     "jffs2_compress": [*_IMAGE, _AT, _LEN, _AT, _AT],
 }
@@ -274,8 +276,8 @@ def info(data: Any) -> Info:
 class Image:
     """An image in memory, with the size of its erase blocks and its byte order, which it does not record.
 
-    `order` is "little" or "big". With `through`, `stat`, `read_at`, `read`, `read_many` and `tree` read compressed
-    data; without it they raise Compressed if there are any. All methods raise Error."""
+    `order` is "little" or "big". With `through`, `stat`, `read_at`, `read`, `read_many`, `tree` and `tree_text` read
+    compressed data; without it they raise Compressed if there are any. All methods raise Error."""
 
     def __init__(self, data: Any, block: int = 65536, order: str = "little", through: bool = False) -> None:
         if order not in ("little", "big"):
@@ -372,24 +374,32 @@ class Image:
             for row in rows[: needed.rows]
         ]
 
-    def _made(self, name: str) -> bytes:
-        size = max(1, self._length)
+    def _bytes(self, name: str, size: int, *more: Any) -> bytes:
         while True:
-            out, needed, fault = ctypes.create_string_buffer(size), _LEN(), _Fault()
-            status = self._call(name, out, size, ctypes.byref(needed), ctypes.byref(fault))
+            out, needed, fault = ctypes.create_string_buffer(size or 1), _LEN(), _Fault()
+            status = self._call(name, *more, out, size, ctypes.byref(needed), ctypes.byref(fault))
             if status != _SMALL:
                 break
             size = needed.value
         _answer(status, fault)
         return out.raw[: needed.value]
 
+    def tree_text(self, path: str | bytes = "/") -> bytes:
+        """The lines that `jffs2_image ls` prints of the object that a path names, and of what lies below it."""
+        at, length, _kept = _lent(os.fsencode(path))
+        return self._bytes("jffs2_tree_text", 0, at, length)
+
+    def check_text(self, shape: bool = False) -> bytes:
+        """What `jffs2_image check` prints; with the shape of its tree if `shape` is set. It need not mount."""
+        return self._bytes("jffs2_check_text", 0, int(shape))
+
     def decompress(self) -> bytes:
         """The image of the same nodes with data not compressed."""
-        return self._made("jffs2_decompress")
+        return self._bytes("jffs2_decompress", self._length)
 
     def compress(self) -> bytes:
         """An image of the same nodes, with data of files compressed by ZLIB if that makes a node shorter."""
-        return self._made("jffs2_compress")
+        return self._bytes("jffs2_compress", self._length)
 
 
 if sys.byteorder != "little":

@@ -1,5 +1,5 @@
-"""as_program.py IMAGE BLOCK FOLDER: prints the tree as `jffs2_image ls` does, for names without escapes, and writes
-plain.img and small.img, the image decompressed and compressed again."""
+"""as_program.py IMAGE BLOCK FOLDER: prints the tree as `jffs2_image ls` does, for names without escapes. It writes plain.img
+and small.img, the image decompressed and compressed again, and tree.txt and check.txt, the texts of `ls` and of `check`."""
 
 import sys
 
@@ -36,7 +36,13 @@ def main(name, block, folder):
     print(line(image.stat("/"), "/", None))
     walk(image, entries, ROOT, "")
     plain = image.decompress()
-    for file_name, made in ("plain.img", plain), ("small.img", jffs2.Image(plain, block, order).compress()):
+    made_of = {
+        "plain.img": plain,
+        "small.img": jffs2.Image(plain, block, order).compress(),
+        "tree.txt": image.tree_text(),
+        "check.txt": image.check_text(shape=True),
+    }
+    for file_name, made in made_of.items():
         with open(f"{folder}/{file_name}", "wb") as file:
             file.write(made)
 

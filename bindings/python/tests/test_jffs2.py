@@ -79,6 +79,19 @@ class Calls(unittest.TestCase):
         for entry in tree:
             self.assertEqual(entry.stat.number, entry.number)
 
+    def test_texts(self):
+        it = self.image.stat("/etc/passwd")
+        words = f"- {it.mode & 0o7777:04o} {it.uid} {it.gid} {it.size} {it.mtime} {it.number} /etc/passwd\n"
+        self.assertEqual(self.image.tree_text("/etc/passwd"), words.encode())
+        self.assertIn(words.encode(), self.image.tree_text())
+        self.assertEqual(self.image.tree_text().count(b"\n"), 14)
+        self.refused("NotFound", self.image.tree_text, "/nothing")
+        self.refused("Compressed", jffs2.Image(self.data, 8192).tree_text)
+        nothing = b"total blocks 0 entries 0 inodes 0 findings 0\nmount ok\n"
+        self.assertEqual(jffs2.Image(b"").check_text(), nothing)
+        self.assertEqual(jffs2.Image(b"").check_text(shape=True), nothing + b"shape ok\n")
+        self.refused("BlockSize", jffs2.Image(self.data, 8193).check_text)
+
     def test_refusals(self):
         self.assertEqual(self.refused("Compressed", jffs2.Image(self.data, 8192).stat, "/etc").status, 4)
         self.refused("NotFound", self.image.stat, "/nothing")

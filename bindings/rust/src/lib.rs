@@ -397,8 +397,8 @@ impl<'a> Image<'a> {
         Image { bytes, how }
     }
 
-    /// The same, and whether `stat`, `read_at`, `read`, `read_many` and `tree` read compressed data
-    /// (`true`) or refuse them (`false`, the default).
+    /// The same, and whether `stat`, `read_at`, `read`, `read_many`, `tree` and `tree_text` read
+    /// compressed data (`true`) or refuse them (`false`, the default).
     #[must_use]
     pub fn through(mut self, through: bool) -> Self {
         self.how.through = u32::from(through);
@@ -588,6 +588,47 @@ impl<'a> Image<'a> {
         }
     }
 
+    /// The lines that `jffs2_image ls` prints of the object that a path names, and of what lies
+    /// below it: of `/` those of the whole image.
+    ///
+    /// # Errors
+    /// That it does not mount; `BadPath`, `NotFound`, `NotDirectory`.
+    pub fn tree_text(&self, path: &[u8]) -> Result<Vec<u8>, Error> {
+        bytes_of(0, |out, out_len, needed, fault| unsafe {
+            sys::jffs2_tree_text(
+                self.bytes.as_ptr(),
+                self.bytes.len(),
+                &self.how,
+                path.as_ptr(),
+                path.len(),
+                out,
+                out_len,
+                needed,
+                fault,
+            )
+        })
+    }
+
+    /// What `jffs2_image check` prints; with the shape of its tree if `shape` is set. It need not
+    /// mount.
+    ///
+    /// # Errors
+    /// `BlockSize`, `TooLarge`, `OutOfMemory`.
+    pub fn check_text(&self, shape: bool) -> Result<Vec<u8>, Error> {
+        bytes_of(0, |out, out_len, needed, fault| unsafe {
+            sys::jffs2_check_text(
+                self.bytes.as_ptr(),
+                self.bytes.len(),
+                &self.how,
+                u32::from(shape),
+                out,
+                out_len,
+                needed,
+                fault,
+            )
+        })
+    }
+
     /// The image of the same nodes with data not compressed.
     ///
     /// # Errors
@@ -606,26 +647,35 @@ impl<'a> Image<'a> {
     }
 
     fn made(&self, make: Make) -> Result<Vec<u8>, Error> {
-        let mut out = vec![0; self.bytes.len()];
-        loop {
-            let (mut needed, mut fault) = (0, sys::Fault::default());
-            let status = unsafe {
-                make(
-                    self.bytes.as_ptr(),
-                    self.bytes.len(),
-                    &self.how,
-                    out.as_mut_ptr(),
-                    out.len(),
-                    &mut needed,
-                    &mut fault,
-                )
-            };
-            if status != SMALL {
-                out.truncate(needed);
-                return answer(status, fault, out);
-            }
-            out.resize(needed, 0);
+        bytes_of(self.bytes.len(), |out, out_len, needed, fault| unsafe {
+            make(
+                self.bytes.as_ptr(),
+                self.bytes.len(),
+                &self.how,
+                out,
+                out_len,
+                needed,
+                fault,
+            )
+        })
+    }
+}
+
+/// What a call gives, which is asked with room for so many bytes, and again with as many as it
+/// needs.
+fn bytes_of(
+    guess: usize,
+    give: impl Fn(*mut u8, usize, &mut usize, &mut sys::Fault) -> u32,
+) -> Result<Vec<u8>, Error> {
+    let mut out = vec![0; guess];
+    loop {
+        let (mut needed, mut fault) = (0, sys::Fault::default());
+        let status = give(out.as_mut_ptr(), out.len(), &mut needed, &mut fault);
+        if status != SMALL {
+            out.truncate(needed);
+            return answer(status, fault, out);
         }
+        out.resize(needed, 0);
     }
 }
 

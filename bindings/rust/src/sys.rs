@@ -136,6 +136,27 @@ extern "C" {
         needed: *mut Needed,
         fault: *mut Fault,
     ) -> u32;
+    pub fn jffs2_tree_text(
+        image: *const u8,
+        len: usize,
+        how: *const How,
+        path: *const u8,
+        path_len: usize,
+        out: *mut u8,
+        out_len: usize,
+        needed: *mut usize,
+        fault: *mut Fault,
+    ) -> u32;
+    pub fn jffs2_check_text(
+        image: *const u8,
+        len: usize,
+        how: *const How,
+        shape: u32,
+        out: *mut u8,
+        out_len: usize,
+        needed: *mut usize,
+        fault: *mut Fault,
+    ) -> u32;
     pub fn jffs2_decompress(
         image: *const u8,
         len: usize,

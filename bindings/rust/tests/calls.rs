@@ -114,6 +114,40 @@ fn has_names() {
 }
 
 #[test]
+fn has_texts() {
+    let bytes = data();
+    let image = image(&bytes);
+    let text = image.tree_text(b"/etc/passwd").unwrap();
+    let stat = image.stat(b"/etc/passwd").unwrap();
+    let line = format!(
+        "- {:04o} {} {} {} {} {} /etc/passwd\n",
+        stat.mode & 0o7777,
+        stat.uid,
+        stat.gid,
+        stat.size,
+        stat.mtime,
+        stat.number
+    );
+    assert_eq!(String::from_utf8(text).unwrap(), line);
+    let whole = String::from_utf8(image.tree_text(b"/").unwrap()).unwrap();
+    assert_eq!(whole.lines().count(), 14);
+    assert!(whole.contains(&line));
+    assert_eq!(image.tree_text(b"/nothing"), Err(Error::NotFound));
+    let plain = Image::new(&bytes, 8192, Order::Little);
+    assert!(matches!(
+        plain.tree_text(b"/"),
+        Err(Error::Compressed { .. })
+    ));
+    let nothing = "total blocks 0 entries 0 inodes 0 findings 0\nmount ok\n";
+    let empty = Image::new(&[], 8192, Order::Little);
+    assert_eq!(empty.check_text(false).unwrap(), nothing.as_bytes());
+    let shape = nothing.to_string() + "shape ok\n";
+    assert_eq!(empty.check_text(true).unwrap(), shape.as_bytes());
+    let odd = Image::new(&bytes, 8193, Order::Little);
+    assert_eq!(odd.check_text(true), Err(Error::BlockSize));
+}
+
+#[test]
 fn refuses() {
     let bytes = data();
     let plain = Image::new(&bytes, 8192, Order::Little);

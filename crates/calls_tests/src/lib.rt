@@ -7,3 +7,7 @@
 mod calls;
 #[cfg(test)]
 mod checks;
+#[cfg(test)]
+mod images;
+#[cfg(test)]
+mod texts;

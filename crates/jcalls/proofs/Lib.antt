@@ -3,4 +3,5 @@ pub mod FillingLemmas
 pub mod ManyLemmas
 pub mod NodesLemmas
 pub mod ShownLemmas
+pub mod TextLemmas
 pub mod TreeLemmas

@@ -1,8 +1,12 @@
 -- What a caller asks for.
-use Rattle.std.specs.Prelude.{◌==◌, Bool, not, if◌then◌else◌}
+use Rattle.std.specs.Prelude.{◌==◌, ℕ, Bool, not, if◌then◌else◌}
 use Rattle.jnode.specs.declared.order.Endian.{Endian}
 use Rattle.jnode.specs.declared.order.Endian.TheVariants.{Little, Big}
 use Rattle.jcalls.specs.declared.how.How.{How}
+
+-- a number that asks for something unless it is 0
+abbrev pub is_asked : ℕ → Bool
+is_asked number = not (number == 0)
 
 abbrev pub is_big : How → Bool
 is_big how = not (how.big == 0)

@@ -9,4 +9,5 @@ pub mod Many
 pub mod NodeRows
 pub mod Rows
 pub mod Shown
+pub mod Texts
 pub mod Told

@@ -7,9 +7,9 @@ ghost use Rattle.jcalls.specs.Made.{GivesMade, NeedsForMade};
 ghost use Rattle.jcalls.specs.Shown.{IsDueFault};
 ghost use Rattle.jcalls.specs.Told.{told_by};
 
-use crate::giving::give_bytes;
+use crate::giving::give_all;
 use crate::how::How;
-use crate::told::{Fault, OK, SMALL, Told, convert_told, tell};
+use crate::told::{Fault, Told, convert_told, tell};
 use byteorder::{BigEndian, LittleEndian};
 use flashbase::FromWriter;
 use jnode::Order;
@@ -63,19 +63,6 @@ fn compress_asked(alloc: Global, image: &[u8], how: How) -> Result<Vec<u8>, Told
     }
 }
 
-/// Gives an image to the caller, where there is room for it; how many bytes it has is told in any
-/// case.
-fn give_image(bytes: &[u8], out: &mut [u8], needed: &mut usize) -> u32
-    ensures gives { made.Gives bytes.now out.old out.new needed.new result }
-{
-    *needed = bytes.len();
-    if out.len() < bytes.len() {
-        return SMALL;
-    }
-    give_bytes(bytes, out);
-    OK
-}
-
 /// The image of the same nodes, whose data are not compressed. Whether data are to be read through
 /// is not asked here.
 ///
@@ -103,7 +90,7 @@ pub fn decompress(
     ensures needed_kept { result ≢ 0 → result ≢ 9 → needed.new ≡ needed.old }
 {
     match decompress_asked(alloc, image, how) {
-        Ok(bytes) => give_image(&bytes, out, needed),
+        Ok(bytes) => give_all(&bytes, out, needed),
         Err(told) => tell(told, fault),
     }
 }
@@ -135,7 +122,7 @@ pub fn compress(
     ensures needed_kept { result ≢ 0 → result ≢ 9 → needed.new ≡ needed.old }
 {
     match compress_asked(alloc, image, how) {
-        Ok(bytes) => give_image(&bytes, out, needed),
+        Ok(bytes) => give_all(&bytes, out, needed),
         Err(told) => tell(told, fault),
     }
 }

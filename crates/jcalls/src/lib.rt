@@ -6,9 +6,10 @@
 //! where the fault is, and for `needed` at 9.
 //!
 //! It is built on `jmount` and `jthrough` (the file system of an image, or the one through its
-//! compression), `jscan`, `jinfo` and `jconvert`. `specs/Told.antt` says which number stands for
-//! which fault, `specs/Shown.antt` which file system an image shows, `specs/Looking.antt` what
-//! `stat`, `read` and `tree` answer, `specs/Made.antt` what `decompress` and `compress` do,
+//! compression), `jscan`, `jinfo`, `jreport` and `jconvert`. `specs/Told.antt` says which number
+//! stands for which fault, `specs/Shown.antt` which file system an image shows,
+//! `specs/Looking.antt` what `stat`, `read` and `tree` answer, `specs/Texts.antt` what `tree_text`
+//! and `check_text` give, `specs/Made.antt` what `decompress` and `compress` do,
 //! `specs/Counting.antt` and `specs/InfoRows.antt` what `check` and `info` do.
 #![tactic(auto)]
 
@@ -24,6 +25,7 @@ mod naming;
 mod node_row;
 mod reading;
 mod rows;
+mod texts;
 mod told;
 
 pub use crate::converting::{compress, decompress};
@@ -36,4 +38,5 @@ pub use crate::naming::tree;
 pub use crate::node_row::NodeRow;
 pub use crate::reading::{Place, read, stat};
 pub use crate::rows::{Counted, Entry, InfoRow, Needed, Request, Stat};
+pub use crate::texts::{check_text, tree_text};
 pub use crate::told::{Fault, OK, SMALL, TOO_LARGE, Told};

@@ -7,7 +7,7 @@ ghost use Rattle.flashbase.specs.Crc.{crc_of};
 ghost use Rattle.jscan.specs.Image.{greatest_image};
 ghost use Rattle.jinfo.specs.Infos.{info_of};
 ghost use Rattle.jmount.specs.Tree.{State};
-ghost use Rattle.jcalls.specs.Asked.{asked_order};
+ghost use Rattle.jcalls.specs.Asked.{asked_order, is_asked};
 ghost use Rattle.jcalls.specs.Counting.{CountsAsked, CountRefused};
 ghost use Rattle.jcalls.specs.Filling.{GivesRows, NeedsForRows};
 ghost use Rattle.jcalls.specs.FindingRows.{finding_rows};
@@ -17,6 +17,7 @@ ghost use Rattle.jcalls.specs.Made.{IsDecompressed, IsCompressed, DecompressRefu
 ghost use Rattle.jcalls.specs.Many.{GivesMany, NeedsForMany};
 ghost use Rattle.jcalls.specs.NodeRows.{node_rows};
 ghost use Rattle.jcalls.specs.Shown.{Shows, ShowsNone};
+ghost use Rattle.jcalls.specs.Texts.{IsListing, IsReport, ReportRefused};
 ghost use Rattle.jcalls.specs.Told.{told_by};
 
 use jcalls::{
@@ -205,6 +206,56 @@ pub extern "C" fn jffs2_tree(
     ensures needed_kept { result ≢ 0 → result ≢ 9 → needed.new ≡ needed.old }
 {
     jcalls::tree(alloc, image, *how, rows, names, needed, fault)
+}
+
+/// The lines that `ls` prints of the object that a path names, and of what lies below it.
+#[unsafe(no_mangle)]
+pub extern "C" fn jffs2_tree_text(
+    alloc: Global,
+    image: &[u8],
+    how: &How,
+    path: &[u8],
+    out: &mut [u8],
+    needed: &mut usize,
+    fault: &mut Fault,
+) -> u32
+    ensures done { result ≡ 0 → (s : State) × Shows how.now image.now s
+        × GivesMade (IsListing s path.now) out.old out.new needed.new }
+    ensures small { result ≡ 9 → (s : State) × Shows how.now image.now s
+        × NeedsForMade (IsListing s path.now) out.old needed.new }
+    ensures refused { result ≢ 0 → result ≢ 9
+        → StatRefused how.now image.now path.now (told_by result fault.new) }
+    ensures kept { result ≢ 0 → out.new ≡ out.old }
+    ensures needed_kept { result ≢ 0 → result ≢ 9 → needed.new ≡ needed.old }
+    ensures quiet { (result ≡ 0) ⊎ (result ≡ 9) → fault.new ≡ fault.old }
+{
+    jcalls::tree_text(alloc, image, *how, path, out, needed, fault)
+}
+
+/// What `check` prints of an image.
+#[unsafe(no_mangle)]
+pub extern "C" fn jffs2_check_text(
+    alloc: Global,
+    image: &[u8],
+    how: &How,
+    shape: u32,
+    out: &mut [u8],
+    needed: &mut usize,
+    fault: &mut Fault,
+) -> u32
+    ensures done { result ≡ 0
+        → GivesMade (IsReport (asked_order how.now) how.now.block (is_asked shape) image.now)
+        out.old out.new needed.new }
+    ensures small { result ≡ 9
+        → NeedsForMade (IsReport (asked_order how.now) how.now.block (is_asked shape) image.now)
+        out.old needed.new }
+    ensures refused { result ≢ 0 → result ≢ 9
+        → ReportRefused how.now.block image.now (told_by result fault.new) }
+    ensures kept { result ≢ 0 → out.new ≡ out.old }
+    ensures needed_kept { result ≢ 0 → result ≢ 9 → needed.new ≡ needed.old }
+    ensures quiet { (result ≡ 0) ⊎ (result ≡ 9) → fault.new ≡ fault.old }
+{
+    jcalls::check_text(alloc, image, *how, shape, out, needed, fault)
 }
 
 /// The image of the same nodes, whose data are not compressed.
