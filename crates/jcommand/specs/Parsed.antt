@@ -11,6 +11,8 @@ use Rattle.jscan.specs.declared.page.Page.{Page}
 use Rattle.jscan.specs.declared.page.Page.TheVariants.{P4096, P8192, P16384}
 use Rattle.jline.specs.Read.{◌>>=◌}
 use Rattle.jcommand.specs.Commands.{program}
+use Rattle.jcommand.specs.declared.parsed.Inspection.{Inspection}
+use Rattle.jcommand.specs.declared.parsed.Inspection.TheVariants as inspection
 use Rattle.jcommand.specs.declared.parsed.Options.{Options}
 use Rattle.jcommand.specs.declared.parsed.Owner.{Owner}
 use Rattle.jcommand.specs.declared.parsed.Packing.{Packing}
@@ -19,6 +21,8 @@ use Rattle.jcommand.specs.declared.parsed.Request.{Request}
 use Rattle.jcommand.specs.declared.parsed.Request.TheVariants as request
 use Rattle.jcommand.specs.declared.parsed.Task.{Task}
 use Rattle.jcommand.specs.declared.parsed.Task.TheVariants as task
+use Rattle.jcommand.specs.declared.parsed.Work.{Work}
+use Rattle.jcommand.specs.declared.parsed.Work.TheVariants as work
 
 -- ---- values
 
@@ -65,25 +69,38 @@ number_option id rows = option_and_then decimal_number (first_of id rows)
 
 pub data Parsed : Type 0 where
   ScanParsed : Options → Text → Parsed
-  CheckParsed : Options → Bool → Text → Parsed
-  ListParsed : Options → Bool → Text → Option Text → Parsed
-  CatParsed : Options → Bool → Text → Text → Parsed
   BuildParsed : Options → ℕ → Page → Text → Text → Parsed
   AppendParsed : Options → ℕ → Page → Bool → Text → Text → Text → Parsed
   DecompressParsed : Options → Bool → Text → Text → Parsed
 
 abbrev pub view : Request → Parsed
 view (request.Scan options image) = ScanParsed options image.now
-view (request.Check options shape image) = CheckParsed options shape image.now
-view (request.List options decompress image path) =
-    ListParsed options decompress image.now (option_map (λ p. p.now) path)
-view (request.Cat options decompress image path) = CatParsed options decompress image.now path.now
 view (request.Build target listing) =
     BuildParsed target.options target.blocks target.page listing.now target.output.now
 view (request.Append target decompress image listing) = AppendParsed target.options target.blocks
     target.page decompress image.now listing.now target.output.now
 view (request.Decompress options force image output) =
     DecompressParsed options force image.now output.now
+
+-- the same of what is printed of images: of their tiles and their mount, of a tree, of a file, of
+-- what one tells of itself, of what two differ in, of what the damage of one costs
+pub data InspectionParsed : Type 0 where
+  CheckParsed : Options → Bool → Text → InspectionParsed
+  ListParsed : Options → Bool → Text → Option Text → InspectionParsed
+  CatParsed : Options → Bool → Text → Text → InspectionParsed
+  InfoParsed : Text → InspectionParsed
+  DiffParsed : Options → Bool → Text → Text → InspectionParsed
+  DamageParsed : Options → Text → InspectionParsed
+
+abbrev pub inspection_view : Inspection → InspectionParsed
+inspection_view (inspection.Check options shape image) = CheckParsed options shape image.now
+inspection_view (inspection.List options decompress image path) =
+    ListParsed options decompress image.now (option_map (λ p. p.now) path)
+inspection_view (inspection.Cat options decompress image path) =
+    CatParsed options decompress image.now path.now
+inspection_view (inspection.Info image) = InfoParsed image.now
+inspection_view (inspection.Diff d) = DiffParsed d.options d.times d.first.now d.second.now
+inspection_view (inspection.Damage d) = DamageParsed d.options d.image.now
 
 -- an image of a folder of the host: of a flash of so many blocks, where they are given
 pub record PackingParsed : Type 0 where
@@ -97,21 +114,19 @@ pub record PackingParsed : Type 0 where
   pub folder : Text
   pub output : Text
 
--- the same of a task: a request of an image, one that writes an image and notes weak nodes, one
--- that works with a folder of the host, what an image tells of itself, what stands after a stop, an
--- image that is compressed, what two images differ in, an image that is decompressed without nodes
--- that clash, what the damage of one costs, or an image of a folder
+-- the same of a task: what is printed of images, a request of an image, one that writes an image
+-- and notes weak nodes, one that works with a folder of the host, what stands after a stop, an
+-- image that is compressed, one that is decompressed without nodes that clash, or an image of a
+-- folder
 pub data TaskParsed : Type 0 where
+  InspectParsed : InspectionParsed → TaskParsed
   ImageParsed : Parsed → TaskParsed
   WeakParsed : Parsed → TaskParsed
   ExtractParsed : Options → Bool → Bool → Bool → Text → Text → Option Text → TaskParsed
   ListingParsed : Option Owner → Option ℕ → Bool → Text → TaskParsed
-  InfoParsed : Text → TaskParsed
   CutsParsed : Options → ℕ → Page → Option Text → Text → TaskParsed
   CompressParsed : Options → Bool → Text → Text → TaskParsed
-  DiffParsed : Options → Bool → Text → Text → TaskParsed
   ApartParsed : Options → Bool → Text → Text → TaskParsed
-  DamageParsed : Options → Text → TaskParsed
   PackParsed : PackingParsed → TaskParsed
 
 abbrev pub packing_view : Packing → PackingParsed
@@ -127,27 +142,25 @@ packing_view p = record {
   output = p.output.now;
 }
 
-abbrev pub task_view : Task → TaskParsed
-task_view (task.Image r) = ImageParsed (view r)
-task_view (task.Weak r) = WeakParsed (view r)
-task_view (task.Extract x) =
+abbrev pub work_view : Work → TaskParsed
+work_view (work.Image r) = ImageParsed (view r)
+work_view (work.Weak r) = WeakParsed (view r)
+work_view (work.Extract x) =
     ExtractParsed x.options x.decompress x.owners x.quiet x.image.now x.folder.now
     (option_map (λ p. p.now) x.path)
-task_view (task.Listing l) = ListingParsed l.owner l.time l.quiet l.folder.now
-task_view (task.Info image) = InfoParsed image.now
-task_view (task.Cuts x) =
+work_view (work.Listing l) = ListingParsed l.owner l.time l.quiet l.folder.now
+work_view (work.Cuts x) =
     CutsParsed x.options x.blocks x.page (option_map (λ name. name.now) x.on) x.listing.now
-task_view (task.Compress c) = CompressParsed c.options c.force c.image.now c.output.now
-task_view (task.Diff d) = DiffParsed d.options d.times d.first.now d.second.now
-task_view (task.Apart a) = ApartParsed a.options a.force a.image.now a.output.now
-task_view (task.Damage d) = DamageParsed d.options d.image.now
-task_view (task.Pack p) = PackParsed (packing_view p)
+work_view (work.Compress c) = CompressParsed c.options c.force c.image.now c.output.now
+work_view (work.Apart a) = ApartParsed a.options a.force a.image.now a.output.now
+work_view (work.Pack p) = PackParsed (packing_view p)
+
+abbrev pub task_view : Task → TaskParsed
+task_view (task.Inspect i) = InspectParsed (inspection_view i)
+task_view (task.Work w) = work_view w
 
 abbrev pub options_of : Request → Options
 options_of (request.Scan options image) = options
-options_of (request.Check options shape image) = options
-options_of (request.List options decompress image path) = options
-options_of (request.Cat options decompress image path) = options
 options_of (request.Build target listing) = target.options
 options_of (request.Append target decompress image listing) = target.options
 options_of (request.Decompress options force image output) = options
@@ -170,10 +183,10 @@ is_given (Some text) = bytes_eq text (codes "true")
 is_given None = false
 
 -- `--shape` says nothing beside `--scan`, which mounts nothing
-abbrev pub check_in : List Row → Option Parsed
+abbrev pub check_in : List Row → Option TaskParsed
 check_in rows = image_in rows >>= λ p.
-    Some (if is_given (first_of (codes "scan") rows) then ScanParsed p.0 p.1 else CheckParsed p.0
-    (is_given (first_of (codes "shape") rows)) p.1)
+    Some (if is_given (first_of (codes "scan") rows) then ImageParsed (ScanParsed p.0 p.1)
+    else InspectParsed (CheckParsed p.0 (is_given (first_of (codes "shape") rows)) p.1))
 
 -- whether what is read is decompressed
 abbrev pub is_decompressed : List Row → Bool
@@ -183,11 +196,11 @@ is_decompressed rows = is_given (first_of (codes "decompress") rows)
 abbrev pub is_forced : List Row → Bool
 is_forced rows = is_given (first_of (codes "force") rows)
 
-abbrev pub ls_in : List Row → Option Parsed
+abbrev pub ls_in : List Row → Option InspectionParsed
 ls_in rows = image_in rows >>= λ p.
     Some (ListParsed p.0 (is_decompressed rows) p.1 (first_of (codes "PATH") rows))
 
-abbrev pub cat_in : List Row → Option Parsed
+abbrev pub cat_in : List Row → Option InspectionParsed
 cat_in rows = image_in rows >>= λ p. first_of (codes "PATH") rows >>= λ path.
     Some (CatParsed p.0 (is_decompressed rows) p.1 path)
 
@@ -233,7 +246,7 @@ listing_in rows = if_given (all_of (codes "owner") rows) owner_of >>= λ owner.
     Some (ListingParsed owner time (is_given (first_of (codes "quiet") rows)) folder)
 
 -- neither a block size nor a byte order is given
-abbrev pub info_in : List Row → Option TaskParsed
+abbrev pub info_in : List Row → Option InspectionParsed
 info_in rows = first_of (codes "IMAGE") rows >>= λ image. Some (InfoParsed image)
 
 -- the image that is gone on from may be left out
@@ -247,12 +260,12 @@ abbrev pub compress_in : List Row → Option TaskParsed
 compress_in rows = image_in rows >>= λ p. first_of (codes "OUT") rows >>= λ output.
     Some (CompressParsed p.0 (is_forced rows) p.1 output)
 
-abbrev pub diff_in : List Row → Option TaskParsed
+abbrev pub diff_in : List Row → Option InspectionParsed
 diff_in rows = options_in rows >>= λ options. first_of (codes "A") rows >>= λ first.
     first_of (codes "B") rows >>= λ second.
     Some (DiffParsed options (is_given (first_of (codes "times") rows)) first second)
 
-abbrev pub damage_in : List Row → Option TaskParsed
+abbrev pub damage_in : List Row → Option InspectionParsed
 damage_in rows = image_in rows >>= λ p. Some (DamageParsed p.0 p.1)
 
 -- the flash that is written, of which the number of blocks may be left out
@@ -285,19 +298,19 @@ pack_in rows = flash_in rows >>= λ flash. settings_in rows >>= λ settings.
 -- value can't be read
 unfoldable pub parsed : Text → List Row → Option TaskParsed
 parsed name rows =
-    if bytes_eq name (codes "check") then option_map ImageParsed (check_in rows)
-    else if bytes_eq name (codes "ls") then option_map ImageParsed (ls_in rows)
-    else if bytes_eq name (codes "cat") then option_map ImageParsed (cat_in rows)
+    if bytes_eq name (codes "check") then check_in rows
+    else if bytes_eq name (codes "ls") then option_map InspectParsed (ls_in rows)
+    else if bytes_eq name (codes "cat") then option_map InspectParsed (cat_in rows)
     else if bytes_eq name (codes "build") then option_map (noting_in rows) (build_in rows)
     else if bytes_eq name (codes "append") then option_map (noting_in rows) (append_in rows)
     else if bytes_eq name (codes "decompress") then decompress_in rows
     else if bytes_eq name (codes "extract") then extract_in rows
     else if bytes_eq name (codes "listing") then listing_in rows
-    else if bytes_eq name (codes "info") then info_in rows
+    else if bytes_eq name (codes "info") then option_map InspectParsed (info_in rows)
     else if bytes_eq name (codes "cuts") then cuts_in rows
     else if bytes_eq name (codes "compress") then compress_in rows
-    else if bytes_eq name (codes "diff") then diff_in rows
-    else if bytes_eq name (codes "damage") then damage_in rows
+    else if bytes_eq name (codes "diff") then option_map InspectParsed (diff_in rows)
+    else if bytes_eq name (codes "damage") then option_map InspectParsed (damage_in rows)
     else if bytes_eq name (codes "pack") then pack_in rows
     else None
 
@@ -307,7 +320,7 @@ parsed_by None = None
 
 -- rule: What is printed: What the words of a command line ask for.
 --   definitions: jcommand.Parsed.parsed_from, jcommand.Parsed.placing_from
---   code: jcommand::command_line::asked, jcommand::command_line::request
+--   code: jcommand::command_line::asked
 --   laws: jcommand::laws::known_requests, jcommand::laws::known_placings,
 --   jcommand::laws::known_refusals
 -- what the words ask for, by clap's matches of them
@@ -365,26 +378,3 @@ IsRefusedByClap args = (kind : ErrorKind) × (kind ≢ DisplayHelp) × (kind ≢
 -- clap has nothing against the words, but a value can't be read
 unfoldable pub IsUnreadable : List Text → Type 0
 IsUnreadable args = (fault_of program args ≡ []) × (parsed_from args ≡ None)
-
--- ---- words that make a request, or ask for something else
-
--- the words ask for something of an image
-abbrev pub IsOfImage : Option TaskParsed → Type 0
-IsOfImage (Some (ImageParsed p)) = Unit {0}
-IsOfImage _ = ⊥
-
--- they ask for notes on weak nodes, to fill or to read a folder, for what an image tells of itself,
--- for what stands after a stop, to compress one, for what two images differ in, to decompress one
--- without nodes that clash, for what damage costs, or for an image of a folder
-abbrev pub IsNoRequest : Option TaskParsed → Type 0
-IsNoRequest (Some (WeakParsed p)) = Unit {0}
-IsNoRequest (Some (ExtractParsed options decompress owners quiet image folder path)) = Unit {0}
-IsNoRequest (Some (ListingParsed owner time quiet folder)) = Unit {0}
-IsNoRequest (Some (InfoParsed image)) = Unit {0}
-IsNoRequest (Some (CutsParsed options blocks page on listing)) = Unit {0}
-IsNoRequest (Some (CompressParsed options force image output)) = Unit {0}
-IsNoRequest (Some (DiffParsed options times first second)) = Unit {0}
-IsNoRequest (Some (ApartParsed options force image output)) = Unit {0}
-IsNoRequest (Some (DamageParsed options image)) = Unit {0}
-IsNoRequest (Some (PackParsed packing)) = Unit {0}
-IsNoRequest _ = ⊥

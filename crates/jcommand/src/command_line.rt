@@ -2,14 +2,13 @@
 ghost use Rattle.std.specs.Prelude.{◌≡◌, ◌≢◌, ◌⊎◌, [], true, false, map, IfOk, IfErr, IfSome, IsSome, OnOk, Some, option_map};
 ghost use Rattle.clap.specs.Words.{HasKind, fault_of, kind_of, subcommand_of, subcommand_rows_of, takes};
 ghost use Rattle.jcommand.specs.Commands.{program};
-ghost use Rattle.jcommand.specs.Parsed.{ImageParsed, is_unplaced, placing_by, placing_from, IsNoRequest, IsOfImage, task_view, view, parsed_by, parsed_from, are_words_taken, IsFaultless, IsHelpRequested, IsHelpKind, IsRefusedByClap, IsUnreadable};
+ghost use Rattle.jcommand.specs.Parsed.{placing_by, placing_from, task_view, parsed_by, parsed_from, are_words_taken, IsFaultless, IsHelpRequested, IsHelpKind, IsRefusedByClap, IsUnreadable};
 ghost use Rattle.jcommand.specs.Refused.{IsHelp, IsUsage};
 ghost use Rattle.jcommand.specs.declared.command_line.RequestFault.TheVariants.{OutOfMemory};
 
 use crate::commands::make_program;
 use crate::parsed::{
-    Asked, Request, Task, endian, number, owner_number, page, parsed_of, placing_at, text_at,
-    texts_at,
+    Asked, endian, number, owner_number, page, parsed_of, placing_at, text_at, texts_at,
 };
 use clap::error::ErrorKind;
 use clap::{ArgMatches, Error};
@@ -185,64 +184,5 @@ pub fn asked<'a>(alloc: Global, args: &'a [&'a str]) -> Result<Asked<'a>, Reques
     match parsed_in(&matches) {
         Some(asked) => Ok(asked),
         None => Err(usage(unreadable(alloc, &matches))),
-    }
-}
-
-/// Words that ask for something, but make no request of an image.
-fn no_request(alloc: Global) -> RequestFault
-    ensures { (result ≡ RequestFault.OutOfMemory) ⊎ IsUsage result }
-{
-    usage(String::from_str(alloc, "error: the command makes no request of an image\n"))
-}
-
-/// The request that the words of a command line make of an image: what `asked` answers, but for one
-/// with `--weak`, `--pad` or `--atomic`, a command on a folder, `info`, `cuts`, `compress`, `diff`,
-/// `decompress --clashes` and `damage`, which are refused.
-pub fn request<'a>(alloc: Global, args: &'a [&'a str]) -> Result<Request<'a>, RequestFault>
-    // The subcommand and its values are clap's own function of the words.
-    ensures ok { IfOk result
-        (λ r. parsed_from (map (λ w. w.now) args.entry.now) ≡ Some (ImageParsed (view r))) }
-
-    // Nothing is asked for of the file that is written.
-    ensures plain { OnOk result
-        (is_unplaced (placing_from (map (λ w. w.now) args.entry.now)) ≡ true) }
-
-    // Words that clap refuses, or answers by help, ask for nothing.
-    ensures faultless { OnOk result (IsFaultless (map (λ w. w.now) args.entry.now)) }
-
-    // Where clap takes the words and they ask for something of an image alone, it can only run out
-    // of memory.
-    ensures only { are_words_taken (map (λ w. w.now) args.entry.now) ≡ true
-        → IsOfImage (parsed_from (map (λ w. w.now) args.entry.now))
-        → is_unplaced (placing_from (map (λ w. w.now) args.entry.now)) ≡ true
-        → IfErr result (λ e. e ≡ RequestFault.OutOfMemory) }
-
-    // Help comes only where clap answers the words by help, or by the version.
-    ensures help { IfErr result
-        (λ e. IsHelp e → IsHelpRequested (map (λ w. w.now) args.entry.now)) }
-
-    // A command line is wrong only where clap refuses the words, or takes them and a value can't be
-    // read, or they make no request, or ask for more of the file that is written.
-    ensures usage { IfErr result (λ e. IsUsage e → IsRefusedByClap (map (λ w. w.now) args.entry.now)
-        ⊎ (IsUnreadable (map (λ w. w.now) args.entry.now)
-        ⊎ (IsNoRequest (parsed_from (map (λ w. w.now) args.entry.now))
-        ⊎ (is_unplaced (placing_from (map (λ w. w.now) args.entry.now)) ≡ false)))) }
-{
-    let Asked { task, placing } = asked(alloc, args)?;
-    if !placing.is_plain() {
-        return Err(no_request(alloc));
-    }
-    match task {
-        Task::Image(request) => Ok(request),
-        Task::Weak(_)
-        | Task::Extract(_)
-        | Task::Listing(_)
-        | Task::Info { .. }
-        | Task::Cuts(_)
-        | Task::Compress(_)
-        | Task::Diff(_)
-        | Task::Apart(_)
-        | Task::Damage(_)
-        | Task::Pack(_) => Err(no_request(alloc)),
     }
 }

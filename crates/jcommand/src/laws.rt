@@ -3,7 +3,7 @@ ghost use Rattle.std.specs.Prelude.{◌≡◌, true, false, [], ◌∷◌, Some,
 ghost use Rattle.clap.specs.Words.{fault_of};
 ghost use Rattle.clap.specs.declared.error.ErrorKind.TheVariants.{DisplayHelp, DisplayVersion, MissingSubcommand, MissingRequiredArgument, UnknownArgument, WrongNumberOfValues};
 ghost use Rattle.jnode.specs.declared.order.Endian.TheVariants.{Little, Big};
-ghost use Rattle.jcommand.specs.Parsed.{ScanParsed, CheckParsed, ListParsed, CatParsed, BuildParsed, AppendParsed, DecompressParsed, ImageParsed, WeakParsed, ExtractParsed, ListingParsed, InfoParsed, CompressParsed, CutsParsed, DiffParsed, DamageParsed, ApartParsed, PackParsed, parsed_from, placing_from, endian_of, decimal_number, owner_of, page_of};
+ghost use Rattle.jcommand.specs.Parsed.{ScanParsed, CheckParsed, ListParsed, CatParsed, BuildParsed, AppendParsed, DecompressParsed, ImageParsed, InspectParsed, WeakParsed, ExtractParsed, ListingParsed, InfoParsed, CompressParsed, CutsParsed, DiffParsed, DamageParsed, ApartParsed, PackParsed, parsed_from, placing_from, endian_of, decimal_number, owner_of, page_of};
 ghost use Rattle.jscan.specs.declared.page.Page.TheVariants.{P4096, P8192, P16384};
 ghost use Rattle.jcommand.specs.Commands.{program};
 
@@ -35,26 +35,26 @@ pub fn known_requests()
     ensures given { parsed_from
         (codes "jffs2_image" ∷ codes "check" ∷ codes "--block" ∷ codes "4096" ∷ codes "--endian=big"
         ∷ codes "a" ∷ [])
-        ≡ Some (ImageParsed
+        ≡ Some (InspectParsed
         (CheckParsed (record { geometry = record { block = 4096 }; endian = Big }) false
         (codes "a"))) }
     ensures shape { parsed_from
         (codes "jffs2_image" ∷ codes "check" ∷ codes "--shape" ∷ codes "a" ∷ [])
-        ≡ Some (ImageParsed
+        ≡ Some (InspectParsed
         (CheckParsed (record { geometry = record { block = 65536 }; endian = Little }) true
         (codes "a"))) }
     ensures tree { parsed_from
         (codes "jffs2_image" ∷ codes "ls" ∷ codes "a" ∷ codes "--block=8192" ∷ [])
-        ≡ Some (ImageParsed
+        ≡ Some (InspectParsed
         (ListParsed (record { geometry = record { block = 8192 }; endian = Little }) false
         (codes "a") None)) }
     ensures decompressed_tree { parsed_from
         (codes "jffs2_image" ∷ codes "ls" ∷ codes "--decompress" ∷ codes "a" ∷ codes "/b" ∷ [])
-        ≡ Some (ImageParsed
+        ≡ Some (InspectParsed
         (ListParsed (record { geometry = record { block = 65536 }; endian = Little }) true
         (codes "a") (Some (codes "/b")))) }
     ensures content { parsed_from (codes "jffs2_image" ∷ codes "cat" ∷ codes "a" ∷ codes "/b" ∷ [])
-        ≡ Some (ImageParsed
+        ≡ Some (InspectParsed
         (CatParsed (record { geometry = record { block = 65536 }; endian = Little }) false
         (codes "a") (codes "/b"))) }
     ensures made { parsed_from (codes "jffs2_image" ∷ codes "build" ∷ codes "--blocks" ∷ codes "2"
@@ -106,7 +106,7 @@ pub fn known_requests()
         ∷ codes "0" ∷ codes "7" ∷ codes "--time=9" ∷ codes "a" ∷ [])
         ≡ Some (ListingParsed (Some (record { uid = 0; gid = 7 })) (Some 9) false (codes "a")) }
     ensures told { parsed_from (codes "jffs2_image" ∷ codes "info" ∷ codes "a" ∷ [])
-        ≡ Some (InfoParsed (codes "a")) }
+        ≡ Some (InspectParsed (InfoParsed (codes "a"))) }
     ensures cut { parsed_from (codes "jffs2_image" ∷ codes "cuts" ∷ codes "--on=b"
         ∷ codes "--blocks" ∷ codes "2" ∷ codes "a" ∷ [])
         ≡ Some (CutsParsed (record { geometry = record { block = 65536 }; endian = Little }) 2 P4096
@@ -126,17 +126,20 @@ pub fn known_requests()
         true (codes "a") (codes "a")) }
     ensures compared { parsed_from
         (codes "jffs2_image" ∷ codes "diff" ∷ codes "a" ∷ codes "--block=8192" ∷ codes "b" ∷ [])
-        ≡ Some (DiffParsed (record { geometry = record { block = 8192 }; endian = Little }) false
-        (codes "a") (codes "b")) }
+        ≡ Some (InspectParsed
+        (DiffParsed (record { geometry = record { block = 8192 }; endian = Little }) false
+        (codes "a") (codes "b"))) }
     ensures compared_with_times { parsed_from
         (codes "jffs2_image" ∷ codes "diff" ∷ codes "--times" ∷ codes "--endian=big" ∷ codes "a"
         ∷ codes "b" ∷ [])
-        ≡ Some (DiffParsed (record { geometry = record { block = 65536 }; endian = Big }) true
-        (codes "a") (codes "b")) }
+        ≡ Some (InspectParsed
+        (DiffParsed (record { geometry = record { block = 65536 }; endian = Big }) true
+        (codes "a") (codes "b"))) }
     ensures damaged { parsed_from
         (codes "jffs2_image" ∷ codes "damage" ∷ codes "--block=8192" ∷ codes "a" ∷ [])
-        ≡ Some (DamageParsed (record { geometry = record { block = 8192 }; endian = Little })
-        (codes "a")) }
+        ≡ Some (InspectParsed
+        (DamageParsed (record { geometry = record { block = 8192 }; endian = Little })
+        (codes "a"))) }
     ensures packed { parsed_from (codes "jffs2_image" ∷ codes "pack" ∷ codes "a" ∷ codes "b" ∷ [])
         ≡ Some (PackParsed (record {
           options = record { geometry = record { block = 65536 }; endian = Little };

@@ -10,8 +10,7 @@
 //! - `help`: the texts of the help.
 //! - `parsed`: what clap's matches ask for, `specs/Parsed.antt`.
 //! - `command_line`: `asked`, which takes the words to a `Task`, with what is done about the file
-//!   that it writes, or to the text that answers them, and `request`, the same of an image alone;
-//!   `specs/Refused.antt`.
+//!   that it writes, or to the text that answers them; `specs/Refused.antt`.
 //! - `outcome`: how the program ends, and its exit status; `specs/Status.antt`.
 //! - `laws`: worked command lines.
 #![tactic(auto)]
@@ -23,9 +22,9 @@ pub mod laws;
 mod outcome;
 mod parsed;
 
-pub use crate::command_line::{RequestFault, asked, request};
+pub use crate::command_line::{RequestFault, asked};
 pub use crate::outcome::{Outcome, status};
 pub use crate::parsed::{
     Asked, Comparison, Compression, Cuts, Decompression, Examination, Extraction, FolderListing,
-    Options, Owner, Packing, Placing, Request, Target, Task,
+    Inspection, Options, Owner, Packing, Placing, Request, Target, Task, Work,
 };

@@ -1,7 +1,7 @@
 //! What the matches of the program's command line ask for.
 ghost use Rattle.std.specs.Prelude.{◌≡◌, IfSome, codes, map, option_map};
 ghost use Rattle.clap.specs.Words.{found_of, rows_of, all_of, first_of};
-ghost use Rattle.jcommand.specs.Parsed.{decimal_number, endian_of, page_of, number_option, options_in, image_in, is_given, check_in, is_decompressed, ls_in, cat_in, writing_in, build_in, append_in, noting_in, decompress_in, extract_in, listing_in, info_in, compress_in, cuts_in, diff_in, damage_in, flash_in, settings_in, pack_in, placing_in, is_unplaced, is_apart, owner_number, owner_of, if_given, parsed, options_of, task_view, view};
+ghost use Rattle.jcommand.specs.Parsed.{decimal_number, endian_of, page_of, number_option, options_in, image_in, is_given, check_in, is_decompressed, ls_in, cat_in, writing_in, build_in, append_in, noting_in, decompress_in, extract_in, listing_in, info_in, compress_in, cuts_in, diff_in, damage_in, flash_in, settings_in, pack_in, placing_in, is_apart, owner_number, owner_of, if_given, parsed, inspection_view, options_of, task_view, view, work_view};
 
 use clap::ArgMatches;
 use jnode::Endian;
@@ -30,34 +30,13 @@ pub struct Target<'a> {
     pub output: &'a str,
 }
 
-/// A subcommand with its values.
+/// A request of an image: one that scans it, or that makes another one.
 #[derive(Clone, Copy)]
 pub enum Request<'a> {
     /// `check --scan`: the tiles of the image and what is found in them.
     Scan {
         options: Options,
         image: &'a str,
-    },
-    /// `check`: the same, and whether the image mounts; with `--shape`, and its tree has its shape.
-    Check {
-        options: Options,
-        shape: bool,
-        image: &'a str,
-    },
-    /// `ls`: a line for each object of the tree, or of the part of it that a path names; with
-    /// `--decompress`, of what `decompress` makes of the image.
-    List {
-        options: Options,
-        decompress: bool,
-        image: &'a str,
-        path: Option<&'a str>,
-    },
-    /// `cat`: the content of a file; with `--decompress` in the same way.
-    Cat {
-        options: Options,
-        decompress: bool,
-        image: &'a str,
-        path: &'a str,
     },
     /// `build`: an image of what the listing makes of an empty file system.
     Build {
@@ -88,11 +67,7 @@ impl Request<'_> {
         ensures { result ≡ options_of self.now }
     {
         match *self {
-            Request::Scan { options, .. }
-            | Request::Check { options, .. }
-            | Request::List { options, .. }
-            | Request::Cat { options, .. }
-            | Request::Decompress { options, .. } => options,
+            Request::Scan { options, .. } | Request::Decompress { options, .. } => options,
             Request::Build { target, .. } | Request::Append { target, .. } => target.options,
         }
     }
@@ -169,6 +144,41 @@ pub struct Examination<'a> {
     pub image: &'a str,
 }
 
+/// What is printed of images that are read whole. Nothing is made.
+#[derive(Clone, Copy)]
+pub enum Inspection<'a> {
+    /// `check`: the tiles of the image, what is found in them, and whether it mounts; with
+    /// `--shape`, and its tree has its shape.
+    Check {
+        options: Options,
+        shape: bool,
+        image: &'a str,
+    },
+    /// `ls`: a line for each object of the tree, or of the part of it that a path names; with
+    /// `--decompress`, of what `decompress` makes of the image.
+    List {
+        options: Options,
+        decompress: bool,
+        image: &'a str,
+        path: Option<&'a str>,
+    },
+    /// `cat`: the content of a file; with `--decompress` in the same way.
+    Cat {
+        options: Options,
+        decompress: bool,
+        image: &'a str,
+        path: &'a str,
+    },
+    /// `info`: what an image tells of itself, whose block size and byte order nobody says.
+    Info {
+        image: &'a str,
+    },
+    /// `diff`.
+    Diff(Comparison<'a>),
+    /// `damage`.
+    Damage(Examination<'a>),
+}
+
 /// An image of a folder of the host: of a flash of so many blocks, where they are given.
 #[derive(Clone, Copy)]
 pub struct Packing<'a> {
@@ -192,19 +202,10 @@ pub struct Placing {
     pub atomic: bool,
 }
 
-impl Placing {
-    /// Whether nothing is done about it.
-    pub fn is_plain(self) -> bool
-        ensures { result ≡ is_unplaced self }
-    {
-        !self.pad && !self.atomic
-    }
-}
-
-/// What is asked for.
+/// Any other task: it scans or makes an image, or works with a folder.
 #[derive(Clone, Copy)]
-pub enum Task<'a> {
-    /// Of an image alone.
+pub enum Work<'a> {
+    /// A request of an image.
     Image(Request<'a>),
     /// `build` and `append` with `--weak`: the same, and then notes on weak nodes.
     Weak(Request<'a>),
@@ -212,20 +213,21 @@ pub enum Task<'a> {
     Extract(Extraction<'a>),
     /// `listing`.
     Listing(FolderListing<'a>),
-    /// `info`: what an image tells of itself, whose block size and byte order nobody says.
-    Info { image: &'a str },
     /// `cuts`: what stands after a stop of writing.
     Cuts(Cuts<'a>),
     /// `compress`.
     Compress(Compression<'a>),
-    /// `diff`.
-    Diff(Comparison<'a>),
     /// `decompress --clashes higher`.
     Apart(Decompression<'a>),
-    /// `damage`.
-    Damage(Examination<'a>),
     /// `pack`.
     Pack(Packing<'a>),
+}
+
+/// What is asked for.
+#[derive(Clone, Copy)]
+pub enum Task<'a> {
+    Inspect(Inspection<'a>),
+    Work(Work<'a>),
 }
 
 /// A task, and what is done about the file that it writes.
@@ -330,18 +332,18 @@ fn is_given(found: &ArgMatches<'_>, id: &str) -> bool
     }
 }
 
-fn check_at<'a>(found: &ArgMatches<'a>) -> Option<Request<'a>>
-    ensures { option_map view result ≡ check_in (rows_of (found_of found.now)) }
+fn check_at<'a>(found: &ArgMatches<'a>) -> Option<Task<'a>>
+    ensures { option_map task_view result ≡ check_in (rows_of (found_of found.now)) }
 {
     let (options, image) = image_at(found)?;
     if is_given(found, "scan") {
-        Some(Request::Scan { options, image })
+        Some(Task::Work(Work::Image(Request::Scan { options, image })))
     } else {
-        Some(Request::Check {
+        Some(Task::Inspect(Inspection::Check {
             options,
             shape: is_given(found, "shape"),
             image,
-        })
+        }))
     }
 }
 
@@ -352,11 +354,11 @@ fn is_decompressed(found: &ArgMatches<'_>) -> bool
     is_given(found, "decompress")
 }
 
-fn ls_at<'a>(found: &ArgMatches<'a>) -> Option<Request<'a>>
-    ensures { option_map view result ≡ ls_in (rows_of (found_of found.now)) }
+fn ls_at<'a>(found: &ArgMatches<'a>) -> Option<Inspection<'a>>
+    ensures { option_map inspection_view result ≡ ls_in (rows_of (found_of found.now)) }
 {
     let (options, image) = image_at(found)?;
-    Some(Request::List {
+    Some(Inspection::List {
         options,
         decompress: is_decompressed(found),
         image,
@@ -364,12 +366,12 @@ fn ls_at<'a>(found: &ArgMatches<'a>) -> Option<Request<'a>>
     })
 }
 
-fn cat_at<'a>(found: &ArgMatches<'a>) -> Option<Request<'a>>
-    ensures { option_map view result ≡ cat_in (rows_of (found_of found.now)) }
+fn cat_at<'a>(found: &ArgMatches<'a>) -> Option<Inspection<'a>>
+    ensures { option_map inspection_view result ≡ cat_in (rows_of (found_of found.now)) }
 {
     let (options, image) = image_at(found)?;
     let path = text_at(found, "PATH")?;
-    Some(Request::Cat {
+    Some(Inspection::Cat {
         options,
         decompress: is_decompressed(found),
         image,
@@ -418,13 +420,13 @@ fn append_at<'a>(found: &ArgMatches<'a>) -> Option<Request<'a>>
 }
 
 /// What writes an image, with the notes on weak nodes where they are asked for.
-fn noting<'a>(found: &ArgMatches<'a>, request: Request<'a>) -> Task<'a>
-    ensures { task_view result ≡ noting_in (rows_of (found_of found.now)) (view request.entry) }
+fn noting<'a>(found: &ArgMatches<'a>, request: Request<'a>) -> Work<'a>
+    ensures { work_view result ≡ noting_in (rows_of (found_of found.now)) (view request.entry) }
 {
     if is_given(found, "weak") {
-        Task::Weak(request)
+        Work::Weak(request)
     } else {
-        Task::Image(request)
+        Work::Image(request)
     }
 }
 
@@ -439,20 +441,20 @@ pub(crate) fn apart(rule: Option<&str>) -> Option<bool>
     }
 }
 
-fn decompress_at<'a>(found: &ArgMatches<'a>) -> Option<Task<'a>>
-    ensures { option_map task_view result ≡ decompress_in (rows_of (found_of found.now)) }
+fn decompress_at<'a>(found: &ArgMatches<'a>) -> Option<Work<'a>>
+    ensures { option_map work_view result ≡ decompress_in (rows_of (found_of found.now)) }
 {
     let (options, image) = image_at(found)?;
     let output = text_at(found, "OUT")?;
     let force = is_given(found, "force");
     match apart(text_at(found, "clashes"))? {
-        true => Some(Task::Apart(Decompression {
+        true => Some(Work::Apart(Decompression {
             options,
             force,
             image,
             output,
         })),
-        false => Some(Task::Image(Request::Decompress {
+        false => Some(Work::Image(Request::Decompress {
             options,
             force,
             image,
@@ -461,12 +463,12 @@ fn decompress_at<'a>(found: &ArgMatches<'a>) -> Option<Task<'a>>
     }
 }
 
-fn extract_at<'a>(found: &ArgMatches<'a>) -> Option<Task<'a>>
-    ensures { option_map task_view result ≡ extract_in (rows_of (found_of found.now)) }
+fn extract_at<'a>(found: &ArgMatches<'a>) -> Option<Work<'a>>
+    ensures { option_map work_view result ≡ extract_in (rows_of (found_of found.now)) }
 {
     let (options, image) = image_at(found)?;
     let folder = text_at(found, "DIR")?;
-    Some(Task::Extract(Extraction {
+    Some(Work::Extract(Extraction {
         options,
         decompress: is_decompressed(found),
         owners: is_given(found, "owners"),
@@ -526,13 +528,13 @@ fn time_at(found: &ArgMatches<'_>) -> Option<Option<u32>>
     number_if_given(found, "time")
 }
 
-fn listing_at<'a>(found: &ArgMatches<'a>) -> Option<Task<'a>>
-    ensures { option_map task_view result ≡ listing_in (rows_of (found_of found.now)) }
+fn listing_at<'a>(found: &ArgMatches<'a>) -> Option<Work<'a>>
+    ensures { option_map work_view result ≡ listing_in (rows_of (found_of found.now)) }
 {
     let owner = owner_at(found)?;
     let time = time_at(found)?;
     let folder = text_at(found, "DIR")?;
-    Some(Task::Listing(FolderListing {
+    Some(Work::Listing(FolderListing {
         owner,
         time,
         quiet: is_given(found, "quiet"),
@@ -540,20 +542,20 @@ fn listing_at<'a>(found: &ArgMatches<'a>) -> Option<Task<'a>>
     }))
 }
 
-fn info_at<'a>(found: &ArgMatches<'a>) -> Option<Task<'a>>
-    ensures { option_map task_view result ≡ info_in (rows_of (found_of found.now)) }
+fn info_at<'a>(found: &ArgMatches<'a>) -> Option<Inspection<'a>>
+    ensures { option_map inspection_view result ≡ info_in (rows_of (found_of found.now)) }
 {
     let image = text_at(found, "IMAGE")?;
-    Some(Task::Info { image })
+    Some(Inspection::Info { image })
 }
 
-fn cuts_at<'a>(found: &ArgMatches<'a>) -> Option<Task<'a>>
-    ensures { option_map task_view result ≡ cuts_in (rows_of (found_of found.now)) }
+fn cuts_at<'a>(found: &ArgMatches<'a>) -> Option<Work<'a>>
+    ensures { option_map work_view result ≡ cuts_in (rows_of (found_of found.now)) }
 {
     let options = options_at(found)?;
     let blocks = number_at(found, "blocks")?;
     let page = page(text_at(found, "page")?)?;
-    Some(Task::Cuts(Cuts {
+    Some(Work::Cuts(Cuts {
         options,
         blocks,
         page,
@@ -562,12 +564,12 @@ fn cuts_at<'a>(found: &ArgMatches<'a>) -> Option<Task<'a>>
     }))
 }
 
-fn compress_at<'a>(found: &ArgMatches<'a>) -> Option<Task<'a>>
-    ensures { option_map task_view result ≡ compress_in (rows_of (found_of found.now)) }
+fn compress_at<'a>(found: &ArgMatches<'a>) -> Option<Work<'a>>
+    ensures { option_map work_view result ≡ compress_in (rows_of (found_of found.now)) }
 {
     let (options, image) = image_at(found)?;
     match text_at(found, "OUT") {
-        Some(output) => Some(Task::Compress(Compression {
+        Some(output) => Some(Work::Compress(Compression {
             options,
             force: is_given(found, "force"),
             image,
@@ -577,13 +579,13 @@ fn compress_at<'a>(found: &ArgMatches<'a>) -> Option<Task<'a>>
     }
 }
 
-fn diff_at<'a>(found: &ArgMatches<'a>) -> Option<Task<'a>>
-    ensures { option_map task_view result ≡ diff_in (rows_of (found_of found.now)) }
+fn diff_at<'a>(found: &ArgMatches<'a>) -> Option<Inspection<'a>>
+    ensures { option_map inspection_view result ≡ diff_in (rows_of (found_of found.now)) }
 {
     let options = options_at(found)?;
     let first = text_at(found, "A")?;
     let second = text_at(found, "B")?;
-    Some(Task::Diff(Comparison {
+    Some(Inspection::Diff(Comparison {
         options,
         times: is_given(found, "times"),
         first,
@@ -591,11 +593,11 @@ fn diff_at<'a>(found: &ArgMatches<'a>) -> Option<Task<'a>>
     }))
 }
 
-fn damage_at<'a>(found: &ArgMatches<'a>) -> Option<Task<'a>>
-    ensures { option_map task_view result ≡ damage_in (rows_of (found_of found.now)) }
+fn damage_at<'a>(found: &ArgMatches<'a>) -> Option<Inspection<'a>>
+    ensures { option_map inspection_view result ≡ damage_in (rows_of (found_of found.now)) }
 {
     let (options, image) = image_at(found)?;
-    Some(Task::Damage(Examination { options, image }))
+    Some(Inspection::Damage(Examination { options, image }))
 }
 
 /// The flash that is written, of which the number of blocks may be left out.
@@ -617,14 +619,14 @@ fn settings_at(found: &ArgMatches<'_>) -> Option<(Option<Owner>, Option<u32>)>
     Some((owner, time))
 }
 
-fn pack_at<'a>(found: &ArgMatches<'a>) -> Option<Task<'a>>
-    ensures { option_map task_view result ≡ pack_in (rows_of (found_of found.now)) }
+fn pack_at<'a>(found: &ArgMatches<'a>) -> Option<Work<'a>>
+    ensures { option_map work_view result ≡ pack_in (rows_of (found_of found.now)) }
 {
     let (options, blocks, page) = flash_at(found)?;
     let (owner, time) = settings_at(found)?;
     let folder = text_at(found, "DIR")?;
     let output = text_at(found, "OUT")?;
-    Some(Task::Pack(Packing {
+    Some(Work::Pack(Packing {
         options,
         blocks,
         page,
@@ -653,20 +655,20 @@ pub(crate) fn parsed_of<'a>(name: &str, found: &ArgMatches<'a>) -> Option<Task<'
     ensures { option_map task_view result ≡ parsed name.now (rows_of (found_of found.now)) }
 {
     match name {
-        "check" => Some(Task::Image(check_at(found)?)),
-        "ls" => Some(Task::Image(ls_at(found)?)),
-        "cat" => Some(Task::Image(cat_at(found)?)),
-        "build" => Some(noting(found, build_at(found)?)),
-        "append" => Some(noting(found, append_at(found)?)),
-        "decompress" => decompress_at(found),
-        "extract" => extract_at(found),
-        "listing" => listing_at(found),
-        "info" => info_at(found),
-        "cuts" => cuts_at(found),
-        "compress" => compress_at(found),
-        "diff" => diff_at(found),
-        "damage" => damage_at(found),
-        "pack" => pack_at(found),
+        "check" => check_at(found),
+        "ls" => Some(Task::Inspect(ls_at(found)?)),
+        "cat" => Some(Task::Inspect(cat_at(found)?)),
+        "build" => Some(Task::Work(noting(found, build_at(found)?))),
+        "append" => Some(Task::Work(noting(found, append_at(found)?))),
+        "decompress" => Some(Task::Work(decompress_at(found)?)),
+        "extract" => Some(Task::Work(extract_at(found)?)),
+        "listing" => Some(Task::Work(listing_at(found)?)),
+        "info" => Some(Task::Inspect(info_at(found)?)),
+        "cuts" => Some(Task::Work(cuts_at(found)?)),
+        "compress" => Some(Task::Work(compress_at(found)?)),
+        "diff" => Some(Task::Inspect(diff_at(found)?)),
+        "damage" => Some(Task::Inspect(damage_at(found)?)),
+        "pack" => Some(Task::Work(pack_at(found)?)),
         _ => None,
     }
 }

@@ -12,94 +12,100 @@ use Rattle.jedge.specs.Laws.{LooksOnly, MakesNothing, ReadsOnly}
 use Rattle.jedge.specs.declared.fault.Fault.{Fault}
 use Rattle.jedge.specs.declared.fault.Fault.TheVariants as fault
 
-same : {events other : List Event} → events ≡ other → LooksOnly other → LooksOnly events
+pub same : {events other : List Event} → events ≡ other → LooksOnly other → LooksOnly events
 same is looks = subst (λ (l : List Event). LooksOnly l) (sym is) looks
 
-both : (xs ys : List Event) → LooksOnly xs → LooksOnly ys → LooksOnly (xs ++ ys)
+pub both : (xs ys : List Event) → LooksOnly xs → LooksOnly ys → LooksOnly (xs ++ ys)
 both [] ys those more = more
 both (x ∷ xs) ys those more = (those.0, both xs ys those.1 more)
 
-opens_looks : (name : List ℕ) → MakesNothing (opens name)
+pub opens_looks : (name : List ℕ) → MakesNothing (opens name)
 opens_looks name events (Ok opened) is = same is.1 (tt, tt)
 opens_looks name events (Err (fault.File file)) is = same is.1 (tt, tt)
 opens_looks name events (Err (fault.NotRead file)) is = absurd is
 opens_looks name events (Err (fault.NoNodes of others)) is = absurd is
+opens_looks name events (Err (fault.NoSpace folder)) is = absurd is
+opens_looks name events (Err (fault.Findings of findings)) is = absurd is
 opens_looks name events (Err (fault.Refused why)) is = absurd is
 opens_looks name events (Err fault.Output) is = absurd is
 opens_looks name events (Err fault.OutOfMemory) is = same is tt
 
-reads_looks : (name : List ℕ) → MakesNothing (reads_whole name)
+pub reads_looks : (name : List ℕ) → MakesNothing (reads_whole name)
 reads_looks name events (Ok bytes) is = same is.0 (tt, tt)
 reads_looks name events (Err (fault.File file)) is = absurd is
 reads_looks name events (Err (fault.NotRead file)) is = same is.1.1 (tt, tt)
 reads_looks name events (Err (fault.NoNodes of others)) is = absurd is
+reads_looks name events (Err (fault.NoSpace folder)) is = absurd is
+reads_looks name events (Err (fault.Findings of findings)) is = absurd is
 reads_looks name events (Err (fault.Refused why)) is = same is.1 (tt, tt)
 reads_looks name events (Err fault.Output) is = absurd is
 reads_looks name events (Err fault.OutOfMemory) is = absurd is
 
-then_looks : {A B : Type 0} (first : Act A) (next : A → Act B) → MakesNothing first → ((a : A) → MakesNothing (next a)) → MakesNothing (Then first next)
+pub then_looks : {A B : Type 0} (first : Act A) (next : A → Act B) → MakesNothing first → ((a : A) → MakesNothing (next a)) → MakesNothing (Then first next)
 then_looks first next one two events r (Ends f did is) = one events (Err f) did
 then_looks first next one two events r (GoesOn a before after did more is) = same is (both before after (one before (Ok a) did) (two a after r more))
 
-printed_looks : (stream : Stream) (text : List ℕ) → LooksOnly (printed stream text)
+pub printed_looks : (stream : Stream) (text : List ℕ) → LooksOnly (printed stream text)
 printed_looks stream [] = tt
 printed_looks stream (b ∷ bytes) = (tt, tt)
 
-cut_looks : (stream : Stream) (text : List ℕ) (events : List Event) → IsPrintedInPart stream text events → LooksOnly events
+pub cut_looks : (stream : Stream) (text : List ℕ) (events : List Event) → IsPrintedInPart stream text events → LooksOnly events
 cut_looks stream text events cut = same cut.happened (both (printed stream cut.begun) (Failed (Print stream cut.rest) cut.reason ∷ []) (printed_looks stream cut.begun) (tt, tt))
 
-closes_looks : (stream : Stream) (failures : ℕ) (text : List ℕ) → MakesNothing (closes stream failures text)
+pub closes_looks : (stream : Stream) (failures : ℕ) (text : List ℕ) → MakesNothing (closes stream failures text)
 closes_looks stream failures text events (Ok _) is = same is.1 (printed_looks stream text)
 closes_looks stream failures text events (Err (fault.File file)) is = absurd is
 closes_looks stream failures text events (Err (fault.NotRead file)) is = absurd is
 closes_looks stream failures text events (Err (fault.NoNodes of others)) is = absurd is
+closes_looks stream failures text events (Err (fault.NoSpace folder)) is = absurd is
+closes_looks stream failures text events (Err (fault.Findings of findings)) is = absurd is
 closes_looks stream failures text events (Err (fault.Refused why)) is = absurd is
 closes_looks stream failures text events (Err fault.Output) is = cut_looks stream text events is
 closes_looks stream failures text events (Err fault.OutOfMemory) is = absurd is
 
-prints_looks : {A : Type 0} (Says : Saying A) → MakesNothing (prints Says)
+pub prints_looks : {A : Type 0} (Says : Saying A) → MakesNothing (prints Says)
 prints_looks Says events r (inl put) = closes_looks Answers put.failures put.text events put.closed put.out
 prints_looks Says events r (inr none) = same none.0 tt
 
-answers_looks : {A : Type 0} (Is : Result A Fault → Type 0) → MakesNothing (answers Is)
+pub answers_looks : {A : Type 0} (Is : Result A Fault → Type 0) → MakesNothing (answers Is)
 answers_looks Is events r is = same is.0 tt
 
-said_looks : (text : Option (List ℕ)) (events : List Event) → IsSaidBy text events → LooksOnly events
+pub said_looks : (text : Option (List ℕ)) (events : List Event) → IsSaidBy text events → LooksOnly events
 said_looks None events is = same is tt
 said_looks (Some text) events (inl is) = same is (printed_looks Errors text)
 said_looks (Some text) events (inr cut) = cut_looks Errors text events cut
 
-reported_looks : (act : Act Told) → MakesNothing act → MakesNothing (reported act)
+pub reported_looks : (act : Act Told) → MakesNothing act → MakesNothing (reported act)
 reported_looks act looks events r did = same did.all (both did.work did.last (looks did.work did.answer did.worked) (said_looks did.ended.text did.last did.ended.said))
 
-loads_looks : (name : List ℕ) → MakesNothing (loads name)
+pub loads_looks : (name : List ℕ) → MakesNothing (loads name)
 loads_looks name = then_looks (opens name) reads_whole (opens_looks name) reads_looks
 
-views_looks : (e : Endian) (size : ℕ) (decompress : Bool) (name : List ℕ) → MakesNothing (views e size decompress name)
+pub views_looks : (e : Endian) (size : ℕ) (decompress : Bool) (name : List ℕ) → MakesNothing (views e size decompress name)
 views_looks e size decompress name = then_looks (loads name) _ (loads_looks name) (λ (image : List ℕ). answers_looks _)
 
-check_looks : (options : Options) (shape : Bool) (name : List ℕ) → MakesNothing (check_act options shape name)
+pub check_looks : (options : Options) (shape : Bool) (name : List ℕ) → MakesNothing (check_act options shape name)
 check_looks options shape name = then_looks (opens name) _ (opens_looks name) (λ (opened : List ℕ). then_looks _ _ (answers_looks _)
     (λ _. then_looks (reads_whole opened) _ (reads_looks opened) (λ (image : List ℕ). prints_looks _)))
 
-list_looks : (options : Options) (decompress : Bool) (name : List ℕ) (word : Option (List ℕ)) → MakesNothing (list_act options decompress name word)
+pub list_looks : (options : Options) (decompress : Bool) (name : List ℕ) (word : Option (List ℕ)) → MakesNothing (list_act options decompress name word)
 list_looks options decompress name word = then_looks _ _ (answers_looks _) (λ (part : Option (List ℕ)).
     then_looks _ _ (views_looks options.endian options.geometry.block decompress name) (λ (view : Viewed).
     then_looks _ _ (answers_looks _) (λ (m : Mount). prints_looks _)))
 
-cat_looks : (options : Options) (decompress : Bool) (name word : List ℕ) → MakesNothing (cat_act options decompress name word)
+pub cat_looks : (options : Options) (decompress : Bool) (name word : List ℕ) → MakesNothing (cat_act options decompress name word)
 cat_looks options decompress name word = then_looks _ _ (answers_looks _) (λ (path : List ℕ).
     then_looks _ _ (views_looks options.endian options.geometry.block decompress name) (λ (view : Viewed).
     then_looks _ _ (answers_looks _) (λ (m : Mount). prints_looks _)))
 
-info_looks : (name : List ℕ) → MakesNothing (info_act name)
+pub info_looks : (name : List ℕ) → MakesNothing (info_act name)
 info_looks name = then_looks (loads name) _ (loads_looks name) (λ (image : List ℕ). prints_looks _)
 
-damage_looks : (options : Options) (name : List ℕ) → MakesNothing (damage_act options name)
+pub damage_looks : (options : Options) (name : List ℕ) → MakesNothing (damage_act options name)
 damage_looks options name = then_looks (loads name) _ (loads_looks name)
     (λ (image : List ℕ). then_looks _ _ (answers_looks _) (λ _. then_looks _ _ (answers_looks _) (λ _. prints_looks _)))
 
-diff_looks : (options : Options) (times : Bool) (first second : List ℕ) → MakesNothing (diff_act options times first second)
+pub diff_looks : (options : Options) (times : Bool) (first second : List ℕ) → MakesNothing (diff_act options times first second)
 diff_looks options times first second = then_looks (loads first) _ (loads_looks first) (λ (image : List ℕ).
     then_looks (loads second) _ (loads_looks second) (λ (other : List ℕ).
     then_looks _ _ (answers_looks _) (λ _. then_looks _ _ (answers_looks _) (λ _.

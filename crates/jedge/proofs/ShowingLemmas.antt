@@ -23,7 +23,7 @@ use Rattle.jedge.proofs.CostLemmas.{none_put}
 
 -- ---- `check`
 
-check_begun : (e : Endian) (size : ℕ) (shape : Bool) (image : List ℕ) (s : SinkChange)
+pub check_begun : (e : Endian) (size : ℕ) (shape : Bool) (image : List ℕ) (s : SinkChange)
     → PutsPartOfCheck e size image shape s.old s.new → s.now ≡ next_count s.before → PutsBy (Checks e size shape image) s (Err fault.Output)
 check_begun e size shape image s (inl is) counts = record {
   text = take is.0 (scan_text e size image);
@@ -69,7 +69,7 @@ checks_put e size shape image s (Err why) sized is = absurd is
 -- ---- `ls`
 
 -- what is put from an object on
-from_put : (st : State) (part : Option (List ℕ)) (told : Told) (item : Item) (s : SinkChange) (put : Result Unit ProgramFault)
+pub from_put : (st : State) (part : Option (List ℕ)) (told : Told) (item : Item) (s : SinkChange) (put : Result Unit ProgramFault)
     → ((text : List ℕ) → IsTextFrom st item text → IsListed st part text)
     → PutsFrom {T = Unit} st item s put → PutsBy (Lists st part told) s (put_found told put)
 from_put st part told item s (Ok _) listed is = record {
@@ -92,7 +92,7 @@ from_put st part told item s (Err program.OutOfMemory) listed is = record {
 }
 from_put st part told item s (Err why) listed is = absurd is
 
-part_put : (st : State) (path : List ℕ) (told : Told) (s : SinkChange) (put : Result Unit ProgramFault)
+pub part_put : (st : State) (path : List ℕ) (told : Told) (s : SinkChange) (put : Result Unit ProgramFault)
     → PutsPartAt {T = Unit} st path s put → PutsBy (Lists st (Some path) told) s (put_found told put)
 part_put st path told s (Err (program.Path reason)) is = record {
   text = [];

@@ -23,7 +23,7 @@ pub then_err : {A B : Type 0} {old new : History} {first : Act A} {next : A → 
     → DoesFrom old new first (Err f) → DoesFrom old new (Then first next) (Err f)
 then_err {f} done = record { events = done.events; acts = Ends f done.acts refl; told = done.told }
 
-joined : (old : History) (one two : List Event) → option_map (λ told. told ++ two) (option_map (λ told. told ++ one) old) ≡ option_map (λ told. told ++ (one ++ two)) old
+pub joined : (old : History) (one two : List Event) → option_map (λ told. told ++ two) (option_map (λ told. told ++ one) old) ≡ option_map (λ told. told ++ (one ++ two)) old
 joined None one two = refl
 joined (Some told) one two = ap (λ (l : List Event). Some l) (append_assoc told one two)
 
@@ -36,7 +36,7 @@ then_ok {old} {x} done more = record {
   told = more.told ∙ ap (option_map (λ told. told ++ more.events)) done.told ∙ joined old done.events more.events;
 }
 
-none_more : (old : History) → old ≡ option_map (λ told. told ++ []) old
+pub none_more : (old : History) → old ≡ option_map (λ told. told ++ []) old
 none_more None = refl
 none_more (Some told) = ap (λ (l : List Event). Some l) (sym (append-nil told))
 
@@ -52,7 +52,7 @@ answered is = nothing_done refl (refl, is)
 pub not_printed : {A : Type 0} {old new : History} {Says : Saying A} {f : Fault} → new ≡ old → f ≡ fault.OutOfMemory → DoesFrom old new (prints Says) (Err f)
 not_printed {A} same is = nothing_done same (inr (refl, ap (λ (g : Fault). Err g) is))
 
-all_told : (h : History) (old new : Option (List ℕ)) (text : List ℕ) → IfSome h (λ _. old ≡ Some []) → Appends old new text → IfSome h (λ _. new ≡ Some text)
+pub all_told : (h : History) (old new : Option (List ℕ)) (text : List ℕ) → IfSome h (λ _. old ≡ Some []) → Appends old new text → IfSome h (λ _. new ≡ Some text)
 all_told None old new text fresh puts = tt
 all_told (Some told) None new text fresh puts = cc
 all_told (Some told) (Some taken) None text fresh puts = absurd puts
@@ -93,7 +93,7 @@ pub mapped : {A B : Type 0} {old new : History} {act : Act A} {other : Act B} {r
 mapped to done = record { events = done.events; acts = to done.events done.acts; told = done.told }
 
 -- a beginning of a beginning is printed
-cut_again : (text begun left : List ℕ) (events : List Event) → text ≡ begun ++ left → IsPrintedInPart Errors begun events → IsPrintedInPart Errors text events
+pub cut_again : (text begun left : List ℕ) (events : List Event) → text ≡ begun ++ left → IsPrintedInPart Errors begun events → IsPrintedInPart Errors text events
 cut_again text begun left events is cut = record {
   begun = cut.begun;
   left = cut.left ++ left;
@@ -103,10 +103,10 @@ cut_again text begun left events is cut = record {
   happened = cut.happened;
 }
 
-one_is_none : {n : ℕ} → next_count n ≡ 0 → n ≡ 0 → ⊥
+pub one_is_none : {n : ℕ} → next_count n ≡ 0 → n ≡ 0 → ⊥
 one_is_none is none = let no : 1 ≡ 0 = sym (ap next_count none) ∙ is in omega (arith, no)
 
-all_said : {h new : History} (old taken : Option (List ℕ)) (before now : ℕ) (text : List ℕ) {x : Unit}
+pub all_said : {h new : History} (old taken : Option (List ℕ)) (before now : ℕ) (text : List ℕ) {x : Unit}
     → before ≡ 0 → IfSome h (λ _. old ≡ Some []) → (r : Result Unit DeviceFault) → Puts old taken before now text r
     → ((t : List ℕ) → IfSome h (λ _. taken ≡ Some t) → DoesFrom h new (closes_errors now t) (Ok x))
     → DoesFrom h new (says (Some text)) (Ok x)

@@ -1,6 +1,8 @@
 -- Why a command ends early, and what standard error is told of it.
 use Rattle.std.specs.Prelude.{◌≡◌, ℕ, List, Option, option_map, string_bytes}
+use denote.Ref.{Bor}
 use Rattle.jreport.specs.Advice.{fault_lines_of}
+use Rattle.jreport.specs.FoundIn.{TellsFindings}
 use Rattle.jreport.specs.declared.faults.ProgramFault.{ProgramFault}
 use Rattle.jreport.specs.declared.faults.ProgramFault.TheVariants as program
 use Rattle.jreport.specs.declared.image_fault.ImageFault.{ImageFault}
@@ -27,6 +29,10 @@ IsToldAs (fault.NotRead file) told =
     (of : Unopened) × (told ≡ program.NotRead of) × IsThisFile file of
 IsToldAs (fault.NoNodes name others) told = (why : ImageFault) × (told ≡ program.Image why)
     × IsNoNodesTold (option_map string_bytes name) others why
+IsToldAs (fault.NoSpace folder) told =
+    (name : Bor (List ℕ)) × (told ≡ program.NoSpace name) × (name.now ≡ string_bytes folder)
+IsToldAs (fault.Findings name findings) told =
+    (why : ImageFault) × (told ≡ program.Image why) × TellsFindings (string_bytes name) findings why
 IsToldAs (fault.Refused why) told = told ≡ why
 IsToldAs fault.Output told = told ≡ program.Output
 IsToldAs fault.OutOfMemory told = told ≡ program.OutOfMemory

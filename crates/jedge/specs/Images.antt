@@ -14,6 +14,8 @@ IsNoNodesOf name count (fault.File file) = ⊥
 IsNoNodesOf name count (fault.NotRead file) = ⊥
 IsNoNodesOf name count (fault.NoNodes told others) =
     (option_map string_bytes told ≡ name) × (others ≡ count)
+IsNoNodesOf name count (fault.NoSpace folder) = ⊥
+IsNoNodesOf name count (fault.Findings told findings) = ⊥
 IsNoNodesOf name count (fault.Refused why) = ⊥
 IsNoNodesOf name count fault.Output = ⊥
 IsNoNodesOf name count fault.OutOfMemory = IsSome name
@@ -26,6 +28,8 @@ HasNodes e size name image (Err (fault.File file)) = ⊥
 HasNodes e size name image (Err (fault.NotRead file)) = ⊥
 HasNodes e size name image (Err (fault.NoNodes told others)) = HasNoNode e size image
     × (option_map string_bytes told ≡ name) × (others ≡ node_count (other_order e) size image)
+HasNodes e size name image (Err (fault.NoSpace folder)) = ⊥
+HasNodes e size name image (Err (fault.Findings told findings)) = ⊥
 HasNodes e size name image (Err (fault.Refused why)) = ⊥
 HasNodes e size name image (Err fault.Output) = ⊥
 HasNodes e size name image (Err fault.OutOfMemory) = HasNoNode e size image × IsSome name
@@ -36,6 +40,8 @@ MountsOrRefuses e size image (Ok mount) = Answers e size image (Ok mount)
 MountsOrRefuses e size image (Err (fault.File file)) = ⊥
 MountsOrRefuses e size image (Err (fault.NotRead file)) = ⊥
 MountsOrRefuses e size image (Err (fault.NoNodes told others)) = ⊥
+MountsOrRefuses e size image (Err (fault.NoSpace folder)) = ⊥
+MountsOrRefuses e size image (Err (fault.Findings told findings)) = ⊥
 MountsOrRefuses e size image (Err (fault.Refused why)) = IsRefusalTold e size image why
 MountsOrRefuses e size image (Err fault.Output) = ⊥
 MountsOrRefuses e size image (Err fault.OutOfMemory) = ⊥

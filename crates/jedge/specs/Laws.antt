@@ -2,12 +2,13 @@
 use Rattle.std.specs.Prelude.{◌≡◌, ◌⊎◌, ℕ, List, [], ◌∷◌, Result, Err, string_bytes}
 use Rattle.jlog.specs.declared.fault.SessionFault.TheVariants as session
 use Rattle.flashbase.specs.declared.source.LoadFault.TheVariants as load
+use Rattle.jextract.specs.Folders.{Made}
 use Rattle.jmount.specs.declared.fault.MountFault.TheVariants as mount
 use Rattle.jreport.specs.declared.faults.ProgramFault.{ProgramFault}
 use Rattle.jreport.specs.declared.faults.ProgramFault.TheVariants as program
 use Rattle.jreport.specs.declared.reason.Reason.{Reason}
 use Rattle.jedge.specs.Acts.{Act}
-use Rattle.jedge.specs.Calls.{Call, Event, Did, Failed, Answers, Errors, Open, Read, ReadPart, Print, Create, Write, Sync, SyncFolder, Rename, Remove, Close}
+use Rattle.jedge.specs.Calls.{Call, Event, Did, Failed, Answers, Errors, Open, Read, ReadPart, Find, Compare, Print, Create, OpenToWrite, Write, Sync, SyncFolder, Rename, Remove, Close, FillFolder, Fill, ReadFolder, LookThrough, Keep, Measure}
 use Rattle.jedge.specs.Commands.{Command, Cat, Check, Damage, Diff, Info, Ls, act_of, reported}
 use Rattle.jedge.specs.declared.fault.Fault.{Fault}
 use Rattle.jedge.specs.declared.fault.Fault.TheVariants as fault
@@ -16,17 +17,26 @@ use Rattle.jedge.specs.declared.fault.Fault.TheVariants as fault
 
 -- a call that makes nothing, and changes no file
 abbrev pub IsLooking : Call → Type 0
+IsLooking (Measure name n) = Unit {0}
 IsLooking (Open name) = Unit {0}
 IsLooking (Read name bytes) = Unit {0}
 IsLooking (ReadPart name bytes) = Unit {0}
+IsLooking (Find name meaning) = Unit {0}
+IsLooking (Compare name other same) = Unit {0}
 IsLooking (Print stream text) = Unit {0}
 IsLooking (Create name how) = ⊥
+IsLooking (OpenToWrite name) = ⊥
 IsLooking (Write name bytes) = ⊥
 IsLooking (Sync name) = ⊥
 IsLooking (SyncFolder name) = ⊥
 IsLooking (Rename name other) = ⊥
 IsLooking (Remove name) = ⊥
 IsLooking (Close name) = ⊥
+IsLooking (FillFolder name quiet) = ⊥
+IsLooking (Fill name made) = ⊥
+IsLooking (ReadFolder name quiet known) = Unit {0}
+IsLooking (LookThrough name) = Unit {0}
+IsLooking (Keep name files) = Unit {0}
 
 abbrev pub Looks : Event → Type 0
 Looks (Did call) = IsLooking call
@@ -62,7 +72,7 @@ IsOfBytes (program.Mount why) = Unit {0}
 IsOfBytes (program.Clash addr other) = Unit {0}
 IsOfBytes (program.File file) = ⊥
 IsOfBytes (program.NotRead file) = ⊥
-IsOfBytes (program.Listing line) = ⊥
+IsOfBytes (program.Listing line) = Unit {0}
 IsOfBytes (program.Session (session.Refused why) line cause) = Unit {0}
 IsOfBytes (program.Session (session.Full needed free) line cause) = Unit {0}
 IsOfBytes (program.Session session.ReadOnly line cause) = Unit {0}
@@ -87,6 +97,9 @@ BlamesEvent (fault.File file) events =
 BlamesEvent (fault.NotRead file) events = (bytes : List ℕ)
     × Happened (Failed (ReadPart (string_bytes file.name) bytes) file.reason) events
 BlamesEvent (fault.NoNodes name others) events = Unit {0}
+BlamesEvent (fault.NoSpace folder) events = (what : Made) × (reason : Reason)
+    × Happened (Failed (Fill (string_bytes folder) what) reason) events
+BlamesEvent (fault.Findings name findings) events = Unit {0}
 BlamesEvent (fault.Refused why) events = IsOfBytes why
 BlamesEvent fault.Output events =
     (rest : List ℕ) × (reason : Reason) × Happened (Failed (Print Answers rest) reason) events
@@ -102,18 +115,27 @@ BlamedIsFailed = (command : Command) → BlamesFailed (act_of command)
 
 -- standard output gets nothing by this call
 abbrev pub IsUnprinted : Call → Type 0
+IsUnprinted (Measure name n) = Unit {0}
 IsUnprinted (Open name) = Unit {0}
 IsUnprinted (Read name bytes) = Unit {0}
 IsUnprinted (ReadPart name bytes) = Unit {0}
+IsUnprinted (Find name meaning) = Unit {0}
+IsUnprinted (Compare name other same) = Unit {0}
 IsUnprinted (Print Answers text) = ⊥
 IsUnprinted (Print Errors text) = Unit {0}
 IsUnprinted (Create name how) = Unit {0}
+IsUnprinted (OpenToWrite name) = Unit {0}
 IsUnprinted (Write name bytes) = Unit {0}
 IsUnprinted (Sync name) = Unit {0}
 IsUnprinted (SyncFolder name) = Unit {0}
 IsUnprinted (Rename name other) = Unit {0}
 IsUnprinted (Remove name) = Unit {0}
 IsUnprinted (Close name) = Unit {0}
+IsUnprinted (FillFolder name quiet) = Unit {0}
+IsUnprinted (Fill name made) = Unit {0}
+IsUnprinted (ReadFolder name quiet known) = Unit {0}
+IsUnprinted (LookThrough name) = Unit {0}
+IsUnprinted (Keep name files) = Unit {0}
 
 -- nor by any of these; a print that failed gave it nothing
 abbrev pub NonePrinted : List Event → Type 0
@@ -126,6 +148,8 @@ abbrev pub ComesFirst : Fault → List Event → Type 0
 ComesFirst (fault.File file) events = NonePrinted events
 ComesFirst (fault.NotRead file) events = NonePrinted events
 ComesFirst (fault.NoNodes name others) events = NonePrinted events
+ComesFirst (fault.NoSpace folder) events = NonePrinted events
+ComesFirst (fault.Findings name findings) events = NonePrinted events
 ComesFirst (fault.Refused why) events = NonePrinted events
 ComesFirst fault.Output events = Unit {0}
 ComesFirst fault.OutOfMemory events = NonePrinted events

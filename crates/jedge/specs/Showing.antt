@@ -48,6 +48,8 @@ Checks e size shape image text (Ok told) =
 Checks e size shape image text (Err (fault.File file)) = ⊥
 Checks e size shape image text (Err (fault.NotRead file)) = ⊥
 Checks e size shape image text (Err (fault.NoNodes of others)) = ⊥
+Checks e size shape image text (Err (fault.NoSpace folder)) = ⊥
+Checks e size shape image text (Err (fault.Findings of findings)) = ⊥
 Checks e size shape image text (Err (fault.Refused why)) = (why ≡ program.Mount mount.OutOfMemory)
     × Answers e size image (Err mount.OutOfMemory) × (text ≡ scan_text e size image)
 Checks e size shape image text (Err fault.Output) = IsPartOfCheck e size shape image text
@@ -79,6 +81,8 @@ Lists s part answer text (Ok told) = IsListed s part text × (told ≡ answer)
 Lists s part answer text (Err (fault.File file)) = ⊥
 Lists s part answer text (Err (fault.NotRead file)) = ⊥
 Lists s part answer text (Err (fault.NoNodes of others)) = ⊥
+Lists s part answer text (Err (fault.NoSpace folder)) = ⊥
+Lists s part answer text (Err (fault.Findings of findings)) = ⊥
 Lists s part answer text (Err (fault.Refused why)) = NamesNothing s part why × (text ≡ [])
 Lists s part answer text (Err fault.Output) =
     (whole : List ℕ) × IsListed s part whole × IsFrontOf whole text
@@ -94,6 +98,8 @@ Contains content answer text (Ok told) = (content ≡ Ok text) × (told ≡ answ
 Contains content answer text (Err (fault.File file)) = ⊥
 Contains content answer text (Err (fault.NotRead file)) = ⊥
 Contains content answer text (Err (fault.NoNodes of others)) = ⊥
+Contains content answer text (Err (fault.NoSpace folder)) = ⊥
+Contains content answer text (Err (fault.Findings of findings)) = ⊥
 Contains content answer text (Err (fault.Refused why)) = IsContentFault content why × (text ≡ [])
 Contains content answer text (Err fault.Output) =
     (whole : List ℕ) × (content ≡ Ok whole) × IsFrontOf whole text

@@ -1,6 +1,7 @@
 -- What a command found: how much of what it looks for, and what is noted of it on standard error.
 use Rattle.std.specs.Prelude.{◌==◌, ℕ, List, Option, option_map, if◌then◌else◌}
 use Rattle.jinfo.specs.Containers.{container_line}
+use Rattle.jreport.specs.ExtractionNotes.{extraction_notes_of}
 use Rattle.jreport.specs.NamedNotes.{named_notes_of}
 use Rattle.jreport.specs.NoNodes.{none_notes_of}
 use Rattle.jreport.specs.Notes.{note_line_of}
@@ -17,6 +18,7 @@ abbrev pub note_text : Note → List ℕ
 note_text (note.Container container) = container_line container
 note_text (note.Findings findings) = note_line_of findings
 note_text (note.NoNodes findings others) = none_notes_of findings others
+note_text (note.Extraction of) = extraction_notes_of of.findings of.lost_bits of.attributes
 note_text (note.Both first second) =
     named_notes_of first.name.now first.findings second.name.now second.findings
 

@@ -30,6 +30,8 @@ HasBlockSize size (Ok _) = IsTrue (is_block_size size)
 HasBlockSize size (Err (fault.File file)) = ⊥
 HasBlockSize size (Err (fault.NotRead file)) = ⊥
 HasBlockSize size (Err (fault.NoNodes told others)) = ⊥
+HasBlockSize size (Err (fault.NoSpace folder)) = ⊥
+HasBlockSize size (Err (fault.Findings told findings)) = ⊥
 HasBlockSize size (Err (fault.Refused why)) =
     (why ≡ program.Scan scan.BlockSize) × IsFalse (is_block_size size)
 HasBlockSize size (Err fault.Output) = ⊥
@@ -41,6 +43,8 @@ NamesPath word (Ok path) = path_of word ≡ Some path
 NamesPath word (Err (fault.File file)) = ⊥
 NamesPath word (Err (fault.NotRead file)) = ⊥
 NamesPath word (Err (fault.NoNodes told others)) = ⊥
+NamesPath word (Err (fault.NoSpace folder)) = ⊥
+NamesPath word (Err (fault.Findings told findings)) = ⊥
 NamesPath word (Err (fault.Refused why)) =
     (why ≡ program.Path find.BadPath) × (path_of word ≡ None)
 NamesPath word (Err fault.Output) = ⊥
@@ -105,6 +109,8 @@ IsViewed e size decompress image (Ok view) =
 IsViewed e size decompress image (Err (fault.File file)) = ⊥
 IsViewed e size decompress image (Err (fault.NotRead file)) = ⊥
 IsViewed e size decompress image (Err (fault.NoNodes told others)) = ⊥
+IsViewed e size decompress image (Err (fault.NoSpace folder)) = ⊥
+IsViewed e size decompress image (Err (fault.Findings told findings)) = ⊥
 IsViewed e size decompress image (Err (fault.Refused why)) =
     IsTrue decompress × IsUnmade e size image why
 IsViewed e size decompress image (Err fault.Output) = ⊥

@@ -19,7 +19,7 @@ use jscan::Geometry;
 use std::alloc::Global;
 
 /// Of two numbers of things found one that is not zero, if there is one.
-pub(crate) fn either(first: u64, second: u64) -> u64
+pub fn either(first: u64, second: u64) -> u64
     ensures { result ≡ either first second }
 {
     match first {
@@ -29,7 +29,7 @@ pub(crate) fn either(first: u64, second: u64) -> u64
 }
 
 /// The note on so many findings.
-pub(crate) fn findings_noted(findings: u64) -> Option<Note<'static>>
+pub fn findings_noted(findings: u64) -> Option<Note<'static>>
     ensures { option_map note_text result ≡ findings_noted findings }
 {
     match findings {

@@ -33,6 +33,11 @@ pub enum Fault {
     /// No node is found in an image, though it is not blank; in the other byte order there are
     /// `others`. Where several images are read, it is the one of this name.
     NoNodes { name: Option<String>, others: u64 },
+    /// The host has no room for what is still to be made in the folder of this name.
+    NoSpace(String),
+    /// An image has so many findings, and is the file of this name, which the command would write
+    /// over.
+    Findings { name: String, findings: u64 },
     /// What was read, or asked for, is refused for what it is. No name is told.
     Refused(ProgramFault<'static>),
     /// Standard output failed.
@@ -52,7 +57,7 @@ fn name_of(name: &Option<String>) -> Option<&str>
 
 impl Fault {
     /// A fault of a library, as a command ends by it.
-    pub(crate) fn of(fault: ProgramFault<'static>) -> Fault
+    pub fn of(fault: ProgramFault<'static>) -> Fault
         ensures { result ≡ command_fault fault.entry }
     {
         match fault {
@@ -72,6 +77,11 @@ impl Fault {
             Fault::NoNodes { name, others } => ProgramFault::Image(ImageFault::NoNodes {
                 name: name_of(name),
                 others: *others,
+            }),
+            Fault::NoSpace(folder) => ProgramFault::NoSpace(folder.as_str()),
+            Fault::Findings { name, findings } => ProgramFault::Image(ImageFault::Findings {
+                name: name.as_str(),
+                findings: *findings,
             }),
             Fault::Refused(fault) => *fault,
             Fault::Output => ProgramFault::Output,

@@ -14,8 +14,19 @@ pub enum Note<'a> {
     Findings(u64),
     /// No node is found in the image; in the other byte order there are `others`.
     NoNodes { findings: u64, others: u64 },
+    /// Of an image that was extracted.
+    Extraction(Extracted),
     /// Of two images, the findings of each.
     Both(Named<'a>, Named<'a>),
+}
+
+/// How many findings an image has that was extracted, how many objects lost bits of their modes,
+/// and how many nodes it has of extended attributes.
+#[derive(Clone, Copy)]
+pub struct Extracted {
+    pub findings: u64,
+    pub lost_bits: u64,
+    pub attributes: u64,
 }
 
 /// How many findings the image of a name has.

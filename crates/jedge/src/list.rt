@@ -36,7 +36,7 @@ fn put_lines<T: Sink>(
 }
 
 /// What a command comes to that put all of a text, or why it did not.
-pub(crate) fn put_found(
+pub fn put_found(
     put: Result<(), ProgramFault<'static>>,
     found: Found<'static>,
 ) -> Result<Found<'static>, Fault>

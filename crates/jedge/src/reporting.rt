@@ -12,7 +12,7 @@ use crate::host::Host;
 use flashbase::{DeviceFault, Sink};
 use jcommand::Outcome;
 use jinfo::put_container_note;
-use jreport::{put_fault_and_note, put_named_notes, put_none_notes, put_note};
+use jreport::{put_fault_and_note, put_named_notes, put_none_notes, put_note, put_notes};
 
 /// Puts the lines of a fault.
 fn put_fault<T: Sink>(fault: &Fault, sink: &mut T) -> Result<(), DeviceFault>
@@ -33,13 +33,14 @@ fn say_fault<H: Host>(host: &mut H, fault: &Fault)
 }
 
 /// Puts a note.
-fn put_noted<T: Sink>(note: Note<'_>, sink: &mut T) -> Result<(), DeviceFault>
+pub fn put_noted<T: Sink>(note: Note<'_>, sink: &mut T) -> Result<(), DeviceFault>
     ensures { PutsTo T.Sink sink.old sink.new (note_text note.entry) result }
 {
     match note {
         Note::Container(container) => put_container_note(Some(container), sink),
         Note::Findings(findings) => put_note(findings, sink),
         Note::NoNodes { findings, others } => put_none_notes(findings, others, sink),
+        Note::Extraction(of) => put_notes(of.findings, of.lost_bits, of.attributes, sink),
         Note::Both(first, second) => put_named_notes(
             first.name.as_bytes(),
             first.findings,
@@ -61,7 +62,7 @@ fn say_note<H: Host>(host: &mut H, note: Note<'_>)
 }
 
 /// Says it where there is one.
-fn say_noted<H: Host>(host: &mut H, note: Option<Note<'_>>)
+pub fn say_noted<H: Host>(host: &mut H, note: Option<Note<'_>>)
     ensures { DoesFrom (H.history host.old) (H.history host.new)
         (says (option_map note_text note.entry)) (Ok result) }
 {

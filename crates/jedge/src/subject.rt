@@ -22,7 +22,7 @@ use jscan::Geometry;
 use std::alloc::Global;
 
 /// The path that a word names.
-pub(crate) fn path_named(alloc: Global, word: &str) -> Result<Vec<u8>, Fault>
+pub fn path_named(alloc: Global, word: &str) -> Result<Vec<u8>, Fault>
     ensures { NamesPath word.now (seen_as (λ path. path.items) result) }
 {
     match path_word(alloc, word.as_bytes()) {
@@ -32,7 +32,7 @@ pub(crate) fn path_named(alloc: Global, word: &str) -> Result<Vec<u8>, Fault>
 }
 
 /// The same, where a word is given.
-pub(crate) fn part_named(alloc: Global, word: Option<&str>) -> Result<Option<Vec<u8>>, Fault>
+pub fn part_named(alloc: Global, word: Option<&str>) -> Result<Option<Vec<u8>>, Fault>
     ensures { NamesPart (option_map (λ w. w.now) word.entry)
         (seen_as (option_map (λ path. path.items)) result) }
 {
@@ -56,7 +56,7 @@ pub struct Subject {
 }
 
 /// Why nothing is made of an image.
-fn conversion_refusal(fault: ConvertFault) -> ProgramFault<'static>
+pub fn conversion_refusal(fault: ConvertFault) -> ProgramFault<'static>
     ensures { result ≡ conversion_refusal fault }
 {
     match fault {
@@ -163,7 +163,7 @@ fn shown_noted(findings: u64, others: Option<u64>) -> Option<Note<'static>>
 
 impl Subject {
     /// What a command comes to that shows it.
-    pub(crate) fn found(&self, mounted: &Mounted<'_>) -> Found<'static>
+    pub fn found(&self, mounted: &Mounted<'_>) -> Found<'static>
         ensures { found_told result ≡ shown_told (viewed self.now) mounted.now }
     {
         Found {

@@ -1,7 +1,7 @@
 -- A command is to blame for what its request is to blame for.
 use Rattle.std.proofs.Common.{ℕ, Bool, true, false, Result, Ok, Err, inl, inr}
 use Rattle.jnode.specs.declared.order.Endian.{Endian}
-use Rattle.jcommand.specs.Parsed.{Parsed, ScanParsed, CheckParsed, ListParsed, CatParsed, BuildParsed, AppendParsed, DecompressParsed}
+use Rattle.jcommand.specs.Parsed.{Parsed, ScanParsed, BuildParsed, AppendParsed, DecompressParsed}
 use Rattle.jreport.specs.declared.faults.ProgramFault.{ProgramFault}
 use Rattle.jcommand.specs.declared.command_line.RequestFault.{RequestFault}
 use Rattle.jcommand.specs.declared.command_line.RequestFault.TheVariants as refused
@@ -16,9 +16,6 @@ use Rattle.jffs2_image.proofs.HostLemmas.{any_blame}
 pub for_fault : (T : Type 0) (e : Endian) (parsed : Parsed) (u : Type 0) (reading : FileReads) (writing : FileWrites) (f : ProgramFault)
     → BlamesFor {T = ℕ} e parsed u reading writing (Err f) → BlamesFor {T = T} e parsed u reading writing (Err f)
 for_fault T e (ScanParsed options image) u reading writing f w = (reads_any T (reading.told image) reading.before reading.now f w.0, w.1)
-for_fault T e (CheckParsed options shape image) u reading writing f w = (reads_any T (reading.told image) reading.before reading.now f w.0, w.1)
-for_fault T e (ListParsed options decompress image path) u reading writing f w = (reads_any T (reading.told image) reading.before reading.now f w.0, w.1)
-for_fault T e (CatParsed options decompress image path) u reading writing f w = (reads_any T (reading.told image) reading.before reading.now f w.0, w.1)
 for_fault T e (BuildParsed options blocks page listing output) u reading writing f w = any_blame T u (MakesFile output writing.names_old writing.names_new) reading.before reading.now writing.before writing.now f w
 for_fault T e (AppendParsed options blocks page decompress image listing output) u reading writing f (inl w) = inl (any_blame T u (MakesFile output writing.names_old writing.names_new) reading.before reading.now writing.before writing.now f w)
 for_fault T e (AppendParsed options blocks page decompress image listing output) u reading writing f (inr w) =
@@ -28,9 +25,6 @@ for_fault T e (DecompressParsed options force image output) u reading writing f 
 pub for_answer : (T : Type 0) (e : Endian) (parsed : Parsed) (u : Type 0) (reading : FileReads) (writing : FileWrites) (n : ℕ) (x : T)
     → BlamesFor {T = ℕ} e parsed u reading writing (Ok n) → BlamesFor {T = T} e parsed u reading writing (Ok x)
 for_answer T e (ScanParsed options image) u reading writing n x w = w
-for_answer T e (CheckParsed options shape image) u reading writing n x w = w
-for_answer T e (ListParsed options decompress image path) u reading writing n x w = w
-for_answer T e (CatParsed options decompress image path) u reading writing n x w = w
 for_answer T e (BuildParsed options blocks page listing output) u reading writing n x w = w
 for_answer T e (AppendParsed options blocks page decompress image listing output) u reading writing n x (inl w) = inl w
 for_answer T e (AppendParsed options blocks page decompress image listing output) u reading writing n x (inr w) =
@@ -42,9 +36,6 @@ pub for_finished : (e : Endian) (parsed : Parsed) (u : Type 0) (reading : FileRe
     → BlamesFor {T = ℕ} e parsed u reading writing answer → BlamesFor {T = ℕ} e parsed u reading writing (answer_finished answer all)
 for_finished e parsed u reading writing (Ok n) true w = w
 for_finished e (ScanParsed options image) u reading writing (Ok n) false w = w
-for_finished e (CheckParsed options shape image) u reading writing (Ok n) false w = w
-for_finished e (ListParsed options decompress image path) u reading writing (Ok n) false w = w
-for_finished e (CatParsed options decompress image path) u reading writing (Ok n) false w = w
 for_finished e (BuildParsed options blocks page listing output) u reading writing (Ok n) false w = w.2
 for_finished e (AppendParsed options blocks page decompress image listing output) u reading writing (Ok n) false (inl w) = inl w.2
 for_finished e (AppendParsed options blocks page decompress image listing output) u reading writing (Ok n) false (inr w) =

@@ -1,12 +1,11 @@
 pub mod ClashLemmas
 mod CommandLemmas
 pub mod PlacingLemmas
+mod SystemLemmas
 mod TakenLemmas
 mod ExtractingLemmas
 mod JudgingLemmas
-pub mod DamageLemmas
 pub mod DecompressingLemmas
-pub mod DiffLemmas
 pub mod WritingLemmas
 pub mod HostLemmas
 pub mod LoadingLemmas

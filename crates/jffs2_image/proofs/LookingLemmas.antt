@@ -1,4 +1,4 @@
--- What the commands come to that look at an image alone. A fault of a source has no name, and that of the command has the file's.
+-- What `check --scan` comes to. A fault of a source has no name, and that of the command has the file's.
 use Rattle.std.proofs.Common.{◌≡◌, ◌∙◌, ℕ, Bool, true, false, List, Option, Some, None, Result, Ok, Err, inl, inr, refl, sym, ap, subst}
 use Rattle.std.specs.Prelude.{◌⊎◌, ◌↔◌, ◌<◌, length, option_map, IfSome, IsErrAnd, IsErrOf, IsFalse, IsTrue}
 use Rattle.flashbase.specs.Device.{next_count}
@@ -7,18 +7,14 @@ use Rattle.flashbase.specs.declared.source.LoadFault.TheVariants as load
 use Rattle.jnode.specs.declared.order.Endian.{Endian}
 use Rattle.jscan.specs.Image.{greatest_image, is_block_size}
 use Rattle.jscan.specs.declared.geometry.ScanFault.TheVariants as scan
-use Rattle.jcommand.specs.Parsed.{ScanParsed, CheckParsed, ListParsed, CatParsed}
+use Rattle.jcommand.specs.Parsed.{ScanParsed}
 use Rattle.jcommand.specs.declared.parsed.Options.{Options}
-use Rattle.jreport.specs.Paths.{IsWordFault, path_of}
 use Rattle.jreport.specs.Stream.{HandsBack, OfSomeImage, PutsStream}
-use Rattle.jreport.specs.WholeImage.{PutsCheck}
 use Rattle.jreport.specs.declared.faults.ProgramFault.{ProgramFault}
 use Rattle.jreport.specs.declared.faults.ProgramFault.TheVariants as program
 use Rattle.jreport.specs.declared.reason.Reason.{Reason}
-use Rattle.jmount.specs.declared.fault.FindFault.TheVariants as find
 use Rattle.jffs2_image.specs.Host.{AreLoaded, GivesFile, IsToldOf, ReadsFile}
-use Rattle.jffs2_image.specs.Looking.{IsPartRefused, part_named}
-use Rattle.jffs2_image.specs.Runs.{IsNotRead, IsUnopened, Meets, NamesUnread, PutsJudged, found_answer}
+use Rattle.jffs2_image.specs.Runs.{IsNotRead, IsUnopened, Meets, NamesUnread}
 use Rattle.jffs2_image.specs.Writes.{Held, IsTooLong, IsUnreadFile}
 use Rattle.jffs2_image.specs.declared.loading.FileFault.TheVariants as file
 use Rattle.jffs2_image.proofs.DecompressingLemmas.{one_fault}
@@ -92,15 +88,7 @@ stream_source e size image sink (Err (program.File f)) puts = absurd puts
 stream_source e size image sink (Err (program.NotRead f)) puts = absurd puts
 stream_source e size image sink answer puts = tt
 
--- behind the file `check` has no fault of one
-pub check_reads : (e : Endian) (size : ℕ) (shape : Bool) (image : List ℕ) (sink : SinkChange) (told : Option (List ℕ)) (n : ℕ) (answer : Result Bool ProgramFault)
-    → PutsCheck e size image shape sink answer → ReadsFile {T = ℕ} told n n (found_answer answer)
-check_reads e size shape image sink told n (Err (program.Load f)) puts = absurd puts
-check_reads e size shape image sink told n (Err (program.File f)) puts = absurd puts
-check_reads e size shape image sink told n (Err (program.NotRead f)) puts = absurd puts
-check_reads e size shape image sink told n answer puts = refl
-
--- ---- the commands
+-- ---- the command
 
 -- of a size that no block has a command says so, or that the file can't be opened
 abbrev TellsSize : List ℕ → Result ℕ ProgramFault → Type 0
@@ -124,79 +112,3 @@ pub scan_unopened : (told : List ℕ → Option (List ℕ)) (held : Held) (e : E
 scan_unopened told held e options name old n reason f is =
     subst (λ (x : ProgramFault). Meets told held e (ScanParsed options name) (sink_change old old n n) (Err x)) (sym is.1)
     (record { block_size = λ wrong. cc; told_of = λ wrong. inr is.2; put = inr (program.File is.0, refl, is.2, refl, refl) })
-
--- `check`
-judged : (e : Endian) (size : ℕ) (shape : Bool) (image : List ℕ) (sink : SinkChange) (answer : Result Bool ProgramFault)
-    → PutsCheck e size image shape sink answer → PutsJudged e size shape image sink (found_answer answer)
-judged e size shape image sink (Ok found) puts = (found, refl, puts)
-judged e size shape image sink (Err f) puts = puts
-
-size_found : (answer : Result Bool ProgramFault) → IsErrOf (found_answer answer) (program.Scan scan.BlockSize) → IsErrOf answer (program.Scan scan.BlockSize)
-size_found (Ok found) wrong = cc
-size_found (Err f) wrong = ap Err (one_fault wrong)
-
-pub check_put : (told : List ℕ → Option (List ℕ)) (held : Held) (e : Endian) (options : Options) (shape : Bool) (name image : List ℕ) (sink : SinkChange) (answer : Result Bool ProgramFault)
-    → AreLoaded (told name) image → (IsErrOf answer (program.Scan scan.BlockSize) ↔ IsFalse (is_block_size options.geometry.block)) → PutsCheck e options.geometry.block image shape sink answer
-    → Meets told held e (CheckParsed options shape name) sink (found_answer answer)
-check_put told held e options shape name image sink answer loaded sized puts = record {
-  block_size = λ wrong. sized.0 (size_found answer wrong);
-  told_of = λ wrong. subst (TellsSize name) (sym (ap found_answer (sized.1 wrong))) (inl refl);
-  put = inl (image, loaded, judged e options.geometry.block shape image sink answer puts);
-}
-
--- its file is not opened
-pub check_unopened : (told : List ℕ → Option (List ℕ)) (held : Held) (e : Endian) (options : Options) (shape : Bool) (name : List ℕ) (old : Option (List ℕ)) (n : ℕ) (reason : Reason) (f : ProgramFault)
-    → IsToldOf name (file.NotOpened reason) f → Meets told held e (CheckParsed options shape name) (sink_change old old n n) (Err f)
-check_unopened told held e options shape name old n reason f is =
-    subst (λ (x : ProgramFault). Meets told held e (CheckParsed options shape name) (sink_change old old n n) (Err x)) (sym is.1)
-    (record { block_size = λ wrong. cc; told_of = λ wrong. inr is.2; put = inr (program.File is.0, refl, is.2, refl, refl) })
-
--- the size of a block is none
-pub check_unsized : (told : List ℕ → Option (List ℕ)) (held : Held) (e : Endian) (options : Options) (shape : Bool) (name : List ℕ) (old : Option (List ℕ)) (n : ℕ)
-    → IsFalse (is_block_size options.geometry.block) → Meets told held e (CheckParsed options shape name) (sink_change old old n n) (Err (program.Scan scan.BlockSize))
-check_unsized told held e options shape name old n unsized =
-    record { block_size = λ wrong. unsized; told_of = λ wrong. inl refl; put = inr (program.Scan scan.BlockSize, refl, unsized, refl, refl) }
-
--- its file is not read to its end
-pub check_unread : (told : List ℕ → Option (List ℕ)) (held : Held) (e : Endian) (options : Options) (shape : Bool) (name : List ℕ) (old : Option (List ℕ)) (n : ℕ) (f : ProgramFault)
-    → IsTrue (is_block_size options.geometry.block) → IsUnreadFile name (told name) f → Meets told held e (CheckParsed options shape name) (sink_change old old n n) (Err f)
-check_unread told held e options shape name old n (program.Load x) sized not =
-    record { block_size = λ wrong. cc; told_of = λ wrong. let bad : true ≡ false = sym sized ∙ wrong in cc; put = inr (program.Load x, refl, not, refl, refl) }
-check_unread told held e options shape name old n (program.File x) sized not =
-    record { block_size = λ wrong. cc; told_of = λ wrong. inr not; put = inr (program.File x, refl, not, refl, refl) }
-check_unread told held e options shape name old n (program.NotRead x) sized not =
-    record { block_size = λ wrong. cc; told_of = λ wrong. let bad : true ≡ false = sym sized ∙ wrong in cc; put = inr (program.NotRead x, refl, not, refl, refl) }
-check_unread told held e options shape name old n f sized not = absurd not
-
--- ---- the part of a tree that a word names
-
--- a word names a part by its path
-pub word_path : (word : List ℕ) (part : Option (List ℕ)) → part_named (Some word) ≡ Some part → (path : List ℕ) × (path_of word ≡ Some path) × (Some path ≡ part)
-word_path word part is = by (path_of word) refl
-  where
-    by : (found : Option (List ℕ)) → path_of word ≡ found → (path : List ℕ) × (path_of word ≡ Some path) × (Some path ≡ part)
-    by None at = let no : None ≡ Some part = subst (λ (f : Option (List ℕ)). option_map (λ path. Some path) f ≡ Some part) at is in cc
-    by (Some path) at = let yes : Some (Some path) ≡ Some part = subst (λ (f : Option (List ℕ)). option_map (λ path. Some path) f ≡ Some part) at is in (path, at, cc)
-
--- without a word it is the tree
-pub no_word : (part : Option (List ℕ)) → part_named None ≡ Some part → None ≡ part
-no_word part is = cc
-
--- the word can't be read
-pub word_refused : (told : List ℕ → Option (List ℕ)) (held : Held) (e : Endian) (options : Options) (d : Bool) (name : List ℕ) (word : Option (List ℕ)) (sink : SinkChange) (f : ProgramFault) (r : Result ℕ ProgramFault)
-    → IsPartRefused word f → IsErrAnd r (λ x. x ≡ f) → sink.new ≡ sink.old → sink.now ≡ sink.before → Meets told held e (ListParsed options d name word) sink r
-word_refused told held e options d name None sink f r is same new now = absurd is
-word_refused told held e options d name (Some word) sink f (Ok n) is same new now = absurd same
-word_refused told held e options d name (Some word) sink f (Err x) is same new now =
-    subst (λ (y : ProgramFault). Meets told held e (ListParsed options d name (Some word)) sink (Err y)) (sym same) (by f is)
-  where
-    by : (y : ProgramFault) → IsWordFault (path_of word) y → Meets told held e (ListParsed options d name (Some word)) sink (Err y)
-    by (program.Path find.BadPath) is = record { block_size = λ wrong. cc; told_of = λ wrong. tt; put = inr (program.Path find.BadPath, refl, is, new, now) }
-    by program.OutOfMemory is = record { block_size = λ wrong. cc; told_of = λ wrong. tt; put = inr (program.OutOfMemory, refl, tt, new, now) }
-    by y is = absurd is
-
-pub path_refused : (told : List ℕ → Option (List ℕ)) (held : Held) (e : Endian) (options : Options) (d : Bool) (name word : List ℕ) (old : Option (List ℕ)) (n : ℕ) (f : ProgramFault)
-    → IsWordFault (path_of word) f → Meets told held e (CatParsed options d name word) (sink_change old old n n) (Err f)
-path_refused told held e options d name word old n (program.Path find.BadPath) is = record { block_size = λ wrong. cc; told_of = λ wrong. tt; put = inr (program.Path find.BadPath, refl, is, refl, refl) }
-path_refused told held e options d name word old n program.OutOfMemory is = record { block_size = λ wrong. cc; told_of = λ wrong. tt; put = inr (program.OutOfMemory, refl, tt, refl, refl) }
-path_refused told held e options d name word old n f is = absurd is

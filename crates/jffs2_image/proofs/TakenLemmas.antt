@@ -10,23 +10,19 @@ use Rattle.jscan.specs.declared.page.Page.{Page}
 use Rattle.jconvert.specs.Converting.{Converts, WritesConverted, converted_image}
 use Rattle.jexpand.specs.declared.fault.ConvertFault.{ConvertFault}
 use Rattle.jexpand.specs.declared.fault.ConvertFault.TheVariants as convert
-use Rattle.jcommand.specs.Parsed.{ListParsed, CatParsed, AppendParsed}
+use Rattle.jcommand.specs.Parsed.{AppendParsed}
 use Rattle.jcommand.specs.declared.parsed.Options.{Options}
-use Rattle.jreport.specs.Paths.{path_of}
-use Rattle.jreport.specs.WholeImage.{PutsFile, PutsListing, list_request}
 use Rattle.jreport.specs.declared.faults.ProgramFault.{ProgramFault}
 use Rattle.jreport.specs.declared.faults.ProgramFault.TheVariants as program
 use Rattle.jreport.specs.declared.reason.Unopened.{Unopened}
 use Rattle.jffs2_image.specs.Decompressing.{IsGoneOnWith, IsNotConverted, IsSubject, PutsTaken, answer_noting, fault_of_conversion, with_findings}
 use Rattle.jffs2_image.specs.Host.{AreLoaded, Blames, IsRefusedBefore, ReadsFile}
-use Rattle.jffs2_image.specs.Looking.{part_named}
 use Rattle.jffs2_image.specs.Runs.{Meets, RunsListed}
 use Rattle.jffs2_image.specs.WeakRuns.{IsGoneOnFrom}
 use Rattle.jffs2_image.specs.Writes.{GivesText, Held, IsBehind, IsNotedIn, IsUnreadFile, image_form}
 use Rattle.jffs2_image.specs.declared.decompressing.Subject.{Subject}
 use Rattle.jffs2_image.proofs.DecompressingLemmas.{no_scan, one_fault}
 use Rattle.jffs2_image.proofs.HostLemmas.{part_all, same_behind}
-use Rattle.jffs2_image.proofs.LookingLemmas.{no_word, word_path}
 use Rattle.jffs2_image.proofs.WritingLemmas.{not_scanned}
 use Rattle.jreport.proofs.SinkLemmas.{sink_change}
 
@@ -83,146 +79,6 @@ pub blames_noting : (u v : Type 0) (rb rn mb mn : ℕ) (noted : Option ℕ) (don
 blames_noting u v rb rn mb mn None done blames = blames
 blames_noting u v rb rn mb mn (Some n) (Ok x) blames = blames
 blames_noting u v rb rn mb mn (Some n) (Err f) blames = blames
-
--- ---- faults of `ls` and `cat` behind the file
-
--- none of a file, of a source or of a scan
-abbrev pub IsOfImage : Result ℕ ProgramFault → Type 0
-IsOfImage (Err (program.File file)) = ⊥
-IsOfImage (Err (program.NotRead file)) = ⊥
-IsOfImage (Err (program.Load fault)) = ⊥
-IsOfImage (Err (program.Scan fault)) = ⊥
-IsOfImage _ = Unit {0}
-
-pub of_image_reads : (told : Option (List ℕ)) (n : ℕ) (answer : Result ℕ ProgramFault) → IsOfImage answer → ReadsFile {T = ℕ} told n n answer
-of_image_reads told n (Err (program.File file)) of = absurd of
-of_image_reads told n (Err (program.NotRead file)) of = absurd of
-of_image_reads told n (Err (program.Load fault)) of = absurd of
-of_image_reads told n answer of = refl
-
-of_image_size : (answer : Result ℕ ProgramFault) → IsOfImage answer → IsErrOf answer (program.Scan scan.BlockSize) → ⊥
-of_image_size answer of wrong = subst IsOfImage wrong of
-
-conversion_of_image : (f : ConvertFault) → IsOfImage (Err (fault_of_conversion f))
-conversion_of_image convert.BlockSize = tt
-conversion_of_image convert.TooLarge = tt
-conversion_of_image (convert.Incompatible addr nodetype) = tt
-conversion_of_image (convert.Compressed addr compr) = tt
-conversion_of_image (convert.Data addr) = tt
-conversion_of_image (convert.TooLong addr) = tt
-conversion_of_image convert.ReadOnly = tt
-conversion_of_image convert.Geometry = tt
-conversion_of_image (convert.Full needed free) = tt
-conversion_of_image convert.Sink = tt
-conversion_of_image convert.OutOfMemory = tt
-
-with_of_image : (n : ℕ) (done : Result ℕ ProgramFault) → IsOfImage done → IsOfImage (with_findings n done)
-with_of_image n (Ok x) of = tt
-with_of_image n (Err f) of = of
-
-taken_of_image : (Puts : List ℕ → SinkChange → Result ℕ ProgramFault → Type 0) (d : Bool) (e : Endian) (size : ℕ) (image : List ℕ) (sink : SinkChange) (answer : Result ℕ ProgramFault)
-    → ((bytes : List ℕ) (done : Result ℕ ProgramFault) → Puts bytes sink done → IsOfImage done) → PutsTaken d e size Puts image sink answer → IsOfImage answer
-taken_of_image Puts false e size image sink answer of puts = of image answer puts
-taken_of_image Puts true e size image sink answer of (inl done) = subst IsOfImage (sym done.4) (with_of_image _ done.1 (of done.0 done.1 done.3))
-taken_of_image Puts true e size image sink answer of (inr not) =
-    subst IsOfImage (sym not.1) (subst (λ (f : ProgramFault). IsOfImage (Err f)) (sym not.2.1) (conversion_of_image not.2.0))
-
-tree_of_image : (e : Endian) (size : ℕ) (path : Option (List ℕ)) (image : List ℕ) (sink : SinkChange) (answer : Result ℕ ProgramFault)
-    → PutsListing (list_request e size path) image sink answer → IsOfImage answer
-tree_of_image e size None image sink (Err (program.File f)) puts = absurd puts.2.0
-tree_of_image e size (Some p) image sink (Err (program.File f)) puts = absurd puts.2.0.2
-tree_of_image e size None image sink (Err (program.NotRead f)) puts = absurd puts.2.0
-tree_of_image e size (Some p) image sink (Err (program.NotRead f)) puts = absurd puts.2.0.2
-tree_of_image e size None image sink (Err (program.Load f)) puts = absurd puts.2.0
-tree_of_image e size (Some p) image sink (Err (program.Load f)) puts = absurd puts.2.0.2
-tree_of_image e size None image sink (Err (program.Scan f)) puts = absurd puts.2.0
-tree_of_image e size (Some p) image sink (Err (program.Scan f)) puts = absurd puts.2.0.2
-tree_of_image e size path image sink answer puts = tt
-
-file_of_image : (e : Endian) (size : ℕ) (path image : List ℕ) (sink : SinkChange) (answer : Result ℕ ProgramFault) → PutsFile e size image path sink answer → IsOfImage answer
-file_of_image e size path image sink (Err (program.File f)) puts = absurd puts.2.0.0
-file_of_image e size path image sink (Err (program.NotRead f)) puts = absurd puts.2.0.0
-file_of_image e size path image sink (Err (program.Load f)) puts = absurd puts.2.0.0
-file_of_image e size path image sink (Err (program.Scan f)) puts = absurd puts.2.0.0
-file_of_image e size path image sink answer puts = tt
-
-pub taken_tree : (d : Bool) (e : Endian) (size : ℕ) (path : Option (List ℕ)) (image : List ℕ) (sink : SinkChange) (answer : Result ℕ ProgramFault)
-    → PutsTaken d e size (PutsListing (list_request e size path)) image sink answer → IsOfImage answer
-taken_tree d e size path image sink answer puts =
-    taken_of_image (PutsListing (list_request e size path)) d e size image sink answer (λ bytes done put. tree_of_image e size path bytes sink done put) puts
-
-pub taken_file : (d : Bool) (e : Endian) (size : ℕ) (path image : List ℕ) (sink : SinkChange) (answer : Result ℕ ProgramFault)
-    → PutsTaken d e size (λ bytes. PutsFile e size bytes path) image sink answer → IsOfImage answer
-taken_file d e size path image sink answer puts =
-    taken_of_image (λ bytes. PutsFile e size bytes path) d e size image sink answer (λ bytes done put. file_of_image e size path bytes sink done put) puts
-
--- ---- `ls` of a tree, or of the part that a word names
-
-pub list_put : (told : List ℕ → Option (List ℕ)) (held : Held) (e : Endian) (options : Options) (d : Bool) (name : List ℕ) (word part : Option (List ℕ)) (image : List ℕ) (sink : SinkChange) (answer : Result ℕ ProgramFault)
-    → part_named word ≡ Some part → AreLoaded (told name) image → PutsTaken d e options.geometry.block (PutsListing (list_request e options.geometry.block part)) image sink answer
-    → Meets told held e (ListParsed options d name word) sink answer
-list_put told held e options d name None part image sink answer is loaded puts = record {
-  block_size = λ wrong. absurd (of_image_size answer (taken_tree d e options.geometry.block part image sink answer puts) wrong);
-  told_of = λ wrong. tt;
-  put = inl (
-    image,
-    loaded,
-    subst (λ (p : Option (List ℕ)). PutsTaken d e options.geometry.block (PutsListing (list_request e options.geometry.block p)) image sink answer) (sym (no_word part is)) puts,
-  );
-}
-list_put told held e options d name (Some word) part image sink answer is loaded puts =
-    let at = word_path word part is in
-    record {
-      block_size = λ wrong. absurd (of_image_size answer (taken_tree d e options.geometry.block part image sink answer puts) wrong);
-      told_of = λ wrong. tt;
-      put = inl (
-        image,
-        loaded,
-        (at.0, at.1, subst (λ (p : Option (List ℕ)). PutsTaken d e options.geometry.block (PutsListing (list_request e options.geometry.block p)) image sink answer) (sym at.2) puts),
-      );
-    }
-
--- the file of a request with a path is not read
-unread_of_path : (P : ProgramFault → Type 0) (name : List ℕ) (told : Option (List ℕ)) (f : ProgramFault) → IsUnreadFile name told f
-    → ((g : LoadFault) → IsUnreadFile name told (program.Load g) → P (program.Load g)) → ((g : Unopened) → IsUnreadFile name told (program.File g) → P (program.File g))
-    → ((g : Unopened) → IsUnreadFile name told (program.NotRead g) → P (program.NotRead g)) → P f
-unread_of_path P name told (program.Load g) not load opened read = load g not
-unread_of_path P name told (program.File g) not load opened read = opened g not
-unread_of_path P name told (program.NotRead g) not load opened read = read g not
-unread_of_path P name told f not load opened read = absurd not
-
-pub list_unread : (told : List ℕ → Option (List ℕ)) (held : Held) (e : Endian) (options : Options) (d : Bool) (name : List ℕ) (word part : Option (List ℕ)) (old : Option (List ℕ)) (n : ℕ) (f : ProgramFault)
-    → part_named word ≡ Some part → IsUnreadFile name (told name) f → Meets told held e (ListParsed options d name word) (sink_change old old n n) (Err f)
-list_unread told held e options d name None part old n f is not = record {
-  block_size = λ wrong. absurd (subst (IsUnreadFile name (told name)) (one_fault wrong) not);
-  told_of = λ wrong. tt;
-  put = inr (f, refl, not, refl, refl);
-}
-list_unread told held e options d name (Some word) part old n f is not =
-    let path = (word_path word part is).1 in
-    unread_of_path (λ (g : ProgramFault). Meets told held e (ListParsed options d name (Some word)) (sink_change old old n n) (Err g)) name (told name) f not
-    (λ g unread. record { block_size = λ wrong. cc; told_of = λ wrong. tt; put = inr (program.Load g, refl, (unread, rw path refl), refl, refl) })
-    (λ g unread. record { block_size = λ wrong. cc; told_of = λ wrong. tt; put = inr (program.File g, refl, (unread, rw path refl), refl, refl) })
-    (λ g unread. record { block_size = λ wrong. cc; told_of = λ wrong. tt; put = inr (program.NotRead g, refl, (unread, rw path refl), refl, refl) })
-
--- ---- `cat`
-
-pub cat_put : (told : List ℕ → Option (List ℕ)) (held : Held) (e : Endian) (options : Options) (d : Bool) (name word path image : List ℕ) (sink : SinkChange) (answer : Result ℕ ProgramFault)
-    → path_of word ≡ Some path → AreLoaded (told name) image → PutsTaken d e options.geometry.block (λ bytes. PutsFile e options.geometry.block bytes path) image sink answer
-    → Meets told held e (CatParsed options d name word) sink answer
-cat_put told held e options d name word path image sink answer is loaded puts = record {
-  block_size = λ wrong. absurd (of_image_size answer (taken_file d e options.geometry.block path image sink answer puts) wrong);
-  told_of = λ wrong. tt;
-  put = inl (image, loaded, (path, is, puts));
-}
-
-pub cat_unread : (told : List ℕ → Option (List ℕ)) (held : Held) (e : Endian) (options : Options) (d : Bool) (name word path : List ℕ) (old : Option (List ℕ)) (n : ℕ) (f : ProgramFault)
-    → path_of word ≡ Some path → IsUnreadFile name (told name) f → Meets told held e (CatParsed options d name word) (sink_change old old n n) (Err f)
-cat_unread told held e options d name word path old n f is not =
-    unread_of_path (λ (g : ProgramFault). Meets told held e (CatParsed options d name word) (sink_change old old n n) (Err g)) name (told name) f not
-    (λ g unread. record { block_size = λ wrong. cc; told_of = λ wrong. tt; put = inr (program.Load g, refl, (unread, rw is refl), refl, refl) })
-    (λ g unread. record { block_size = λ wrong. cc; told_of = λ wrong. tt; put = inr (program.File g, refl, (unread, rw is refl), refl, refl) })
-    (λ g unread. record { block_size = λ wrong. cc; told_of = λ wrong. tt; put = inr (program.NotRead g, refl, (unread, rw is refl), refl, refl) })
 
 -- ---- `append`
 

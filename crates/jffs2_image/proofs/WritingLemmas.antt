@@ -30,7 +30,7 @@ use Rattle.std.proofs.Math.Path.{fun_ext}
 use Rattle.std.specs.Prelude.{IfOk, IfSome, IsFalse}
 use Rattle.jscan.specs.Image.{is_block_size}
 use Rattle.jscan.specs.declared.geometry.ScanFault.TheVariants as scan
-use Rattle.jcommand.specs.Parsed.{Parsed, ScanParsed, CheckParsed, ListParsed, CatParsed, BuildParsed, AppendParsed, DecompressParsed}
+use Rattle.jcommand.specs.Parsed.{Parsed, ScanParsed, BuildParsed, AppendParsed, DecompressParsed}
 use Rattle.jcommand.specs.declared.parsed.Options.{Options}
 use Rattle.jffs2_image.specs.Host.{AreLoaded, RunsFiles}
 use Rattle.jffs2_image.specs.Runs.{Meets, RunsListed}
@@ -193,10 +193,6 @@ MakesNoFile _ = Unit {0}
 pub met_by_any : (told : List ℕ → Option (List ℕ)) (held later : Held) (e : Endian) (parsed : Parsed) (old new : Option (List ℕ)) (before now : ℕ) (answer : Result ℕ ProgramFault) → MakesNoFile parsed
     → Meets told held e parsed (sink_change old new before now) answer → Meets told later e parsed (sink_change old new before now) answer
 met_by_any told held later e (ScanParsed options image) old new before now answer none m = record { block_size = m.block_size; told_of = m.told_of; put = m.put }
-met_by_any told held later e (CheckParsed options shape image) old new before now answer none m = record { block_size = m.block_size; told_of = m.told_of; put = m.put }
-met_by_any told held later e (ListParsed options decompress image None) old new before now answer none m = record { block_size = m.block_size; told_of = m.told_of; put = m.put }
-met_by_any told held later e (ListParsed options decompress image (Some word)) old new before now answer none m = record { block_size = m.block_size; told_of = m.told_of; put = m.put }
-met_by_any told held later e (CatParsed options decompress image word) old new before now answer none m = record { block_size = m.block_size; told_of = m.told_of; put = m.put }
 met_by_any told held later e (BuildParsed options blocks page listing output) old new before now answer none m = absurd none
 met_by_any told held later e (AppendParsed options blocks page decompress image listing output) old new before now answer none m = absurd none
 met_by_any told held later e (DecompressParsed options force image output) old new before now answer none m = absurd none

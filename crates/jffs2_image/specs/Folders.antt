@@ -209,7 +209,7 @@ IsPathUnread (Some word) fault = IsWordFault (path_of word) fault
 --   definitions: jffs2_image.Folders.FillsAsked, jffs2_image.Folders.ListsFolder,
 --   jffs2_image.Tasks.RunsTask
 --   code: jffs2_image::folders::run_extract, jffs2_image::folders::list_folder,
---   jffs2_image::tasks::run_task
+--   jffs2_image::tasks::run_work
 -- The same by the words of a command line: `x.path` is the word here, and it is read before the
 -- image is opened. Where it can't be read, nothing is done.
 abbrev pub FillsAsked : Bool → Extracting → List ℕ → FileReads → (List ℕ → Option (List Made))

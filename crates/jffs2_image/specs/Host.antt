@@ -16,7 +16,7 @@ use Rattle.jbuild.specs.Length.{TellsLength}
 use Rattle.jbuild.specs.Operations.{ops_in}
 use Rattle.jbuild.specs.HostFiles.{part_contents, read_of}
 use Rattle.jbuild.specs.declared.host_files.HostFiles.{HostFiles}
-use Rattle.jcommand.specs.Parsed.{Parsed, ScanParsed, CheckParsed, ListParsed, CatParsed, BuildParsed, AppendParsed, DecompressParsed, options_of, view}
+use Rattle.jcommand.specs.Parsed.{Parsed, ScanParsed, BuildParsed, AppendParsed, DecompressParsed, options_of, view}
 use Rattle.jcommand.specs.declared.parsed.Request.{Request}
 use Rattle.jcommand.specs.declared.command_line.RequestFault.{RequestFault}
 use Rattle.jcommand.specs.declared.command_line.RequestFault.TheVariants as refused
@@ -484,12 +484,6 @@ BlamesDecompress untouched makes read_before read_now made_before made_now
 abbrev pub BlamesFor : {T : Type 0} → Endian → Parsed → Type 0 → FileReads → FileWrites
     → Result T ProgramFault → Type 0
 BlamesFor e (ScanParsed options image) untouched reading writing result =
-    ReadsFile (reading.told image) reading.before reading.now result × untouched
-BlamesFor e (CheckParsed options shape image) untouched reading writing result =
-    ReadsFile (reading.told image) reading.before reading.now result × untouched
-BlamesFor e (ListParsed options decompress image path) untouched reading writing result =
-    ReadsFile (reading.told image) reading.before reading.now result × untouched
-BlamesFor e (CatParsed options decompress image path) untouched reading writing result =
     ReadsFile (reading.told image) reading.before reading.now result × untouched
 BlamesFor e (BuildParsed options blocks page listing output) untouched reading writing result =
     Blames untouched (MakesFile output writing.names_old writing.names_new) reading.before

@@ -7,16 +7,13 @@ use Rattle.flashbase.specs.declared.source.LoadFault.TheVariants as load
 use Rattle.jnode.specs.declared.order.Endian.{Endian}
 use Rattle.jscan.specs.Image.{is_block_size}
 use Rattle.jscan.specs.declared.geometry.ScanFault.TheVariants as scan
-use Rattle.jmount.specs.declared.fault.FindFault.TheVariants as find
 use Rattle.jreport.specs.Advice.{fault_lines_of}
-use Rattle.jreport.specs.WholeImage.{PutsCheck, PutsFile, PutsListing, list_request}
 use Rattle.jreport.specs.NoNodes.{none_notes_of}
 use Rattle.jreport.specs.Notes.{note_line_of}
 use Rattle.jreport.specs.Stream.{PutsStream}
-use Rattle.jreport.specs.Paths.{path_of}
 use Rattle.jreport.specs.declared.faults.ProgramFault.{ProgramFault}
 use Rattle.jreport.specs.declared.faults.ProgramFault.TheVariants as program
-use Rattle.jcommand.specs.Parsed.{Parsed, ScanParsed, CheckParsed, ListParsed, CatParsed, BuildParsed, AppendParsed, DecompressParsed, ImageParsed, IsFaultless, IsHelpRequested, IsRefusedByClap, IsUnreadable, options_of, parsed_from, view}
+use Rattle.jcommand.specs.Parsed.{Parsed, ScanParsed, BuildParsed, AppendParsed, DecompressParsed, ImageParsed, IsFaultless, IsHelpRequested, IsRefusedByClap, IsUnreadable, options_of, parsed_from, view}
 use Rattle.jcommand.specs.declared.parsed.Options.{Options}
 use Rattle.jcommand.specs.declared.parsed.Request.{Request}
 use Rattle.jcommand.specs.declared.command_line.RequestFault.{RequestFault}
@@ -38,27 +35,9 @@ use Rattle.jffs2_image.specs.declared.program.Stop.TheVariants as stop
 
 abbrev pub options_parsed : Parsed → Options
 options_parsed (ScanParsed options image) = options
-options_parsed (CheckParsed options shape image) = options
-options_parsed (ListParsed options decompress image path) = options
-options_parsed (CatParsed options decompress image path) = options
 options_parsed (BuildParsed options blocks page listing output) = options
 options_parsed (AppendParsed options blocks page decompress image listing output) = options
 options_parsed (DecompressParsed options force image output) = options
-
--- whether `check` found anything, as a number
-abbrev pub number_found : Bool → ℕ
-number_found found = if found then 1 else 0
-
--- `check`, with that number; and whether the shape is asked for
-abbrev pub PutsJudged : Endian → ℕ → Bool → List ℕ → SinkChange → Result ℕ ProgramFault → Type 0
-PutsJudged e size asked image sink (Ok n) =
-    (found : Bool) × (n ≡ number_found found) × PutsCheck e size image asked sink (Ok found)
-PutsJudged e size asked image sink (Err fault) = PutsCheck e size image asked sink (Err fault)
-
--- the answer of `check` as that number
-abbrev pub found_answer : Result Bool ProgramFault → Result ℕ ProgramFault
-found_answer (Ok found) = Ok (number_found found)
-found_answer (Err fault) = Err fault
 
 -- rule: Building and extending: Which files are read and made, and who is to blame for a fault.
 --   definitions: jffs2_image.Runs.IsImageOf, jffs2_image.Runs.RunsListed,
@@ -72,9 +51,6 @@ found_answer (Err fault) = Err fault
 -- no longer than the greatest where it is held in memory; `build` has none
 abbrev pub IsImageOf : (List ℕ → Option (List ℕ)) → Parsed → List ℕ → Type 0
 IsImageOf told (ScanParsed options name) image = AreOf (told name) image
-IsImageOf told (CheckParsed options shape name) image = AreLoaded (told name) image
-IsImageOf told (ListParsed options decompress name path) image = AreLoaded (told name) image
-IsImageOf told (CatParsed options decompress name word) image = AreLoaded (told name) image
 IsImageOf told (BuildParsed options blocks page listing output) image = image ≡ []
 IsImageOf told (AppendParsed options blocks page decompress name listing output) image =
     AreLoaded (told name) image
@@ -126,19 +102,6 @@ abbrev pub PutsAnswer : (List ℕ → Option (List ℕ)) → Held → Endian →
     → Result ℕ ProgramFault → Type 0
 PutsAnswer told held e (ScanParsed options name) =
     PutsNamed name (PutsStream e options.geometry.block)
-PutsAnswer told held e (CheckParsed options shape name) =
-    PutsJudged e options.geometry.block shape
-PutsAnswer told held e (ListParsed options decompress name None) =
-    PutsTaken decompress e options.geometry.block
-    (PutsListing (list_request e options.geometry.block None))
-PutsAnswer told held e (ListParsed options decompress name (Some word)) =
-    λ image sink answer. (path : List ℕ) × (path_of word ≡ Some path)
-    × PutsTaken decompress e options.geometry.block
-    (PutsListing (list_request e options.geometry.block (Some path))) image sink answer
-PutsAnswer told held e (CatParsed options decompress name word) =
-    λ image sink answer. (path : List ℕ) × (path_of word ≡ Some path)
-    × PutsTaken decompress e options.geometry.block
-    (λ bytes. PutsFile e options.geometry.block bytes path) image sink answer
 PutsAnswer told held e (BuildParsed options blocks page listing output) =
     λ image sink answer.
     RunsListed told held (image_form page e options.geometry.block blocks) listing output image
@@ -173,27 +136,10 @@ IsUnopened name (program.TooLong addr) = ⊥
 IsUnopened name (program.Image fault) = ⊥
 
 -- Why no image is read: its file can't be opened, or not be read to its end where it is held in
--- memory. The word of a path is judged before the file is opened, and the size of a block before
--- `check` reads it. Where an image is written, the listing comes after it, and after what
--- `decompress` makes of it.
+-- memory. Where an image is written, the listing comes after it, and after what `decompress` makes
+-- of it.
 abbrev pub IsEarlyFault : (List ℕ → Option (List ℕ)) → Endian → Parsed → ProgramFault → Type 0
 IsEarlyFault told e (ScanParsed options image) fault = IsUnopened image fault
-IsEarlyFault told e (CheckParsed options shape image) (program.Scan scan.BlockSize) =
-    IsFalse (is_block_size options.geometry.block)
-IsEarlyFault told e (CheckParsed options shape image) fault =
-    IsUnreadFile image (told image) fault
-IsEarlyFault told e (ListParsed options decompress image None) fault =
-    IsUnreadFile image (told image) fault
-IsEarlyFault told e (ListParsed options decompress image (Some word)) (program.Path find.BadPath) =
-    path_of word ≡ None
-IsEarlyFault told e (ListParsed options decompress image (Some word)) program.OutOfMemory = Unit {0}
-IsEarlyFault told e (ListParsed options decompress image (Some word)) fault =
-    IsUnreadFile image (told image) fault × IsTrue (is_some (path_of word))
-IsEarlyFault told e (CatParsed options decompress image word) (program.Path find.BadPath) =
-    path_of word ≡ None
-IsEarlyFault told e (CatParsed options decompress image word) program.OutOfMemory = Unit {0}
-IsEarlyFault told e (CatParsed options decompress image word) fault =
-    IsUnreadFile image (told image) fault × IsTrue (is_some (path_of word))
 IsEarlyFault told e (BuildParsed options blocks page listing output) fault =
     IsUnreadFile listing (told listing) fault
 IsEarlyFault told e (AppendParsed options blocks page decompress image listing output) fault =
@@ -204,12 +150,10 @@ IsEarlyFault told e (AppendParsed options blocks page decompress image listing o
 IsEarlyFault told e (DecompressParsed options force image output) fault =
     IsUnreadFile image (told image) fault
 
--- of a size that no block has `check` says so where it could open the image, and nothing else;
--- other requests mount it
+-- of a size that no block has `check --scan` says so where it could open the image, and nothing
+-- else; other requests mount it
 abbrev pub TellsBlockSize : Parsed → Result ℕ ProgramFault → Type 0
 TellsBlockSize (ScanParsed options image) answer =
-    IsErrAnd answer (λ fault. (fault ≡ program.Scan scan.BlockSize) ⊎ IsUnopened image fault)
-TellsBlockSize (CheckParsed options shape image) answer =
     IsErrAnd answer (λ fault. (fault ≡ program.Scan scan.BlockSize) ⊎ IsUnopened image fault)
 TellsBlockSize _ answer = Unit {0}
 
@@ -266,9 +210,6 @@ MeetsWhole told held parsed = GoesOut (Meets told held (options_parsed parsed).e
 -- told of where no node is found
 abbrev pub success_of : Parsed → ℕ → Option ℕ → Success
 success_of (ScanParsed options image) n others = success.Found n
-success_of (CheckParsed options shape image) n others = success.Found n
-success_of (ListParsed options decompress image path) n others = success.Shown n others
-success_of (CatParsed options decompress image path) n others = success.Shown n others
 success_of (BuildParsed options blocks page listing output) n others = success.Shown n None
 success_of (AppendParsed options blocks page decompress image listing output) n others =
     success.Shown n others

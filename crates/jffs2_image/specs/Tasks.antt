@@ -7,18 +7,15 @@ use Rattle.jnode.specs.declared.order.Endian.{Endian}
 use Rattle.jnode.specs.declared.order.Endian.TheVariants as endian
 use Rattle.jcommand.specs.Parsed.{IsFaultless, TaskParsed, options_of, parsed_from, placing_from}
 use Rattle.jcommand.specs.declared.parsed.Request.{Request}
-use Rattle.jcommand.specs.declared.parsed.Task.{Task}
-use Rattle.jcommand.specs.declared.parsed.Task.TheVariants as task
+use Rattle.jcommand.specs.declared.parsed.Work.{Work}
+use Rattle.jcommand.specs.declared.parsed.Work.TheVariants as work
 use Rattle.jcommand.specs.declared.command_line.RequestFault.{RequestFault}
 use Rattle.jcommand.specs.declared.outcome.Outcome.{Outcome}
 use Rattle.jffs2_image.specs.ClashRuns.{RunsApart}
 use Rattle.jffs2_image.specs.Compressing.{RunsCompress}
 use Rattle.jffs2_image.specs.CutRuns.{RunsCuts}
-use Rattle.jffs2_image.specs.DamageRuns.{RunsDamage}
-use Rattle.jffs2_image.specs.DiffRuns.{RunsDiff}
 use Rattle.jffs2_image.specs.FolderRuns.{RunsExtract, RunsListing}
 use Rattle.jffs2_image.specs.Host.{BlamesCommand}
-use Rattle.jffs2_image.specs.InfoRuns.{RunsInfo}
 use Rattle.jffs2_image.specs.PackRuns.{PackAround, RunsPack}
 use Rattle.jffs2_image.specs.Placing.{Putting, Running, RunsPlaced, Tellings, intent_of, writes}
 use Rattle.jffs2_image.specs.Runs.{IsCommand, RunsCommand, Says}
@@ -94,42 +91,35 @@ pack_around a = record {
   errors = a.errors;
 }
 
--- the byte order that a task is given, where it is given one
-abbrev pub order_asked : Task → Endian
-order_asked (task.Image request) = (options_of request).endian
-order_asked (task.Weak request) = (options_of request).endian
-order_asked (task.Extract asked) = asked.options.endian
-order_asked (task.Listing asked) = endian.Little
-order_asked (task.Info image) = endian.Little
-order_asked (task.Cuts asked) = asked.options.endian
-order_asked (task.Compress asked) = asked.options.endian
-order_asked (task.Diff asked) = asked.options.endian
-order_asked (task.Apart asked) = asked.options.endian
-order_asked (task.Damage asked) = asked.options.endian
-order_asked (task.Pack asked) = asked.options.endian
+-- the byte order that a work is given, where it is given one
+abbrev pub order_asked : Work → Endian
+order_asked (work.Image request) = (options_of request).endian
+order_asked (work.Weak request) = (options_of request).endian
+order_asked (work.Extract asked) = asked.options.endian
+order_asked (work.Listing asked) = endian.Little
+order_asked (work.Cuts asked) = asked.options.endian
+order_asked (work.Compress asked) = asked.options.endian
+order_asked (work.Apart asked) = asked.options.endian
+order_asked (work.Pack asked) = asked.options.endian
 
 -- rule: What is printed: The output, the messages and the end of a run.
 --   definitions: jffs2_image.Tasks.RunsTask, jffs2_image.Runs.RunsCommand, jffs2_image.Runs.Meets
---   code: jffs2_image::program::run, jffs2_image::tasks::run_task, jffs2_image::output::finished
+--   code: jffs2_image::program::run, jffs2_image::tasks::run_work, jffs2_image::output::finished
 -- The words make a request, whose answer goes out, or are answered by a text; or they ask to fill
--- or to read a folder, for what an image tells of itself, for what stands after a stop of writing
--- one, to compress one, for what the trees of two images differ in, to decompress one without nodes
--- that clash, to write one with notes on its weak nodes, for what the damage of one costs, or to
--- make one of a folder.
+-- or to read a folder, for what stands after a stop of writing an image, to compress one, to
+-- decompress one without nodes that clash, to write one with notes on its weak nodes, or to make
+-- one of a folder.
 abbrev pub RunsTask : List (List ℕ) → Around → Untouched → Outcome → Type 0
 RunsTask args a same result =
     RunsImage args a same result
     ⊎ same.output × same.maker × ExtractRuns args a result
     ⊎ same.loader × same.maker × (a.folders.made_new ≡ a.folders.made_old)
     × ListingRuns args a same result
-    ⊎ same.maker × same.folders × RunsInfo args a.reading same.output a.output a.errors result
     ⊎ same.maker × same.folders
     × RunsCuts args a.reading a.output a.errors result
     ⊎ same.folders × RunsCompress args a.reading a.writing same.maker a.output a.errors result
-    ⊎ same.maker × same.folders × RunsDiff args a.reading same.output a.output a.errors result
     ⊎ same.folders × RunsApart args a.reading a.writing same.maker a.output a.errors result
     ⊎ same.folders × RunsWeak args a.reading a.writing same.maker a.output a.errors result
-    ⊎ same.maker × same.folders × RunsDamage args a.reading same.output a.output a.errors result
     ⊎ (a.folders.made_new ≡ a.folders.made_old)
     × RunsPack args same.maker same.output a.folders.reads (pack_around a) result
 

@@ -1,9 +1,9 @@
 //! Reads and writes flash images of JFFS2: the program `jffs2_image`.
 //!
-//! `jcommand` reads the command line, and `tasks` runs what it asks for, in the byte order that it
-//! names: each command opens its files, puts what it has to, and reports how that ended. `looking`
-//! lets `jreport` do the work over images, and `writing` makes images by `jbuild`. `main` hands over
-//! the process's arguments and streams.
+//! `jcommand` reads the command line. A command that prints something of images is run by `jedge`,
+//! on the `SystemHost` (`inspecting`). `tasks` runs any other, in the byte order that it names:
+//! each opens its files, puts what it has to, and reports how that ended. `writing` makes images by
+//! `jbuild`. `main` hands over the process's arguments and streams.
 #![tactic(auto)]
 
 ghost use Rattle.std.specs.Prelude.{◌≡◌, IfOk, map, string_bytes};
@@ -12,14 +12,12 @@ ghost use Rattle.std.specs.Vec.Iter.{into_iter_items};
 pub mod clashes;
 pub mod compressing;
 pub mod cuts;
-pub mod damage;
 pub mod decompressing;
-pub mod diff;
 pub mod filling;
 mod first;
 mod folders;
 pub mod host;
-pub mod info;
+pub mod inspecting;
 mod judging;
 mod keeping;
 mod kept;
@@ -33,6 +31,7 @@ mod refusing;
 mod replacing;
 pub mod source;
 pub mod system;
+pub mod system_host;
 pub mod tasks;
 mod weak;
 pub mod writing;
@@ -51,6 +50,7 @@ use std::process::ExitCode;
 use std::rt::{Env, Files};
 use std::{env, fs, io};
 use system::SystemFolders;
+use system_host::SystemHost;
 
 /// The arguments of the command line. Those that are not UTF-8 are `InvalidData`.
 fn args_of<R: Env + AllocGlobal>(rt: &R) -> io::Result<Vec<String>> {
@@ -100,12 +100,13 @@ fn run(rt: &HostRuntime) -> Outcome {
     let Ok(mut output) = BufferedOutput::new(rt.alloc(), rt.stdout()) else {
         return report_fault(&ProgramFault::OutOfMemory, &mut errors);
     };
+    let mut host = SystemHost::new(rt);
     let kept = Cell::new(None);
     let mut loader = FileLoader::new(rt, &kept);
     let mut maker = FileMaker::new(rt);
     let mut folders = SystemFolders::new(rt, rt.stderr().is_terminal(), &kept);
     program::run(
-        rt.alloc(),
+        &mut host,
         &mut loader,
         &mut maker,
         &mut folders,

@@ -6,6 +6,7 @@ ghost use Rattle.jcommand.specs.Status.{outcome_of};
 ghost use Rattle.jcommand.specs.Parsed.{BuildParsed, AppendParsed, DecompressParsed, is_unplaced, options_of, placing_from, view};
 ghost use Rattle.jreport.specs.Advice.{fault_lines_of};
 ghost use Rattle.jffs2_image.specs.Host.{Blames, BlamesCommand, BlamesDecompress, BlamesFor, HasFailed, MakesFile};
+ghost use Rattle.jffs2_image.specs.Inspecting.{RunsInspection};
 ghost use Rattle.jffs2_image.specs.Looking.{NotesOthers, TellsNoneOf};
 ghost use Rattle.jffs2_image.specs.WeakRuns.{HasNotes};
 ghost use Rattle.jffs2_image.specs.Tasks.{RunsAsked, RunsTask, fills, passage, reads};
@@ -17,23 +18,25 @@ ghost use Rattle.flashbase.specs.Sinks.{PutsTo, change_of};
 use crate::decompressing::{decompress_into, noting, subject_of};
 use crate::folders::Folders;
 use crate::host::{Loader, Maker};
+use crate::inspecting::run_inspection;
 use crate::judging::judge_image;
 use crate::loading::load_file;
-use crate::looking::{cat, check, list, scan};
+use crate::looking::scan;
 use crate::output::{Output, finished};
 use crate::placing::Placer;
-use crate::tasks::run_placed;
+use crate::tasks::{Placed, run_placed};
 use crate::weak::{Noted, Notes};
 use crate::writing::{Texts, Writing, write_image};
 use flashbase::{Sink, put_all};
-use jcommand::{Options, Outcome, Request, RequestFault, Target, asked};
+use jcommand::{Asked, Options, Outcome, Request, RequestFault, Target, Task, asked};
+use jedge::host::Host;
 use jnode::Order;
 use jreport::{ProgramFault, others_if_none, put_fault_and_note, put_none_notes, put_note};
 use std::alloc::Global;
 
 /// What a run comes to that went well.
 pub enum Success {
-    /// `check` found so much.
+    /// `check --scan` found so much.
     Found(u64),
     /// What was asked for was shown, of an image with so many findings to note. Where no node is
     /// found in it, the other byte order has so many others.
@@ -204,41 +207,6 @@ fn run_in_order<'a, E: Order, L: Loader, M: Maker, T: Sink>(
     noted.others = None;
     match request {
         Request::Scan { options, image } => scan::<E, _, _>(alloc, loader, options, image, sink),
-        Request::Check {
-            options,
-            shape,
-            image,
-        } => check::<E, _, _>(alloc, loader, options, shape, image, sink),
-        Request::List {
-            options,
-            decompress,
-            image,
-            path,
-        } => list::<E, _, _>(
-            alloc,
-            loader,
-            options,
-            decompress,
-            image,
-            path,
-            &mut noted.others,
-            sink,
-        ),
-        Request::Cat {
-            options,
-            decompress,
-            image,
-            path,
-        } => cat::<E, _, _>(
-            alloc,
-            loader,
-            options,
-            decompress,
-            image,
-            path,
-            &mut noted.others,
-            sink,
-        ),
         Request::Build { target, listing } => {
             build::<E, _, _, _>(
                 alloc,
@@ -324,10 +292,8 @@ fn as_success(request: &Request<'_>, findings: u64, others: Option<u64>) -> Succ
     ensures { result ≡ success_of (view request.now) findings others }
 {
     match request {
-        Request::Scan { .. } | Request::Check { .. } => Success::Found(findings),
-        Request::List { .. } | Request::Cat { .. } | Request::Append { .. } => {
-            Success::Shown { findings, others }
-        }
+        Request::Scan { .. } => Success::Found(findings),
+        Request::Append { .. } => Success::Shown { findings, others },
         Request::Build { .. } => Success::Shown {
             findings,
             others: None,
@@ -444,7 +410,7 @@ pub(crate) fn either_found(one: u64, other: u64) -> u64
 }
 
 /// Reports what a command line was answered, and how that ends. A fault is told in one line, which a
-/// note may follow; `ls`, `cat` and `decompress` note what they passed over.
+/// note may follow; `append` and `decompress` note what they passed over.
 fn report_answer<N: Sink>(answer: Result<Success, Stop<'_>>, errors: &mut N) -> Outcome
     ensures ends { result ≡ outcome_after answer.entry }
     ensures said { Says (errors.new ≡ errors.old) (N.taken errors.old) (N.taken errors.new)
@@ -497,8 +463,8 @@ fn run_refused<T: Output, N: Sink>(fault: RequestFault, output: &mut T, errors: 
 }
 
 /// Runs the program on its arguments, of which the first is its own name.
-pub fn run<L: Loader, M: Placer, D: Folders, T: Output, E: Sink>(
-    alloc: Global,
+pub fn run<H: Host, L: Loader, M: Placer, D: Folders, T: Output, E: Sink>(
+    host: &mut H,
     loader: &mut L,
     maker: &mut M,
     folders: &mut D,
@@ -506,10 +472,18 @@ pub fn run<L: Loader, M: Placer, D: Folders, T: Output, E: Sink>(
     output: &mut T,
     errors: &mut E,
 ) -> Outcome
-    // Where nothing is asked for about the file that is written, the words say what is done.
+    // A command that prints something of images is its act on the host. Any other words leave that
+    // alone, and where nothing is asked for about the file that is written, say what is done.
     ensures plain { let words = map (λ w. w.now) args.now in
         is_unplaced (placing_from words) ≡ true
-        → RunsTask words (record {
+        → RunsInspection words (H.history host.old) (H.history host.new) (record {
+          loader = loader.new ≡ loader.old;
+          maker = maker.new ≡ maker.old;
+          folders = folders.new ≡ folders.old;
+          output = output.new ≡ output.old;
+          errors = errors.new ≡ errors.old;
+        }) result
+        ⊎ (H.history host.new ≡ H.history host.old) × RunsTask words (record {
           reading = reads L.told L.failures loader.old loader.new;
           writing = writes (telling M.names M.held M.failures) maker.old maker.new;
           folders = fills D.made D.reads folders.old folders.new;
@@ -524,7 +498,15 @@ pub fn run<L: Loader, M: Placer, D: Folders, T: Output, E: Sink>(
         }) result }
     // Else it is filled up, or takes its name when all is written; or the words make no task.
     ensures placed { let words = map (λ w. w.now) args.now in
-        RunsAsked (tellings (telling M.names M.held M.failures)
+        RunsInspection words (H.history host.old) (H.history host.new) (record {
+          loader = loader.new ≡ loader.old;
+          maker = maker.new ≡ maker.old;
+          folders = folders.new ≡ folders.old;
+          output = output.new ≡ output.old;
+          errors = errors.new ≡ errors.old;
+        }) result
+        ⊎ (H.history host.new ≡ H.history host.old)
+        × RunsAsked (tellings (telling M.names M.held M.failures)
         (telling M.Beside.names M.Beside.held M.Beside.failures))
         (SaysOn E.taken E.failures)
         words (λ put files same last ended. RunsTask words (record {
@@ -548,8 +530,16 @@ pub fn run<L: Loader, M: Placer, D: Folders, T: Output, E: Sink>(
         × (M.held maker.new ≡ M.held maker.old)
         ⊎ HasFailed (T.failures output.old) (T.failures output.new) }
 {
-    match asked(alloc, args) {
-        Ok(asked) => run_placed(alloc, loader, maker, folders, asked, output, errors),
-        Err(fault) => run_refused(fault, output, errors),
+    let alloc = host.alloc();
+    let Asked { task, placing } = match asked(alloc, args) {
+        Ok(asked) => asked,
+        Err(fault) => return run_refused(fault, output, errors),
+    };
+    match task {
+        Task::Inspect(asked) => run_inspection(host, asked),
+        Task::Work(work) => {
+            let asked = Placed { work, placing };
+            run_placed(alloc, loader, maker, folders, asked, output, errors)
+        }
     }
 }

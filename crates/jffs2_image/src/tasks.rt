@@ -1,18 +1,15 @@
-//! A task is run, and the file that it wrote is filled up and takes its name.
+//! A work is run, and the file that it wrote is filled up and takes its name.
 ghost use Rattle.std.specs.Prelude.{◌≡◌, ℕ, List, Some, true};
-ghost use Rattle.jcommand.specs.Parsed.{task_view, view};
+ghost use Rattle.jcommand.specs.Parsed.{view, work_view};
 ghost use Rattle.jffs2_image.specs.Placing.{FillsIf, FillsUp, PutsHeld, RunsBeside, RunsFilled, RunsHeld, RunsIntended, RunsPlaced, SaysOn, TakesName, flash_end, flash_end_of, is_well, intent_of, putting, telling, tellings, writes, written_by, written_by_request};
 ghost use Rattle.jffs2_image.specs.Tasks.{Asks, RunsTask, fills, order_asked, passage, reads};
 
 use crate::clashes::run_apart;
 use crate::compressing::run_compress;
 use crate::cuts::run_cuts;
-use crate::damage::run_damage;
-use crate::diff::run_diff;
 use crate::filling::Filling;
 use crate::folders::{Folders, run_extract, run_listing};
 use crate::host::{Loader, Maker};
-use crate::info::run_info;
 use crate::output::{HeldLine, Output};
 use crate::packing::run_pack;
 use crate::placing::Placer;
@@ -20,11 +17,18 @@ use crate::program::{put_whole, report_fault, run_image};
 use crate::weak::run_weak;
 use byteorder::{BigEndian, LittleEndian};
 use flashbase::Sink;
-use jcommand::{Asked, Options, Outcome, Placing, Request, Task};
+use jcommand::{Options, Outcome, Placing, Request, Work};
 use jlog::SessionFault;
 use jnode::{Endian, Order};
 use jreport::{Cause, ProgramFault, Unopened};
 use std::alloc::Global;
+
+/// A work, and what is done about the file that it writes.
+#[derive(Clone, Copy)]
+pub struct Placed<'a> {
+    pub work: Work<'a>,
+    pub placing: Placing,
+}
 
 /// The end of a flash of so many blocks.
 fn flash_end(options: Options, blocks: u32) -> Filling
@@ -47,27 +51,21 @@ fn written_by_request<'a>(request: Request<'a>) -> (&'a str, Filling)
             output,
             ..
         } => (output, Filling::Block(options.geometry.block)),
-        Request::Scan { .. } | Request::Check { .. } | Request::List { .. } | Request::Cat { .. } =>
-            ("", Filling::Length(0)),
+        Request::Scan { .. } => ("", Filling::Length(0)),
     }
 }
 
-/// The same of a task.
-fn written_by<'a>(task: Task<'a>) -> (&'a str, Filling)
-    ensures name { result.0.now ≡ (written_by (task_view task.entry)).0 }
-    ensures filling { result.1 ≡ (written_by (task_view task.entry)).1 }
+/// The same of a work.
+fn written_by<'a>(work: Work<'a>) -> (&'a str, Filling)
+    ensures name { result.0.now ≡ (written_by (work_view work.entry)).0 }
+    ensures filling { result.1 ≡ (written_by (work_view work.entry)).1 }
 {
-    match task {
-        Task::Image(request) | Task::Weak(request) => written_by_request(request),
-        Task::Compress(asked) => (asked.output, Filling::Block(asked.options.geometry.block)),
-        Task::Apart(asked) => (asked.output, Filling::Block(asked.options.geometry.block)),
-        Task::Pack(asked) => (asked.output, packed_end(asked.options, asked.blocks)),
-        Task::Extract(_)
-        | Task::Listing(_)
-        | Task::Info { .. }
-        | Task::Cuts(_)
-        | Task::Diff(_)
-        | Task::Damage(_) => ("", Filling::Length(0)),
+    match work {
+        Work::Image(request) | Work::Weak(request) => written_by_request(request),
+        Work::Compress(asked) => (asked.output, Filling::Block(asked.options.geometry.block)),
+        Work::Apart(asked) => (asked.output, Filling::Block(asked.options.geometry.block)),
+        Work::Pack(asked) => (asked.output, packed_end(asked.options, asked.blocks)),
+        Work::Extract(_) | Work::Listing(_) | Work::Cuts(_) => ("", Filling::Length(0)),
     }
 }
 
@@ -116,16 +114,16 @@ fn fill_up<M: Maker, E: Sink>(
     }
 }
 
-/// The same where it is asked for and the task went well.
+/// The same where it is asked for and the work went well.
 fn fill_if<'a, M: Maker, E: Sink>(
     maker: &mut M,
-    task: Task<'a>,
+    work: Work<'a>,
     placing: Placing,
     ended: Outcome,
     errors: &mut E,
 ) -> Outcome
     ensures { FillsIf (SaysOn E.taken E.failures)
-        (intent_of placing (task_view task.entry)) (maker.new ≡ maker.old)
+        (intent_of placing (work_view work.entry)) (maker.new ≡ maker.old)
         (writes (telling M.names M.held M.failures) maker.old maker.new)
         (errors.old, errors.new) ended result }
 {
@@ -135,7 +133,7 @@ fn fill_if<'a, M: Maker, E: Sink>(
     if !is_well(ended) {
         return ended;
     }
-    let (_, filling) = written_by(task);
+    let (_, filling) = written_by(work);
     fill_up(maker, filling, ended, errors)
 }
 
@@ -162,35 +160,33 @@ fn settle<M: Placer, E: Sink>(
     }
 }
 
-/// The byte order that a task is given. `info` finds out its own, and `listing` reads no image.
-fn order_of(task: Task<'_>) -> Endian
-    ensures { result ≡ order_asked task.entry }
+/// The byte order that a work is given. `listing` reads no image.
+fn order_of(work: Work<'_>) -> Endian
+    ensures { result ≡ order_asked work.entry }
 {
-    match task {
-        Task::Image(request) | Task::Weak(request) => request.options().endian,
-        Task::Extract(asked) => asked.options.endian,
-        Task::Cuts(asked) => asked.options.endian,
-        Task::Compress(asked) => asked.options.endian,
-        Task::Diff(asked) => asked.options.endian,
-        Task::Apart(asked) => asked.options.endian,
-        Task::Damage(asked) => asked.options.endian,
-        Task::Pack(asked) => asked.options.endian,
-        Task::Listing(_) | Task::Info { .. } => Endian::Little,
+    match work {
+        Work::Image(request) | Work::Weak(request) => request.options().endian,
+        Work::Extract(asked) => asked.options.endian,
+        Work::Cuts(asked) => asked.options.endian,
+        Work::Compress(asked) => asked.options.endian,
+        Work::Apart(asked) => asked.options.endian,
+        Work::Pack(asked) => asked.options.endian,
+        Work::Listing(_) => Endian::Little,
     }
 }
 
-/// Runs a task in the byte order that it is given.
-fn run_task_in<'a, E: Order, L: Loader, M: Maker, D: Folders, T: Output, N: Sink>(
+/// Runs a work in the byte order that it is given.
+fn run_work_in<'a, E: Order, L: Loader, M: Maker, D: Folders, T: Output, N: Sink>(
     alloc: Global,
     loader: &mut L,
     maker: &mut M,
     folders: &mut D,
-    task: Task<'a>,
+    work: Work<'a>,
     output: &mut T,
     errors: &mut N,
 ) -> Outcome
-    requires { order_asked task ≡ E.order }
-    ensures { (words : List (List ℕ)) → Asks words (task_view task.entry)
+    requires { order_asked work ≡ E.order }
+    ensures { (words : List (List ℕ)) → Asks words (work_view work.entry)
         → RunsTask words (record {
           reading = reads L.told L.failures loader.old loader.new;
           writing = writes (telling M.names M.held M.failures) maker.old maker.new;
@@ -205,43 +201,40 @@ fn run_task_in<'a, E: Order, L: Loader, M: Maker, D: Folders, T: Output, N: Sink
           errors = errors.new ≡ errors.old;
         }) result }
 {
-    match task {
-        Task::Image(request) => {
+    match work {
+        Work::Image(request) => {
             run_image::<E, L, M, T, N>(alloc, loader, maker, request, output, errors)
         }
-        Task::Weak(request) => {
+        Work::Weak(request) => {
             run_weak::<E, L, M, T, N>(alloc, loader, maker, request, output, errors)
         }
-        Task::Extract(asked) => run_extract::<E, L, D, N>(alloc, loader, folders, asked, errors),
-        Task::Listing(asked) => run_listing(alloc, folders, asked, output, errors),
-        Task::Info { image } => run_info(alloc, loader, image, output, errors),
-        Task::Cuts(asked) => run_cuts::<E, L, T, N>(alloc, loader, asked, output, errors),
-        Task::Compress(asked) => {
+        Work::Extract(asked) => run_extract::<E, L, D, N>(alloc, loader, folders, asked, errors),
+        Work::Listing(asked) => run_listing(alloc, folders, asked, output, errors),
+        Work::Cuts(asked) => run_cuts::<E, L, T, N>(alloc, loader, asked, output, errors),
+        Work::Compress(asked) => {
             run_compress::<E, L, M, T, N>(alloc, loader, maker, asked, output, errors)
         }
-        Task::Diff(asked) => run_diff::<E, L, T, N>(alloc, loader, asked, output, errors),
-        Task::Apart(asked) => {
+        Work::Apart(asked) => {
             run_apart::<E, L, M, T, N>(alloc, loader, maker, asked, output, errors)
         }
-        Task::Damage(asked) => run_damage::<E, L, T, N>(alloc, loader, asked, output, errors),
-        Task::Pack(asked) => {
+        Work::Pack(asked) => {
             run_pack::<E, L, M, D, T, N>(alloc, loader, maker, folders, asked, output, errors)
         }
     }
 }
 
-/// Runs a task, as if nothing were done about the file that it writes. All that is done with an
+/// Runs a work, as if nothing were done about the file that it writes. All that is done with an
 /// image from here on is done in its byte order.
-fn run_task<'a, L: Loader, M: Maker, D: Folders, T: Output, E: Sink>(
+fn run_work<'a, L: Loader, M: Maker, D: Folders, T: Output, E: Sink>(
     alloc: Global,
     loader: &mut L,
     maker: &mut M,
     folders: &mut D,
-    task: Task<'a>,
+    work: Work<'a>,
     output: &mut T,
     errors: &mut E,
 ) -> Outcome
-    ensures { (words : List (List ℕ)) → Asks words (task_view task.entry)
+    ensures { (words : List (List ℕ)) → Asks words (work_view work.entry)
         → RunsTask words (record {
           reading = reads L.told L.failures loader.old loader.new;
           writing = writes (telling M.names M.held M.failures) maker.old maker.new;
@@ -256,30 +249,30 @@ fn run_task<'a, L: Loader, M: Maker, D: Folders, T: Output, E: Sink>(
           errors = errors.new ≡ errors.old;
         }) result }
 {
-    match order_of(task) {
-        Endian::Little => run_task_in::<LittleEndian, L, M, D, T, E>(
-            alloc, loader, maker, folders, task, output, errors,
+    match order_of(work) {
+        Endian::Little => run_work_in::<LittleEndian, L, M, D, T, E>(
+            alloc, loader, maker, folders, work, output, errors,
         ),
-        Endian::Big => run_task_in::<BigEndian, L, M, D, T, E>(
-            alloc, loader, maker, folders, task, output, errors,
+        Endian::Big => run_work_in::<BigEndian, L, M, D, T, E>(
+            alloc, loader, maker, folders, work, output, errors,
         ),
     }
 }
 
-/// Runs a task, and fills up the file that it made, where that is asked for and it went well.
+/// Runs a work, and fills up the file that it made, where that is asked for and it went well.
 fn run_filled<'a, L: Loader, M: Maker, D: Folders, T: Output, E: Sink>(
     alloc: Global,
     loader: &mut L,
     maker: &mut M,
     folders: &mut D,
-    asked: Asked<'a>,
+    asked: Placed<'a>,
     output: &mut T,
     errors: &mut E,
 ) -> Outcome
-    ensures { (words : List (List ℕ)) → Asks words (task_view asked.entry.task)
+    ensures { (words : List (List ℕ)) → Asks words (work_view asked.entry.work)
         → RunsFilled (telling M.names M.held M.failures)
         (SaysOn E.taken E.failures)
-        (intent_of asked.entry.placing (task_view asked.entry.task))
+        (intent_of asked.entry.placing (work_view asked.entry.work))
         (λ files same last ended. RunsTask words (record {
           reading = reads L.told L.failures loader.old loader.new;
           writing = files;
@@ -294,27 +287,27 @@ fn run_filled<'a, L: Loader, M: Maker, D: Folders, T: Output, E: Sink>(
           errors = last ≡ errors.old;
         }) ended) maker.old maker.new errors.new result }
 {
-    let Asked { task, placing } = asked;
-    let ended = run_task(alloc, loader, maker, folders, task, output, errors);
-    fill_if(maker, task, placing, ended, errors)
+    let Placed { work, placing } = asked;
+    let ended = run_work(alloc, loader, maker, folders, work, output, errors);
+    fill_if(maker, work, placing, ended, errors)
 }
 
-/// Runs a task over a maker of files beside those of their names, which they take where it went
+/// Runs a work over a maker of files beside those of their names, which they take where it went
 /// well.
 fn run_beside<'a, L: Loader, M: Placer, D: Folders, T: Output, E: Sink>(
     alloc: Global,
     loader: &mut L,
     maker: &mut M,
     folders: &mut D,
-    asked: Asked<'a>,
+    asked: Placed<'a>,
     output: &mut T,
     errors: &mut E,
 ) -> Outcome
-    ensures { (words : List (List ℕ)) → Asks words (task_view asked.entry.task)
+    ensures { (words : List (List ℕ)) → Asks words (work_view asked.entry.work)
         → RunsBeside (tellings (telling M.names M.held M.failures)
         (telling M.Beside.names M.Beside.held M.Beside.failures))
         (SaysOn E.taken E.failures)
-        (intent_of asked.entry.placing (task_view asked.entry.task))
+        (intent_of asked.entry.placing (work_view asked.entry.work))
         (λ files same last ended. RunsTask words (record {
           reading = reads L.told L.failures loader.old loader.new;
           writing = files;
@@ -331,25 +324,25 @@ fn run_beside<'a, L: Loader, M: Placer, D: Folders, T: Output, E: Sink>(
 {
     let mut beside = maker.beside();
     let ended = run_filled(alloc, loader, &mut beside, folders, asked, output, errors);
-    let (name, _) = written_by(asked.task);
+    let (name, _) = written_by(asked.work);
     settle(maker, beside, name, ended, errors)
 }
 
-/// Runs a task, and fills up the file that it writes or gives it its name, as is asked for.
+/// Runs a work, and fills up the file that it writes or gives it its name, as is asked for.
 fn run_intended<'a, L: Loader, M: Placer, D: Folders, T: Output, E: Sink>(
     alloc: Global,
     loader: &mut L,
     maker: &mut M,
     folders: &mut D,
-    asked: Asked<'a>,
+    asked: Placed<'a>,
     output: &mut T,
     errors: &mut E,
 ) -> Outcome
-    ensures { (words : List (List ℕ)) → Asks words (task_view asked.entry.task)
+    ensures { (words : List (List ℕ)) → Asks words (work_view asked.entry.work)
         → RunsIntended (tellings (telling M.names M.held M.failures)
         (telling M.Beside.names M.Beside.held M.Beside.failures))
         (SaysOn E.taken E.failures)
-        (intent_of asked.entry.placing (task_view asked.entry.task))
+        (intent_of asked.entry.placing (work_view asked.entry.work))
         (λ files same last ended. RunsTask words (record {
           reading = reads L.told L.failures loader.old loader.new;
           writing = files;
@@ -391,22 +384,22 @@ fn put_held<T: Output, E: Sink>(
     }
 }
 
-/// Runs a task, and does about the file that it writes what is asked for. What it puts is held
+/// Runs a work, and does about the file that it writes what is asked for. What it puts is held
 /// until that is done.
 fn run_held<'a, L: Loader, M: Placer, D: Folders, T: Output, E: Sink>(
     alloc: Global,
     loader: &mut L,
     maker: &mut M,
     folders: &mut D,
-    asked: Asked<'a>,
+    asked: Placed<'a>,
     output: &mut T,
     errors: &mut E,
 ) -> Outcome
-    ensures { (words : List (List ℕ)) → Asks words (task_view asked.entry.task)
+    ensures { (words : List (List ℕ)) → Asks words (work_view asked.entry.work)
         → RunsHeld (tellings (telling M.names M.held M.failures)
         (telling M.Beside.names M.Beside.held M.Beside.failures))
         (SaysOn E.taken E.failures)
-        (intent_of asked.entry.placing (task_view asked.entry.task))
+        (intent_of asked.entry.placing (work_view asked.entry.work))
         (λ put files same last ended. RunsTask words (record {
           reading = reads L.told L.failures loader.old loader.new;
           writing = files;
@@ -427,21 +420,21 @@ fn run_held<'a, L: Loader, M: Placer, D: Folders, T: Output, E: Sink>(
     put_held(held.as_slice(), ended, output, errors)
 }
 
-/// Runs a task, and does about the file that it writes what is asked for.
+/// Runs a work, and does about the file that it writes what is asked for.
 pub fn run_placed<'a, L: Loader, M: Placer, D: Folders, T: Output, E: Sink>(
     alloc: Global,
     loader: &mut L,
     maker: &mut M,
     folders: &mut D,
-    asked: Asked<'a>,
+    asked: Placed<'a>,
     output: &mut T,
     errors: &mut E,
 ) -> Outcome
-    ensures { (words : List (List ℕ)) → Asks words (task_view asked.entry.task)
+    ensures { (words : List (List ℕ)) → Asks words (work_view asked.entry.work)
         → RunsPlaced (tellings (telling M.names M.held M.failures)
         (telling M.Beside.names M.Beside.held M.Beside.failures))
         (SaysOn E.taken E.failures)
-        (intent_of asked.entry.placing (task_view asked.entry.task))
+        (intent_of asked.entry.placing (work_view asked.entry.work))
         (λ put files same last ended. RunsTask words (record {
           reading = reads L.told L.failures loader.old loader.new;
           writing = files;
@@ -462,6 +455,6 @@ pub fn run_placed<'a, L: Loader, M: Placer, D: Folders, T: Output, E: Sink>(
     } else if asked.placing.atomic {
         run_held(alloc, loader, maker, folders, asked, output, errors)
     } else {
-        run_task(alloc, loader, maker, folders, asked.task, output, errors)
+        run_work(alloc, loader, maker, folders, asked.work, output, errors)
     }
 }

@@ -4,8 +4,8 @@
 use crate::checks::{equal, equal_at, expect, expect_at};
 use crate::command::packing::shown_packing;
 use jcommand::{
-    Asked, Comparison, Cuts, Examination, Extraction, FolderListing, Options, Outcome, Owner,
-    Placing, Request, RequestFault, Target, Task, asked, status,
+    Asked, Comparison, Cuts, Examination, Extraction, FolderListing, Inspection, Options, Outcome,
+    Owner, Placing, Request, RequestFault, Target, Task, Work, asked, status,
 };
 use jnode::Endian;
 use std::alloc::{AllocError, Global};
@@ -36,31 +36,6 @@ fn shown(alloc: Global, request: Request<'_>) -> Result<String, AllocError> {
     let order = order_name(endian);
     match request {
         Request::Scan { image, .. } => format!(in alloc; "scan {block} {order} {image}"),
-        Request::Check {
-            image,
-            shape: true,
-            ..
-        } => format!(in alloc; "check {block} {order} {image} shape"),
-        Request::Check { image, .. } => format!(in alloc; "check {block} {order} {image}"),
-        Request::List {
-            image,
-            decompress,
-            path,
-            ..
-        } => {
-            let mark = mark(decompress);
-            let path = path.unwrap_or("all");
-            format!(in alloc; "ls {block} {order} {image} {path}{mark}")
-        }
-        Request::Cat {
-            image,
-            path,
-            decompress,
-            ..
-        } => {
-            let mark = mark(decompress);
-            format!(in alloc; "cat {block} {order} {image} {path}{mark}")
-        }
         Request::Decompress {
             options,
             force,
@@ -82,6 +57,59 @@ fn shown(alloc: Global, request: Request<'_>) -> Result<String, AllocError> {
             format!(in alloc;
                 "append {block} {order} {blocks} {page} {image} {listing} {output}{mark}"
             )
+        }
+    }
+}
+
+/// An image that is looked at, in the same way; `name` is that of the command.
+fn shown_image(
+    alloc: Global,
+    name: &str,
+    options: Options,
+    image: &str,
+) -> Result<String, AllocError> {
+    let block = options.geometry.block;
+    let order = order_name(options.endian);
+    format!(in alloc; "{name} {block} {order} {image}")
+}
+
+/// What is printed of images, in the same way.
+fn shown_inspection(alloc: Global, asked: Inspection<'_>) -> Result<String, AllocError> {
+    match asked {
+        Inspection::Check {
+            options,
+            shape,
+            image,
+        } => {
+            let shape = if shape { " shape" } else { "" };
+            let image = shown_image(alloc, "check", options, image)?;
+            format!(in alloc; "{image}{shape}")
+        }
+        Inspection::List {
+            options,
+            decompress,
+            image,
+            path,
+        } => {
+            let mark = mark(decompress);
+            let path = path.unwrap_or("all");
+            let image = shown_image(alloc, "ls", options, image)?;
+            format!(in alloc; "{image} {path}{mark}")
+        }
+        Inspection::Cat {
+            options,
+            decompress,
+            image,
+            path,
+        } => {
+            let mark = mark(decompress);
+            let image = shown_image(alloc, "cat", options, image)?;
+            format!(in alloc; "{image} {path}{mark}")
+        }
+        Inspection::Info { image } => format!(in alloc; "info {image}"),
+        Inspection::Diff(asked) => shown_comparison(alloc, asked),
+        Inspection::Damage(Examination { options, image }) => {
+            shown_image(alloc, "damage", options, image)
         }
     }
 }
@@ -159,34 +187,32 @@ fn shown_copy(
     format!(in alloc; "{name} {block} {order} {image} {output}{force}")
 }
 
-fn shown_examination(alloc: Global, asked: Examination<'_>) -> Result<String, AllocError> {
-    let Examination { options, image } = asked;
-    let block = options.geometry.block;
-    let order = order_name(options.endian);
-    format!(in alloc; "damage {block} {order} {image}")
-}
-
 fn shown_weak(alloc: Global, request: Request<'_>) -> Result<String, AllocError> {
     let request = shown(alloc, request)?;
     format!(in alloc; "weak {request}")
 }
 
+/// Any other task in the same way.
+fn shown_work(alloc: Global, work: Work<'_>) -> Result<String, AllocError> {
+    match work {
+        Work::Image(request) => shown(alloc, request),
+        Work::Weak(request) => shown_weak(alloc, request),
+        Work::Extract(asked) => shown_extraction(alloc, asked),
+        Work::Listing(asked) => shown_listing(alloc, asked),
+        Work::Cuts(asked) => shown_cuts(alloc, asked),
+        Work::Compress(it) => {
+            shown_copy(alloc, "compress", it.options, it.force, it.image, it.output)
+        }
+        Work::Apart(it) => { shown_copy(alloc, "apart", it.options, it.force, it.image, it.output) }
+        Work::Pack(asked) => shown_packing(alloc, asked),
+    }
+}
+
 /// A task in the same way.
 fn shown_task(alloc: Global, task: Task<'_>) -> Result<String, AllocError> {
     match task {
-        Task::Image(request) => shown(alloc, request),
-        Task::Weak(request) => shown_weak(alloc, request),
-        Task::Extract(asked) => shown_extraction(alloc, asked),
-        Task::Listing(asked) => shown_listing(alloc, asked),
-        Task::Info { image } => format!(in alloc; "info {image}"),
-        Task::Cuts(asked) => shown_cuts(alloc, asked),
-        Task::Compress(it) => {
-            shown_copy(alloc, "compress", it.options, it.force, it.image, it.output)
-        }
-        Task::Diff(asked) => shown_comparison(alloc, asked),
-        Task::Apart(it) => { shown_copy(alloc, "apart", it.options, it.force, it.image, it.output) }
-        Task::Damage(asked) => shown_examination(alloc, asked),
-        Task::Pack(asked) => shown_packing(alloc, asked),
+        Task::Inspect(asked) => shown_inspection(alloc, asked),
+        Task::Work(work) => shown_work(alloc, work),
     }
 }
 

@@ -1,9 +1,7 @@
 //! Command lines that ask for a folder.
 
-use crate::checks::{equal, equal_at, expect_at};
+use crate::checks::{equal_at, expect_at};
 use crate::command::command_lines::answer_to;
-use jcommand::{Request, RequestFault, request};
-use std::alloc::Global;
 use std::test::Fail;
 
 /// Words, and what they ask for.
@@ -76,55 +74,4 @@ fn args_that_are_wrong_of_a_folder(rt: HostRuntime) -> Result<(), Fail> {
         expect_at(&rt, is_right, (line, answer));
     }
     Ok(())
-}
-
-/// The image that `check` is asked for, or what the words ask for else.
-fn image_of<'a>(alloc: Global, words: &'a [&'a str]) -> &'a str {
-    match request(alloc, words) {
-        Ok(Request::Check { image, .. }) => image,
-        Ok(_) => "another request",
-        Err(RequestFault::Usage { .. }) => "wrong",
-        Err(RequestFault::Help { .. }) => "help",
-        Err(RequestFault::OutOfMemory) => "no memory",
-    }
-}
-
-/// Words, and the image that they ask for.
-fn images() -> &'static [(&'static [&'static str], &'static str)] {
-    &[
-        (&["t", "check", "a.img", "--shape"], "a.img"),
-        (&["t", "cat", "a.img", "/b"], "another request"),
-        (&["t", "extract", "a.img", "b"], "wrong"),
-        (&["t", "listing", "a", "--quiet"], "wrong"),
-        (&["t", "decompress", "a.img", "b"], "another request"),
-        (&["t", "pack", "a", "b.img"], "wrong"),
-        (&["t", "info", "--", "a.img"], "wrong"),
-        (&["t", "compress", "a.img", "b"], "wrong"),
-        (&["t", "diff", "a.img", "b.img"], "wrong"),
-        (&["t", "check", "a.img", "b"], "wrong"),
-        (&["t", "check", "a.img", "--help"], "help"),
-    ]
-}
-
-#[test]
-fn a_request_is_of_an_image(rt: HostRuntime) {
-    for &(words, wanted) in images() {
-        equal(&rt, image_of(rt.alloc(), words), wanted);
-    }
-}
-
-/// What is to be done about the file that is written is no request of an image alone.
-#[test]
-fn a_request_has_no_placing(rt: HostRuntime) {
-    let examples = [
-        (["t", "build", "--blocks=2", "a", "b"], "another request"),
-        (["t", "decompress", "a.img", "b", "--atomic"], "wrong"),
-    ];
-    for (words, wanted) in &examples {
-        equal(&rt, image_of(rt.alloc(), words), *wanted);
-    }
-    for flag in ["--pad", "--atomic"] {
-        let words = ["t", "build", "--blocks=2", flag, "a", "b"];
-        equal_at(&rt, image_of(rt.alloc(), &words), "wrong", flag);
-    }
 }

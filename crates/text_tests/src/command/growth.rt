@@ -1,7 +1,7 @@
 //! A growth that is refused is told as such.
 
 use crate::checks::equal;
-use jcommand::{Asked, Request, RequestFault, Task, asked};
+use jcommand::{Asked, Inspection, Request, RequestFault, Task, Work, asked};
 use std::alloc::Global;
 
 /// Words, and what they ask for.
@@ -45,31 +45,43 @@ fn lines() -> &'static [(&'static [&'static str], &'static str)] {
     &LINES
 }
 
+fn inspection_name(asked: &Inspection<'_>) -> &'static str {
+    match asked {
+        Inspection::Check { .. } => "check",
+        Inspection::List { .. } => "ls",
+        Inspection::Cat { .. } => "cat",
+        Inspection::Info { .. } => "info",
+        Inspection::Diff(_) => "diff",
+        Inspection::Damage(_) => "damage",
+    }
+}
+
 fn request_name(request: &Request<'_>) -> &'static str {
     match request {
         Request::Scan { .. } => "scan",
-        Request::Check { .. } => "check",
-        Request::List { .. } => "ls",
-        Request::Cat { .. } => "cat",
         Request::Build { .. } => "build",
         Request::Append { .. } => "append",
         Request::Decompress { .. } => "decompress",
     }
 }
 
+fn work_name(work: &Work<'_>) -> &'static str {
+    match work {
+        Work::Image(request) => request_name(request),
+        Work::Weak(_) => "weak",
+        Work::Apart(_) => "apart",
+        Work::Extract(_) => "extract",
+        Work::Listing(_) => "listing",
+        Work::Cuts(_) => "cuts",
+        Work::Compress(_) => "compress",
+        Work::Pack(_) => "pack",
+    }
+}
+
 fn task_name(task: &Task<'_>) -> &'static str {
     match task {
-        Task::Image(request) => request_name(request),
-        Task::Weak(_) => "weak",
-        Task::Apart(_) => "apart",
-        Task::Extract(_) => "extract",
-        Task::Listing(_) => "listing",
-        Task::Info { .. } => "info",
-        Task::Cuts(_) => "cuts",
-        Task::Compress(_) => "compress",
-        Task::Diff(_) => "diff",
-        Task::Damage(_) => "damage",
-        Task::Pack(_) => "pack",
+        Task::Inspect(asked) => inspection_name(asked),
+        Task::Work(work) => work_name(work),
     }
 }
 

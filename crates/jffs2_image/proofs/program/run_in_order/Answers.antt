@@ -1,6 +1,6 @@
 use Rattle.std.proofs.Common.{rules, ◌≡◌, None, IsTrue, OnOk, refl, subst, sym}
 use Rattle.std.specs.Prelude.{option_map}
-use Rattle.jcommand.specs.Parsed.{Parsed, ScanParsed, CheckParsed, ListParsed, CatParsed, BuildParsed, AppendParsed, DecompressParsed, view}
+use Rattle.jcommand.specs.Parsed.{Parsed, ScanParsed, BuildParsed, AppendParsed, DecompressParsed, view}
 use Rattle.jffs2_image.specs.Looking.{NotesOthers}
 use Rattle.jffs2_image.specs.Runs.{Meets}
 use Rattle.jffs2_image.specs.WeakRuns.{HasNotes}
@@ -15,24 +15,6 @@ returns-in-Scan-clause-meets g c =
     subst (λ (p : Parsed). Meets (g.L.Loader.told c.args.loader.now) (g.M.Maker.held c.args.maker.now, g.M.Maker.held c.args.maker.now) g.E.Order.order p (change_of g.T.Sink c.args.sink.now c.scan.new.sink) c.scan.result) (sym is)
     (met_by_any _ (None, None) _ g.E.Order.order (ScanParsed c.in-Scan.options c.in-Scan.image.now) _ _ _ _ c.scan.result tt c.scan.ensures.meets)
 
-pub returns-in-Check-clause-meets : goal.returns-in-Check-clause-meets
-returns-in-Check-clause-meets g c =
-    let is : view c.args.request ≡ CheckParsed c.in-Check.options c.in-Check.shape c.in-Check.image.now = search rules in
-    subst (λ (p : Parsed). Meets (g.L.Loader.told c.args.loader.now) (g.M.Maker.held c.args.maker.now, g.M.Maker.held c.args.maker.now) g.E.Order.order p (change_of g.T.Sink c.args.sink.now c.check.new.sink) c.check.result) (sym is)
-    (met_by_any _ (None, None) _ g.E.Order.order (CheckParsed c.in-Check.options c.in-Check.shape c.in-Check.image.now) _ _ _ _ c.check.result tt c.check.ensures.meets)
-
-pub returns-in-List-clause-meets : goal.returns-in-List-clause-meets
-returns-in-List-clause-meets g c =
-    let is : view c.args.request ≡ ListParsed c.in-List.options c.in-List.decompress c.in-List.image.now (option_map (λ p. p.now) c.in-List.path) = search rules in
-    subst (λ (p : Parsed). Meets (g.L.Loader.told c.args.loader.now) (g.M.Maker.held c.args.maker.now, g.M.Maker.held c.args.maker.now) g.E.Order.order p (change_of g.T.Sink c.args.sink.now c.list.new.sink) c.list.result) (sym is)
-    (met_by_any _ (None, None) _ g.E.Order.order (ListParsed c.in-List.options c.in-List.decompress c.in-List.image.now (option_map (λ p. p.now) c.in-List.path)) _ _ _ _ c.list.result tt c.list.ensures.meets)
-
-pub returns-in-Cat-clause-meets : goal.returns-in-Cat-clause-meets
-returns-in-Cat-clause-meets g c =
-    let is : view c.args.request ≡ CatParsed c.in-Cat.options c.in-Cat.decompress c.in-Cat.image.now c.in-Cat.path.now = search rules in
-    subst (λ (p : Parsed). Meets (g.L.Loader.told c.args.loader.now) (g.M.Maker.held c.args.maker.now, g.M.Maker.held c.args.maker.now) g.E.Order.order p (change_of g.T.Sink c.args.sink.now c.cat.new.sink) c.cat.result) (sym is)
-    (met_by_any _ (None, None) _ g.E.Order.order (CatParsed c.in-Cat.options c.in-Cat.decompress c.in-Cat.image.now c.in-Cat.path.now) _ _ _ _ c.cat.result tt c.cat.ensures.meets)
-
 pub returns-in-Append-clause-weak : goal.returns-in-Append-clause-weak
 returns-in-Append-clause-weak g c =
     let t = c.in-Append.target in
@@ -43,21 +25,6 @@ pub returns-in-Scan-clause-others : goal.returns-in-Scan-clause-others
 returns-in-Scan-clause-others g c =
     let is : view c.args.request ≡ ScanParsed c.in-Scan.options c.in-Scan.image.now = search rules in
     subst (λ (p : Parsed). OnOk c.scan.result (NotesOthers (g.L.Loader.told c.args.loader.now) g.E.Order.order p None)) (sym is) (ok_any _ c.scan.result refl)
-
-pub returns-in-Check-clause-others : goal.returns-in-Check-clause-others
-returns-in-Check-clause-others g c =
-    let is : view c.args.request ≡ CheckParsed c.in-Check.options c.in-Check.shape c.in-Check.image.now = search rules in
-    subst (λ (p : Parsed). OnOk c.check.result (NotesOthers (g.L.Loader.told c.args.loader.now) g.E.Order.order p None)) (sym is) (ok_any _ c.check.result refl)
-
-pub returns-in-List-clause-others : goal.returns-in-List-clause-others
-returns-in-List-clause-others g c =
-    let is : view c.args.request ≡ ListParsed c.in-List.options c.in-List.decompress c.in-List.image.now (option_map (λ p. p.now) c.in-List.path) = search rules in
-    subst (λ (p : Parsed). OnOk c.list.result (NotesOthers (g.L.Loader.told c.args.loader.now) g.E.Order.order p c.list.new.others)) (sym is) c.list.ensures.others
-
-pub returns-in-Cat-clause-others : goal.returns-in-Cat-clause-others
-returns-in-Cat-clause-others g c =
-    let is : view c.args.request ≡ CatParsed c.in-Cat.options c.in-Cat.decompress c.in-Cat.image.now c.in-Cat.path.now = search rules in
-    subst (λ (p : Parsed). OnOk c.cat.result (NotesOthers (g.L.Loader.told c.args.loader.now) g.E.Order.order p c.cat.new.others)) (sym is) c.cat.ensures.others
 
 pub returns-in-Build-clause-others : goal.returns-in-Build-clause-others
 returns-in-Build-clause-others g c =

@@ -9,9 +9,6 @@ use Rattle.jffs2_image.proofs.program.run_whole.Goals as goal
 
 options_are_parsed : (r : Request) → options_parsed (view r) ≡ options_of r
 options_are_parsed (request.Scan options image) = refl
-options_are_parsed (request.Check options shape image) = refl
-options_are_parsed (request.List options decompress image path) = refl
-options_are_parsed (request.Cat options decompress image path) = refl
 options_are_parsed (request.Build target listing) = refl
 options_are_parsed (request.Append target decompress image listing) = refl
 options_are_parsed (request.Decompress options force image output) = refl

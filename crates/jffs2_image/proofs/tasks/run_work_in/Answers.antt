@@ -1,20 +1,20 @@
 use Rattle.std.proofs.Common.{◌≡◌, ◌∙◌, ap, inl, inr, refl, List, ℕ, Ok, Some}
 use Rattle.std.specs.Prelude.{option_map}
-use Rattle.jcommand.specs.Parsed.{packing_view, task_view, parsed_from}
-use Rattle.jcommand.specs.declared.parsed.Task.{Task}
-use Rattle.jcommand.specs.declared.parsed.Task.TheVariants as task
+use Rattle.jcommand.specs.Parsed.{packing_view, work_view, parsed_from}
+use Rattle.jcommand.specs.declared.parsed.Work.{Work}
+use Rattle.jcommand.specs.declared.parsed.Work.TheVariants as work
 use Rattle.jffs2_image.specs.Tasks.{Asks}
-use Rattle.jffs2_image.proofs.tasks.run_task_in.Goals as goal
+use Rattle.jffs2_image.proofs.tasks.run_work_in.Goals as goal
 
--- what the words ask for is the task
-parsed_as : (words : List (List ℕ)) (asked t : Task) → Asks words (task_view asked) → asked ≡ t → parsed_from words ≡ Some (task_view t)
-parsed_as words asked t asks is = asks.0 ∙ ap (λ (x : Task). Some (task_view x)) is
+-- what the words ask for is the work
+parsed_as : (words : List (List ℕ)) (asked w : Work) → Asks words (work_view asked) → asked ≡ w → parsed_from words ≡ Some (work_view w)
+parsed_as words asked w asks is = asks.0 ∙ ap (λ (x : Work). Some (work_view x)) is
 
 pub returns-in-Image : goal.returns-in-Image
 returns-in-Image g c = λ words asks.
     inl (record {
       command = Ok c.in-Image.request;
-      asked = (parsed_as words c.args.task (task.Image c.in-Image.request) asks c.in-Image.is, asks.1);
+      asked = (parsed_as words c.args.work (work.Image c.in-Image.request) asks c.in-Image.is, asks.1);
       ran = c.run_image.ensures.0;
       folders = refl;
       host = c.run_image.ensures.1;
@@ -33,7 +33,7 @@ returns-in-Extract g c = λ words asks.
         image = c.in-Extract.asked.image.now;
         folder = c.in-Extract.asked.folder.now;
         path = option_map (λ word. word.now) c.in-Extract.asked.path;
-        parsed = parsed_as words c.args.task (task.Extract c.in-Extract.asked) asks c.in-Extract.is;
+        parsed = parsed_as words c.args.work (work.Extract c.in-Extract.asked) asks c.in-Extract.is;
         faultless = asks.1;
         ends = c.run_extract.ensures;
       },
@@ -50,28 +50,15 @@ returns-in-Listing g c = λ words asks.
         time = c.in-Listing.asked.time;
         quiet = c.in-Listing.asked.quiet;
         folder = c.in-Listing.asked.folder.now;
-        parsed = parsed_as words c.args.task (task.Listing c.in-Listing.asked) asks c.in-Listing.is;
+        parsed = parsed_as words c.args.work (work.Listing c.in-Listing.asked) asks c.in-Listing.is;
         faultless = asks.1;
         ends = c.run_listing.ensures.ends;
       },
     ))))
 
-pub returns-in-Info : goal.returns-in-Info
-returns-in-Info g c = λ words asks.
-    inr (inr (inr (inl ((
-      refl,
-      refl,
-      record {
-        image = c.in-Info.image.now;
-        parsed = parsed_as words c.args.task (task.Info c.in-Info.image) asks c.in-Info.is;
-        faultless = asks.1;
-        ends = c.run_info.ensures;
-      },
-    )))))
-
 pub returns-in-Cuts : goal.returns-in-Cuts
 returns-in-Cuts g c = λ words asks.
-    inr (inr (inr (inr (inl ((
+    inr (inr (inr (inl ((
       refl,
       refl,
       record {
@@ -82,85 +69,56 @@ returns-in-Cuts g c = λ words asks.
           on = option_map (λ name. name.now) c.in-Cuts.asked.on;
           listing = c.in-Cuts.asked.listing.now;
         };
-        parsed = parsed_as words c.args.task (task.Cuts c.in-Cuts.asked) asks c.in-Cuts.is;
+        parsed = parsed_as words c.args.work (work.Cuts c.in-Cuts.asked) asks c.in-Cuts.is;
         faultless = asks.1;
         ends = c.run_cuts.ensures;
       },
-    ))))))
+    )))))
 
 pub returns-in-Compress : goal.returns-in-Compress
 returns-in-Compress g c = λ words asks.
-    inr (inr (inr (inr (inr (inl ((
+    inr (inr (inr (inr (inl ((
       refl,
       record {
         asked = record { options = c.in-Compress.asked.options; force = c.in-Compress.asked.force; image = c.in-Compress.asked.image.now; output = c.in-Compress.asked.output.now };
-        parsed = parsed_as words c.args.task (task.Compress c.in-Compress.asked) asks c.in-Compress.is;
+        parsed = parsed_as words c.args.work (work.Compress c.in-Compress.asked) asks c.in-Compress.is;
         faultless = asks.1;
         ends = c.run_compress.ensures;
       },
-    )))))))
-
-pub returns-in-Diff : goal.returns-in-Diff
-returns-in-Diff g c = λ words asks.
-    inr (inr (inr (inr (inr (inr (inl ((
-      refl,
-      refl,
-      record {
-        by = record { options = c.in-Diff.asked.options; times = c.in-Diff.asked.times };
-        first = c.in-Diff.asked.first.now;
-        second = c.in-Diff.asked.second.now;
-        parsed = parsed_as words c.args.task (task.Diff c.in-Diff.asked) asks c.in-Diff.is;
-        faultless = asks.1;
-        ends = c.run_diff.ensures;
-      },
-    ))))))))
+    ))))))
 
 pub returns-in-Apart : goal.returns-in-Apart
 returns-in-Apart g c = λ words asks.
-    inr (inr (inr (inr (inr (inr (inr (inl ((
+    inr (inr (inr (inr (inr (inl ((
       refl,
       record {
         asked = record { options = c.in-Apart.asked.options; force = c.in-Apart.asked.force; image = c.in-Apart.asked.image.now; output = c.in-Apart.asked.output.now };
-        parsed = parsed_as words c.args.task (task.Apart c.in-Apart.asked) asks c.in-Apart.is;
+        parsed = parsed_as words c.args.work (work.Apart c.in-Apart.asked) asks c.in-Apart.is;
         faultless = asks.1;
         ends = c.run_apart.ensures;
       },
-    )))))))))
+    )))))))
 
 pub returns-in-Weak : goal.returns-in-Weak
 returns-in-Weak g c = λ words asks.
-    inr (inr (inr (inr (inr (inr (inr (inr (inl ((
+    inr (inr (inr (inr (inr (inr (inl ((
       refl,
       record {
         request = c.in-Weak.request;
-        parsed = parsed_as words c.args.task (task.Weak c.in-Weak.request) asks c.in-Weak.is;
+        parsed = parsed_as words c.args.work (work.Weak c.in-Weak.request) asks c.in-Weak.is;
         faultless = asks.1;
         ends = c.run_weak.ensures;
       },
-    ))))))))))
-
-pub returns-in-Damage : goal.returns-in-Damage
-returns-in-Damage g c = λ words asks.
-    inr (inr (inr (inr (inr (inr (inr (inr (inr (inl ((
-      refl,
-      refl,
-      record {
-        options = c.in-Damage.asked.options;
-        file = c.in-Damage.asked.image.now;
-        parsed = parsed_as words c.args.task (task.Damage c.in-Damage.asked) asks c.in-Damage.is;
-        faultless = asks.1;
-        ends = c.run_damage.ensures;
-      },
-    )))))))))))
+    ))))))))
 
 pub returns-in-Pack : goal.returns-in-Pack
 returns-in-Pack g c = λ words asks.
-    inr (inr (inr (inr (inr (inr (inr (inr (inr (inr ((
+    inr (inr (inr (inr (inr (inr (inr ((
       c.run_pack.ensures.made,
       record {
         asked = packing_view c.in-Pack.asked;
-        parsed = parsed_as words c.args.task (task.Pack c.in-Pack.asked) asks c.in-Pack.is;
+        parsed = parsed_as words c.args.work (work.Pack c.in-Pack.asked) asks c.in-Pack.is;
         faultless = asks.1;
         ends = c.run_pack.ensures.ends;
       },
-    )))))))))))
+    ))))))))
