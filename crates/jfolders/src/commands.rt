@@ -1,0 +1,34 @@
+//! The commands as the program runs them: each is gone through, and its answer told.
+ghost use Rattle.std.specs.Prelude.{◌≡◌, Ok};
+ghost use Rattle.jedge.specs.Acts.{DoesFrom};
+ghost use Rattle.jedge.specs.Commands.{reported};
+ghost use Rattle.jfolders.specs.Commands.{extract_act, extraction_asked, listing_act};
+ghost use Rattle.jfolders.specs.Reading.{listing_settings};
+
+use crate::extracting::extract;
+use crate::host::FolderHost;
+use crate::listing::listing;
+use jcommand::{Extraction, FolderListing, Outcome};
+use jedge::reporting::report;
+use jnode::Order;
+
+/// `listing`.
+pub fn run_listing<H: FolderHost>(host: &mut H, asked: FolderListing<'_>) -> Outcome
+    ensures { DoesFrom (H.history host.old) (H.history host.new)
+        (reported (listing_act (listing_settings asked.entry.owner asked.entry.time)
+        asked.entry.quiet asked.entry.folder.now)) (Ok result) }
+{
+    let answer = listing(host, asked);
+    report(host, answer)
+}
+
+/// `extract`.
+pub fn run_extract<E: Order, H: FolderHost>(host: &mut H, asked: Extraction<'_>) -> Outcome
+    requires { asked.options.endian ≡ E.order }
+    ensures { DoesFrom (H.history host.old) (H.history host.new)
+        (reported (extract_act (extraction_asked asked.entry.options.endian asked.entry)))
+        (Ok result) }
+{
+    let answer = extract::<E, H>(host, asked);
+    report(host, answer)
+}

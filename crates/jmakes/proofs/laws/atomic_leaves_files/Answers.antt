@@ -1,0 +1,5 @@
+use Rattle.jmakes.proofs.LawLemmas.{atomic_leaves_files}
+use Rattle.jmakes.proofs.laws.atomic_leaves_files.Goals as goal
+
+pub returns : goal.returns
+returns c = atomic_leaves_files

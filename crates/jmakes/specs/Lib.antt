@@ -1,0 +1,7 @@
+pub mod Blaming
+pub mod Laws
+pub mod Leaving
+pub mod Making
+pub mod Notes
+pub mod Seen
+pub mod Writing

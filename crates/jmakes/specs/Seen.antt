@@ -1,0 +1,87 @@
+-- What is asked for and what comes of it, as acts see them.
+use Rattle.std.specs.Prelude.{◌*◌, ℕ, if◌then◌else◌, List, Option, Some, None, Result, Ok, Err}
+use Rattle.jnode.specs.declared.order.Endian.{Endian}
+use Rattle.jlog.specs.declared.start.Flash.{Flash}
+use Rattle.jbuild.specs.declared.emitting.EmitFault.{EmitFault}
+use Rattle.jbuild.specs.declared.emitting.Emitted.{Emitted}
+use Rattle.jedge.specs.Commands.{shown_noted}
+use Rattle.jedge.specs.Told.{Told}
+use Rattle.jmakes.specs.Making.{FileMade, WantedFile}
+use Rattle.jmakes.specs.Notes.{WeakNotes, written_told}
+use Rattle.jmakes.specs.Writing.{Done, Emission, ImageWanted, NotRun, Numbered, Ran, Run}
+use Rattle.jmakes.specs.declared.asked.Writing.{Writing}
+use Rattle.jmakes.specs.declared.base_note.BaseNote.{BaseNote}
+use Rattle.jmakes.specs.declared.emitting.ImageMade.{ImageMade}
+use Rattle.jmakes.specs.declared.ending.DoneOps.{DoneOps}
+use Rattle.jmakes.specs.declared.notes.Notes.{Notes}
+use Rattle.jmakes.specs.declared.numbered.NumberedOps.{NumberedOps}
+use Rattle.jmakes.specs.declared.wanted.Filling.{Filling}
+use Rattle.jmakes.specs.declared.wanted.Filling.TheVariants as filling
+use Rattle.jmakes.specs.declared.written.Written.{Written}
+
+-- ---- what is asked for
+
+abbrev pub flash_of_asked : Writing → Flash
+flash_of_asked asked = record {
+  geometry = asked.target.options.geometry;
+  blocks = asked.target.blocks;
+  page = asked.target.page;
+}
+
+-- up to the end of the flash
+abbrev pub filling_asked : Writing → Option Filling
+filling_asked asked =
+    if asked.placing.pad
+    then Some (filling.Length (asked.target.blocks * asked.target.options.geometry.block))
+    else None
+
+abbrev pub file_asked : Writing → WantedFile
+file_asked asked = record {
+  name = asked.target.output.now;
+  atomic = asked.placing.atomic;
+  filling = filling_asked asked;
+}
+
+abbrev pub image_asked : Endian → Writing → ImageWanted
+image_asked e asked = record {
+  order = e;
+  flash = flash_of_asked asked;
+  file = file_asked asked;
+  weak = asked.weak;
+}
+
+-- ---- what comes of it
+
+abbrev pub numbered_seen : NumberedOps → Numbered
+numbered_seen of = record { ops = of.ops.items; numbers = of.numbers.items }
+
+abbrev pub notes_seen : Notes → WeakNotes
+notes_seen notes = record { text = notes.text.items; weak = notes.weak }
+
+abbrev pub run_seen : Emitted → Run
+run_seen done = record {
+  accepted = done.report.accepted;
+  places = done.report.places.items;
+  stopped = done.report.stopped;
+  blocks = done.blocks;
+}
+
+abbrev pub emission_seen : Result Emitted EmitFault → Emission
+emission_seen (Ok done) = Ran (run_seen done)
+emission_seen (Err why) = NotRun why
+
+abbrev pub image_seen : ImageMade → FileMade Emission
+image_seen made = record { answer = emission_seen made.emitted; closed = made.closed }
+
+abbrev pub done_seen : DoneOps → Done
+done_seen done = record { accepted = done.accepted; places = done.places.items }
+
+abbrev pub base_noted : BaseNote → Option (List ℕ)
+base_noted note = shown_noted note.findings note.others
+
+abbrev pub noted_seen : Option BaseNote → Option (List ℕ)
+noted_seen None = None
+noted_seen (Some note) = base_noted note
+
+abbrev pub told_seen : Written → Told
+told_seen written = written_told (noted_seen written.note) (notes_seen written.weak)

@@ -1,0 +1,5 @@
+pub mod Counting
+pub mod CutTexts
+pub mod Cutting
+pub mod Named
+pub mod ReadLaws

@@ -1,0 +1,14 @@
+use Rattle.std.proofs.Common.{◌≡◌, Some}
+use Rattle.jconvert.specs.Converting.{convert_fault}
+use Rattle.jexpand.specs.declared.fault.ConvertFault.{ConvertFault}
+use Rattle.jremakes.proofs.FaultLemmas.{refused_by}
+use Rattle.jremakes.proofs.judging.judge_converted.Goals as goal
+
+pub returns-in-Err-clause-judged : goal.returns-in-Err-clause-judged
+returns-in-Err-clause-judged g c =
+    let found = convert_fault g.E.Order.order c.args.geometry.block c.args.image.now in (
+      c.in-Err.fault,
+      c.conversion_refusal.ensures,
+      refused_by (λ (f : ConvertFault). found ≡ Some f) c.in-Err.fault c.in-Err.ensures.refused
+          c.in-Err.ensures.no_sink,
+    )

@@ -1,0 +1,84 @@
+-- What each command does that makes an image of another one. The order is that of the steps.
+use Rattle.std.specs.Prelude.{ℕ, List, length}
+use Rattle.jnode.specs.declared.order.Endian.{Endian}
+use Rattle.jconvert.specs.Converting.{converted_image}
+use Rattle.jreport.specs.ConvertedLine.{compression_line, decompressed_line}
+use Rattle.jreport.specs.FoundIn.{found_in}
+use Rattle.jedge.specs.Acts.{Act, Then, answers, prints_put}
+use Rattle.jedge.specs.Commands.{findings_noted}
+use Rattle.jedge.specs.Told.{Told}
+use Rattle.jmakes.specs.Making.{WantedFile}
+use Rattle.jremakes.specs.Asked.{AskedRemaking, takes_original}
+use Rattle.jremakes.specs.Judging.{ArePartedOf, IsCompressible, IsConvertible}
+use Rattle.jremakes.specs.Leaving.{left_out_told}
+use Rattle.jremakes.specs.Putting.{PutsAll, PutsCompressed, PutsNodes, TakesMemory, TellsLine, remakes}
+
+-- the findings of the image that was read are noted, and found
+abbrev pub remade_told : ℕ → Told
+remade_told n = record { counted = n; noted = findings_noted n }
+
+-- ---- `decompress`
+
+-- An image is judged; it goes decompressed to the file that is wanted, which is told in a line.
+abbrev pub converts : Endian → ℕ → WantedFile → List ℕ → Act Told
+converts e size file image =
+    Then (answers (IsConvertible e size image)) (λ told.
+    Then (answers TakesMemory) (λ _.
+    Then (remakes file (PutsAll (converted_image e size image) (tt {0}))) (λ _.
+    prints_put (TellsLine (decompressed_line told.changed told.nodes told.bytes)
+    (remade_told (found_in e size image).noted)))))
+
+-- rule: Building and extending: `decompress`, as an act.
+--   definitions: jremakes.Commands.decompress_act
+--   code: jremakes::decompress::decompress
+-- the same of the image of a file, which may be the one that is made
+abbrev pub decompresses : Endian → AskedRemaking → Act Told
+decompresses e asked =
+    Then (takes_original e asked) (converts e asked.options.geometry.block asked.output)
+
+abbrev pub decompress_act : AskedRemaking → Act Told
+decompress_act asked = decompresses asked.options.endian asked
+
+-- ---- `compress`
+
+-- The same of one that goes out compressed.
+abbrev pub packs : Endian → ℕ → WantedFile → List ℕ → Act Told
+packs e size file image =
+    Then (answers (IsCompressible e size image)) (λ nodes.
+    Then (answers TakesMemory) (λ _.
+    Then (remakes file (PutsCompressed e size image)) (λ done.
+    prints_put (TellsLine (compression_line done.0 nodes done.1)
+    (remade_told (found_in e size image).noted)))))
+
+-- rule: Building and extending: `compress`, as an act.
+--   definitions: jremakes.Commands.compress_act
+--   code: jremakes::compress::compress
+abbrev pub compresses : Endian → AskedRemaking → Act Told
+compresses e asked =
+    Then (takes_original e asked) (packs e asked.options.geometry.block asked.output)
+
+abbrev pub compress_act : AskedRemaking → Act Told
+compress_act asked = compresses asked.options.endian asked
+
+-- ---- `decompress --clashes higher`
+
+-- The same of one that goes out without the nodes that one of a higher address clashes with, of
+-- which standard error is told.
+abbrev pub leaves_out : Endian → ℕ → WantedFile → List ℕ → Act Told
+leaves_out e size file image =
+    Then (answers (IsConvertible e size image)) (λ told.
+    Then (answers (ArePartedOf e size image)) (λ parted.
+    Then (answers TakesMemory) (λ _.
+    Then (remakes file (PutsNodes e size parted.stay)) (λ bytes.
+    prints_put (TellsLine (decompressed_line told.changed (length parted.stay) bytes)
+    (left_out_told parted.left (found_in e size image).noted))))))
+
+-- rule: Building and extending: `decompress --clashes higher`, as an act.
+--   definitions: jremakes.Commands.apart_act
+--   code: jremakes::apart::apart
+abbrev pub parts_out : Endian → AskedRemaking → Act Told
+parts_out e asked =
+    Then (takes_original e asked) (leaves_out e asked.options.geometry.block asked.output)
+
+abbrev pub apart_act : AskedRemaking → Act Told
+apart_act asked = parts_out asked.options.endian asked

@@ -1,0 +1,35 @@
+-- What is told of nodes that are left out.
+use Rattle.std.specs.Prelude.{◌==◌, ℕ, List, [], ◌∷◌, ◌++◌, codes, flat_map, if◌then◌else◌, length, Option, Some}
+use Rattle.jclash.specs.declared.parting.LeftOut.{LeftOut}
+use Rattle.jline.specs.Words.{hex}
+use Rattle.jreport.specs.Notes.{note_line_of}
+use Rattle.jedge.specs.Commands.{findings_noted}
+use Rattle.jedge.specs.Told.{Told, either}
+use Rattle.jremakes.specs.declared.apart.ApartDone.{ApartDone}
+
+-- a node that is left out, by its address in the image that was read
+abbrev pub clashing_line : LeftOut → List ℕ
+clashing_line l =
+    codes "left out " ++ hex 8 l.addr ++ codes ": clashes with " ++ hex 8 l.by ++ codes "\n"
+
+abbrev pub clashing_lines : List LeftOut → List ℕ
+clashing_lines ls = flat_map clashing_line ls
+
+-- the note on so many findings, if there are any
+abbrev pub findings_line : ℕ → List ℕ
+findings_line n = if n == 0 then [] else note_line_of n
+
+-- the lines of those nodes, and the note on findings behind them
+abbrev pub left_out_noted : List LeftOut → ℕ → Option (List ℕ)
+left_out_noted [] n = findings_noted n
+left_out_noted (l ∷ ls) n = Some (clashing_lines (l ∷ ls) ++ findings_line n)
+
+-- nodes that are left out are found, or else the findings of the image that was read
+abbrev pub left_out_told : List LeftOut → ℕ → Told
+left_out_told left n = record {
+  counted = either (length left) n;
+  noted = left_out_noted left n;
+}
+
+abbrev pub apart_told : ApartDone → Told
+apart_told done = left_out_told done.left.items done.findings

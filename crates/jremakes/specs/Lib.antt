@@ -1,0 +1,6 @@
+pub mod Asked
+pub mod Judging
+pub mod Leaving
+pub mod Putting
+pub mod Commands
+pub mod Laws

@@ -1,0 +1,21 @@
+//! Laws of the acts. Each function's contract is a law, and its body is empty.
+
+ghost use Rattle.jremakes.specs.Laws.{JudgedIsRemade, RemadeIsBlamed, RemadeIsLeft};
+
+/// No call changes a file before the image is read and judged: one that has no node, that has
+/// findings and would be replaced, or that can't be converted, is not gone on with.
+pub fn judged_is_remade()
+    ensures { JudgedIsRemade }
+{}
+
+/// If the file is to take its name only when all is written, a fault leaves the host's files as
+/// they were. That of standard output comes when the file has its name.
+pub fn remade_is_left()
+    ensures { RemadeIsLeft }
+{}
+
+/// A fault that names a file comes with that file's failed call, that of the file's sink with a
+/// write that failed, and that of standard output with a print that failed.
+pub fn remade_is_blamed()
+    ensures { RemadeIsBlamed }
+{}

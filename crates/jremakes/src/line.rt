@@ -1,0 +1,86 @@
+//! The line on an image that was made, and what the command comes to.
+ghost use Rattle.std.specs.Prelude.{◌≡◌, [], IfSome, Some};
+ghost use Rattle.flashbase.specs.Sinks.{change_of};
+ghost use Rattle.jreport.specs.ConvertedLine.{compression_line, decompressed_line};
+ghost use Rattle.jedge.specs.Acts.{DoesFrom, PutsBy, prints_put, seen_as};
+ghost use Rattle.jedge.specs.Told.{Told, found_told};
+ghost use Rattle.jremakes.specs.Commands.{remade_told};
+ghost use Rattle.jremakes.specs.Putting.{TellsLine};
+
+use flashbase::{DeviceFault, Sink};
+use jconvert::Converted;
+use jedge::damage::findings_noted;
+use jedge::fault::Fault;
+use jedge::found::{Found, finished};
+use jedge::host::Host;
+use jreport::{put_compressed, put_decompressed};
+
+/// What a command comes to that made an image of one with so many findings.
+pub(crate) fn remade_told(findings: u64) -> Found<'static>
+    ensures { found_told result ≡ remade_told findings }
+{
+    Found {
+        counted: findings,
+        note: findings_noted(findings),
+    }
+}
+
+/// Puts the line on an image that was decompressed.
+fn put_converted<T: Sink>(told: Converted, sink: &mut T) -> Result<(), Fault>
+    ensures { (answer : Told)
+        → PutsBy (TellsLine (decompressed_line told.changed told.nodes told.bytes) answer)
+        (change_of T.Sink sink.old sink.new) (seen_as (λ _. answer) result) }
+{
+    match put_decompressed(told.changed, told.nodes, told.bytes, sink) {
+        Ok(()) => Ok(()),
+        Err(DeviceFault) => Err(Fault::Output),
+    }
+}
+
+/// Prints it.
+pub(crate) fn print_converted<H: Host>(
+    host: &mut H,
+    out: H::Output,
+    told: Converted,
+) -> Result<(), Fault>
+    requires sound { H.Output.failures out ≡ 0 }
+    requires empty { IfSome (H.history host.old) (λ _. H.Output.taken out ≡ Some []) }
+    ensures { (answer : Told) → DoesFrom (H.history host.old) (H.history host.new)
+        (prints_put (TellsLine (decompressed_line told.changed told.nodes told.bytes) answer))
+        (seen_as (λ _. answer) result) }
+{
+    let mut out = out;
+    let put = put_converted(told, &mut out);
+    let closed = host.close(out);
+    finished(put, closed)
+}
+
+/// Puts the line on an image that was compressed.
+fn put_packed<T: Sink>(told: Converted, sink: &mut T) -> Result<(), Fault>
+    ensures { (answer : Told)
+        → PutsBy (TellsLine (compression_line told.changed told.nodes told.bytes) answer)
+        (change_of T.Sink sink.old sink.new) (seen_as (λ _. answer) result) }
+{
+    match put_compressed(told.changed, told.nodes, told.bytes, sink) {
+        Ok(()) => Ok(()),
+        Err(DeviceFault) => Err(Fault::Output),
+    }
+}
+
+/// Prints it.
+pub(crate) fn print_packed<H: Host>(
+    host: &mut H,
+    out: H::Output,
+    told: Converted,
+) -> Result<(), Fault>
+    requires sound { H.Output.failures out ≡ 0 }
+    requires empty { IfSome (H.history host.old) (λ _. H.Output.taken out ≡ Some []) }
+    ensures { (answer : Told) → DoesFrom (H.history host.old) (H.history host.new)
+        (prints_put (TellsLine (compression_line told.changed told.nodes told.bytes) answer))
+        (seen_as (λ _. answer) result) }
+{
+    let mut out = out;
+    let put = put_packed(told, &mut out);
+    let closed = host.close(out);
+    finished(put, closed)
+}
