@@ -1,6 +1,7 @@
 pub mod PaddingLemmas
 pub mod TileLemmas
 pub mod FrontLemmas
+mod DirtLemmas
 pub mod ExtentLemmas
 pub mod TilingLaws
 pub mod ExtentLaws

@@ -1,7 +1,8 @@
 -- How a run begins, goes on and ends, in the rest of a block.
-use Rattle.std.specs.Prelude.{◌≡◌, ℕ, ◌+◌, List, ◌∷◌, drop}
+use Rattle.std.specs.Prelude.{◌≡◌, ◌≢◌, ℕ, ◌+◌, List, ◌∷◌, drop}
+use Rattle.jnode.specs.Header.{magic as node_magic}
 use Rattle.jnode.specs.declared.order.Endian.{Endian}
-use Rattle.jscan.specs.Extents.{in_front, extents_from}
+use Rattle.jscan.specs.Extents.{in_front, other_magic, extents_from}
 use Rattle.jscan.specs.declared.extent.ExtentKind.{ExtentKind}
 
 -- The first n bytes of the rest have this kind, and the run may go on after them.
@@ -22,3 +23,7 @@ unfoldable pub EndsRun : Endian → List ℕ → ExtentKind → Type 0
 EndsRun e rest kind = (start place addr n : ℕ)
     → in_front (record { addr = addr; len = n; kind = kind }) (extents_from e start place rest)
     ≡ record { addr = addr; len = n; kind = kind } ∷ extents_from e start place rest
+
+-- a magic number of neither byte order, and not that of erased flash: a word with it is dirt
+abbrev pub IsDirtMagic : ℕ → Type 0
+IsDirtMagic magic = (magic ≢ node_magic) × (magic ≢ other_magic) × (magic ≢ 0xFFFF)

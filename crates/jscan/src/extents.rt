@@ -1,9 +1,10 @@
 //! The extents of a block, in order.
 
-ghost use Rattle.std.specs.Prelude.{◌≡◌, ◌%◌, ◌<◌, ◌≤◌, ◌+◌, ◌^◌, ℕ, length, take, IfSome, IfNone, IsTrue};
+ghost use Rattle.std.specs.Prelude.{◌≡◌, ◌%◌, ◌<◌, ◌≤◌, ◌+◌, ◌^◌, ℕ, drop, length, take, IfSome, IfNone, IsTrue};
+ghost use Rattle.jnode.specs.Header.{magic_of};
 ghost use Rattle.jscan.specs.Extents.{class_of, is_one_run, extent_kind_of};
-ghost use Rattle.jscan.specs.Runs.{BeginsRun, IsExtent, EndsRun};
-ghost use Rattle.jscan.specs.declared.extent.ExtentKind.TheVariants.{Erased};
+ghost use Rattle.jscan.specs.Runs.{BeginsRun, IsExtent, EndsRun, IsDirtMagic};
+ghost use Rattle.jscan.specs.declared.extent.ExtentKind.TheVariants.{Dirt, Erased};
 
 use crate::extent::{Extent, ExtentKind};
 use crate::parts::{erased_run_of, is_erased, magic_of, whole};
@@ -12,8 +13,13 @@ use flashbase::Part;
 use jnode::{Order, read_part};
 use std::marker::PhantomData;
 
-/// The magic number of a node of the other byte order, read in this one.
+/// The magic number of a node, and that of one of the other byte order, read in this one.
+const MAGIC: u16 = 0x1985;
+
 const OTHER_MAGIC: u16 = 0x8519;
+
+/// The first bytes of an erased word, read as a magic number.
+const ERASED_MAGIC: u16 = 0xFFFF;
 
 /// The extents of a block from a place on.
 #[derive(Drop)]
@@ -114,6 +120,7 @@ fn first_run<'a, E: Order>(rest: &Part<'_>, len: usize) -> (ExtentKind<'a>, usiz
     let kind = class_of::<E>(&rest.slice(0, len));
     let begun = match kind {
         ExtentKind::Erased => erased_words::<E>(rest, len),
+        ExtentKind::Dirt => dirt_words::<E>(rest, len),
         _ => len,
     };
     let end = run_end::<E>(rest, begun, &kind);
@@ -185,6 +192,47 @@ fn erased_words<E: Order>(rest: &Part<'_>, begun: usize) -> usize
     let words = erased_run_of(rest) / WORD_LEN * WORD_LEN;
     let most = rest.len().saturating_sub(HEADER_LEN - WORD_LEN);
     words.min(most).max(begun)
+}
+
+/// Whether a word with this magic number is dirt, whatever follows it.
+fn is_dirt(magic: u16) -> bool
+    ensures { IsTrue result → IsDirtMagic magic }
+{
+    magic != MAGIC && magic != OTHER_MAGIC && magic != ERASED_MAGIC
+}
+
+/// The magic number at a place.
+fn magic_at<E: Order>(bytes: &[u8], place: usize) -> u16
+    requires { place + 2 ≤ length bytes.now }
+    ensures { result ≡ magic_of E.order (drop place bytes.now) }
+{
+    E::read_u16(&bytes[place..])
+}
+
+/// If a run of dirt has begun with the first `begun` bytes, how far it goes at least, by the magic
+/// numbers of words alone. The last ones of a block may be the rest's, which is judged whole.
+fn dirt_words<E: Order>(rest: &Part<'_>, begun: usize) -> usize
+    requires whole_words { length rest.now % 4 ≡ 0 }
+    requires words { begun % 4 ≡ 0 }
+    requires within { begun ≤ length rest.now }
+    requires begins { BeginsRun E.order rest.now begun Dirt }
+    ensures begins { BeginsRun E.order rest.now result Dirt }
+    ensures least { begun ≤ result }
+    ensures within { result ≤ length rest.now }
+    ensures words { result % 4 ≡ 0 }
+{
+    let present = rest.present();
+    let most = (rest.len().saturating_sub(HEADER_LEN - WORD_LEN)).min(
+        present.len().saturating_sub(1),
+    );
+    let mut end = begun;
+    while end < most {
+        if !is_dirt(magic_at::<E>(present, end)) {
+            return end;
+        }
+        end += WORD_LEN;
+    }
+    end
 }
 
 fn is_one_run(a: &ExtentKind<'_>, b: &ExtentKind<'_>) -> bool
