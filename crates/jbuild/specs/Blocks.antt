@@ -46,7 +46,7 @@ TellsRefused flash log ops accepted None blocks = blocks ≡ None
 -- rule: Building and extending: How many blocks would hold an operation that is refused for want of
 --   room.
 --   definitions: jbuild.Blocks.TellsRefusedOn, jlog.Places.least_blocks,
---   jffs2_image.Writes.IsRunCause
+--   jmakes.Writing.refused_at
 --   code: jbuild::emitting::emit, jreport::cause::cause_of
 --   laws: jlog::laws::blocks_are_least
 -- the same from the log that the accepted operations leave behind a base

@@ -31,8 +31,8 @@ found_in e size image = found_among (image_extents e size image)
 -- rule: What is printed: An image with findings is not replaced by an image made of it, unless that
 --   is forced.
 --   definitions: jreport.FoundIn.HasFindings, jreport.FoundIn.IsFindings,
---   jffs2_image.Judging.OfConverted, jcommand.Parsed.is_forced
---   code: jreport::findings::refuse_findings, jffs2_image::judging::judge_image
+--   jremakes.Asked.WouldReplace, jcommand.Parsed.is_forced
+--   code: jreport::findings::refuse_findings, jremakes::original::judge_replaced
 -- an image that can be read has findings of which a person is told
 pub record HasFindings (e : Endian) (size : ℕ) (image : List ℕ) : Type 0 where
   pub scannable : IsScannable size image

@@ -23,7 +23,7 @@ IsAllErased image = image ≡ erased (length image)
 
 -- rule: What is printed: An image in which no node is found is refused by `decompress`, `compress`,
 --   `extract`, `diff` and `damage`.
---   definitions: jreport.NoNodes.HasNoNode, jreport.NoNodes.IsNoNodes, jffs2_image.Judging.OfNodes
+--   definitions: jreport.NoNodes.HasNoNode, jreport.NoNodes.IsNoNodes, jedge.Images.HasNodes
 --   code: jreport::no_nodes::refuse_no_nodes
 -- no node is found in an image that can be read, and that has been written
 pub record HasNoNode (e : Endian) (size : ℕ) (image : List ℕ) : Type 0 where
@@ -52,7 +52,7 @@ pub record IsNoNodes (e : Endian) (size : ℕ) (bytes : List ℕ) (name : Option
 -- rule: What is printed: The note of `ls`, `cat` and `append` on an image in which no node is
 --   found.
 --   definitions: jreport.NoNodes.TellsNone, jreport.NoNodes.none_notes_of,
---   jffs2_image.Looking.NotesOthers
+--   jedge.Commands.shown_noted
 --   code: jreport::no_nodes::others_if_none, jreport::no_nodes::put_none_notes
 -- Of an image in which no node is found it is told how many the other byte order has; of any other
 -- nothing is.

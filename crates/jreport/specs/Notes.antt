@@ -26,9 +26,9 @@ findings_text n = if n == 1
     " findings, see check --scan; a wrong --block or --endian shows as findings too, see info\n"
 
 -- rule: What is printed: The note of `ls`, `cat` and `append` on findings.
---   definitions: jreport.Notes.note_line_of, jreport.Notes.noted, jffs2_image.Writes.IsNotedIn
+--   definitions: jreport.Notes.note_line_of, jreport.Notes.noted, jedge.Commands.findings_noted
 --   code: jreport::notes::put_note, jreport::whole_image::image_tree,
---   jreport::whole_image::image_file, jffs2_image::writing::write_image
+--   jreport::whole_image::image_file, jmakes::base_note::note_on
 -- the line on standard error that tells of n of them
 unfoldable pub note_line_of : ℕ → List ℕ
 note_line_of n = codes "jffs2_image: note: " ++ (decimal n ++ findings_text n)
