@@ -85,7 +85,7 @@ lines_blame text events (fault.Refused why) is = of_bytes why is.1.1 tt
 lines_blame text events fault.Output is = absurd is.1
 lines_blame text events fault.OutOfMemory is = tt
 
-memory_blames : BlamesFailed (answers (HasMemory {A = Unit {0}}))
+pub memory_blames : BlamesFailed (answers (HasMemory {A = Unit {0}}))
 memory_blames events (fault.File of) is = absurd is.1
 memory_blames events (fault.NotRead of) is = absurd is.1
 memory_blames events (fault.NoNodes of others) is = absurd is.1

@@ -2,5 +2,10 @@ pub mod BlameLemmas
 pub mod CountLemmas
 pub mod CutsLemmas
 pub mod JudgeLemmas
+pub mod KeptLemmas
 pub mod LookLemmas
 pub mod NamedLemmas
+pub mod ScanLawLemmas
+pub mod ScanLemmas
+pub mod ScanPutLemmas
+pub mod ScanTextLemmas

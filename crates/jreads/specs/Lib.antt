@@ -3,3 +3,5 @@ pub mod CutTexts
 pub mod Cutting
 pub mod Named
 pub mod ReadLaws
+pub mod Scanning
+pub mod Streaming

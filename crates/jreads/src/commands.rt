@@ -3,10 +3,13 @@ ghost use Rattle.std.specs.Prelude.{◌≡◌, Ok, option_map};
 ghost use Rattle.jedge.specs.Acts.{DoesFrom};
 ghost use Rattle.jedge.specs.Commands.{reported};
 ghost use Rattle.jreads.specs.Cutting.{cuts_act};
+ghost use Rattle.jreads.specs.Scanning.{scan_act};
 
 use crate::cuts::cuts;
 use crate::files_host::FilesHost;
-use jcommand::{Cuts, Outcome};
+use crate::scan::scan;
+use crate::stream_host::StreamHost;
+use jcommand::{Cuts, Options, Outcome};
 use jedge::reporting::report;
 use jnode::Order;
 
@@ -18,5 +21,15 @@ pub fn run_cuts<E: Order, H: FilesHost>(host: &mut H, asked: Cuts<'_>) -> Outcom
         (option_map (λ name. name.now) asked.entry.on) asked.entry.listing.now)) (Ok result) }
 {
     let answer = cuts::<E, H>(host, asked);
+    report(host, answer)
+}
+
+/// `check --scan`.
+pub fn run_scan<E: Order, H: StreamHost>(host: &mut H, options: Options, image: &str) -> Outcome
+    requires { options.endian ≡ E.order }
+    ensures { DoesFrom (H.history host.old) (H.history host.new)
+        (reported (scan_act options image.now)) (Ok result) }
+{
+    let answer = scan::<E, H>(host, options, image);
     report(host, answer)
 }
