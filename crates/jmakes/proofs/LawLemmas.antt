@@ -1,4 +1,4 @@
--- Laws of the acts that write images.
+-- Laws of the act that writes the lines of a listing.
 use Rattle.std.proofs.Common.{◌≡◌, ◌⊎◌, ℕ, Bool, true, false, List, [], ◌∷◌, ◌++◌, Option, None, Some, Result, Ok, Err, refl, sym, ap, subst, ◌∙◌, inl, inr}
 use Rattle.std.proofs.lemmas.List.{append-nil}
 use Rattle.jnode.specs.declared.order.Endian.{Endian}
@@ -26,7 +26,7 @@ use Rattle.jedge.specs.declared.fault.Fault.TheVariants as fault
 use Rattle.jedge.proofs.BlamingLemmas.{Unnamed, blames_after, mounts_blame, put_blames}
 use Rattle.jedge.proofs.LookingLemmas.{answers_looks, both}
 use Rattle.jmakes.specs.Blaming.{HasFailedWriting, IsFileBlamed}
-use Rattle.jmakes.specs.Laws.{AtomicLeavesFiles, BlamesMade, BlamesMaking, ComesLate, IsOfListing, IsOfWriting, IsWriteBlamed, JudgedBeforeMade, JudgesBeforeMaking, LeavesAtFault}
+use Rattle.jmakes.specs.Laws.{BlamesMaking, ComesLate, IsOfWriting, IsWriteBlamed, JudgesBeforeMaking, LeavesAtFault}
 use Rattle.jmakes.specs.Leaving.{LeavesFiles}
 use Rattle.jmakes.specs.Making.{FileMade, WantedFile, makes}
 use Rattle.jmakes.specs.Notes.{TakesNotes, WeakNotes, written_told}
@@ -61,13 +61,12 @@ then_judges file first next looks judges events f (GoesOn a before after did mor
 
 -- how a fault is blamed
 abbrev pub IsBlamedBy : List ℕ → Fault → List Event → Type 0
-IsBlamedBy name f events = BlamesEvent f events ⊎ (IsFileBlamed name f events ⊎ (IsWriteBlamed f events ⊎ IsOfListing f))
+IsBlamedBy name f events = BlamesEvent f events ⊎ (IsFileBlamed name f events ⊎ IsWriteBlamed f events)
 
-blamed_later : (name : List ℕ) (f : Fault) (xs ys : List Event) → IsBlamedBy name f ys → IsBlamedBy name f (xs ++ ys)
+pub blamed_later : (name : List ℕ) (f : Fault) (xs ys : List Event) → IsBlamedBy name f ys → IsBlamedBy name f (xs ++ ys)
 blamed_later name f xs ys (inl is) = inl (blames_after f xs ys is)
 blamed_later name f xs ys (inr (inl is)) = inr (inl (file_later name f xs ys is))
-blamed_later name f xs ys (inr (inr (inl is))) = inr (inr (inl (is.0, is.1, is.2, (is.3.0, is.3.1, happened_after _ xs ys is.3.2))))
-blamed_later name f xs ys (inr (inr (inr is))) = inr (inr (inr is))
+blamed_later name f xs ys (inr (inr is)) = inr (inr (is.0, is.1, is.2, (is.3.0, is.3.1, happened_after _ xs ys is.3.2)))
 
 pub then_blamed : {A : Type 0} (file : WantedFile) (first : Act A) (next : A → Act Told) → ((events : List Event) (f : Fault) → first events (Err f) → IsBlamedBy file.name f events) → ((a : A) → BlamesMaking file (next a)) → BlamesMaking file (Then first next)
 then_blamed file first next one two events f (Ends g did is) = let alike : f ≡ g = cc in subst (λ (h : Fault). IsBlamedBy file.name h events) (sym alike) (one events g did)
@@ -157,8 +156,8 @@ pub on_leaves : (wanted : ImageWanted) (note : Option (List ℕ)) (m : Mount) (o
 on_leaves wanted note m of = then_leaves wanted.file _ _ (answers_looks _) (λ (from : ℕ).
     then_leaves wanted.file _ _ (answers_looks _) (λ (notes : WeakNotes). from_leaves wanted m of from (written_told note notes)))
 
-pub atomic_leaves_files : AtomicLeavesFiles
-atomic_leaves_files wanted base files lines = then_leaves wanted.file _ _ (answers_looks _) (λ (of : Numbered).
+pub lines_leave : (wanted : ImageWanted) (base : Option Viewed) (files : List ℕ → List ℕ) (lines : List Line) → LeavesAtFault wanted.file (writes_lines wanted base files lines)
+lines_leave wanted base files lines = then_leaves wanted.file _ _ (answers_looks _) (λ (of : Numbered).
     then_leaves wanted.file _ _ (answers_looks _) (λ (m : Mount). on_leaves wanted (note_on base m) m of))
 
 -- ---- all is judged before a file is made
@@ -195,8 +194,8 @@ from_judges_by wanted m of events f (NotPrinted is blames) = inr (inr (inr (inl 
 from_judges : (wanted : ImageWanted) (m : Mount) (of : Numbered) (from : ℕ) (told : Told) → JudgesBeforeMaking wanted.file (writes_from wanted m of from told)
 from_judges wanted m of from told events f did = from_judges_by wanted m of events f (from_cases wanted m of from told events f did)
 
-pub judged_before_made : JudgedBeforeMade
-judged_before_made wanted base files lines = then_judges wanted.file _ _ (answers_looks _) (λ (of : Numbered).
+pub lines_judge : (wanted : ImageWanted) (base : Option Viewed) (files : List ℕ → List ℕ) (lines : List Line) → JudgesBeforeMaking wanted.file (writes_lines wanted base files lines)
+lines_judge wanted base files lines = then_judges wanted.file _ _ (answers_looks _) (λ (of : Numbered).
     then_judges wanted.file _ _ (answers_looks _) (λ (m : Mount).
     then_judges wanted.file _ _ (answers_looks _) (λ (from : ℕ).
     then_judges wanted.file _ _ (answers_looks _) (λ (notes : WeakNotes). from_judges wanted m of from (written_told (note_on base m) notes)))))
@@ -214,7 +213,7 @@ stop_of_bytes session.Geometry line cause is = absurd is
 
 badly_blamed : (name : List ℕ) (f : Fault) (events : List Event) → EndsBadly name f events → IsBlamedBy name f events
 badly_blamed name f events (inl is) = inr (inl is)
-badly_blamed name f events (inr (inl is)) = inr (inr (inl is))
+badly_blamed name f events (inr (inl is)) = inr (inr is)
 badly_blamed name f events (inr (inr is)) = inl (subst (λ (g : Fault). BlamesEvent g events) (sym is.3) (stop_of_bytes is.0 is.1 is.2 is.4))
 
 from_blamed_by : (wanted : ImageWanted) (m : Mount) (of : Numbered) (events : List Event) (f : Fault) → FromFault wanted m of events f → IsBlamedBy wanted.file.name f events
@@ -242,8 +241,8 @@ notes_memory : (asked : Bool) (e : Endian) (flash : Flash) (m : Mount) (ops : Li
 notes_memory true e flash m ops f is = is
 notes_memory false e flash m ops f is = absurd is
 
-pub blames_made : BlamesMade
-blames_made wanted base files lines = then_blamed wanted.file _ _ (λ events f did. memory_blamed wanted.file.name events f did.1) (λ (of : Numbered).
+pub lines_blamed : (wanted : ImageWanted) (base : Option Viewed) (files : List ℕ → List ℕ) (lines : List Line) → BlamesMaking wanted.file (writes_lines wanted base files lines)
+lines_blamed wanted base files lines = then_blamed wanted.file _ _ (λ events f did. memory_blamed wanted.file.name events f did.1) (λ (of : Numbered).
     then_blamed wanted.file _ _ (failed_blamed {A = Mount} wanted.file (mounts_in wanted (base_image base)) (mounts_blame wanted.order wanted.flash.geometry.block (base_image base))) (λ (m : Mount).
     then_blamed wanted.file _ _ (λ events f did. inl (start_of_bytes wanted.order wanted.flash m events f did.1)) (λ (from : ℕ).
     then_blamed wanted.file _ _ (λ events f did. memory_blamed wanted.file.name events f (notes_memory wanted.weak wanted.order wanted.flash m of.ops f did.1)) (λ (notes : WeakNotes).

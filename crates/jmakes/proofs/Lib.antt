@@ -1,4 +1,5 @@
 pub mod BlamingLemmas
+pub mod CommandLaws
 pub mod EmissionLemmas
 pub mod EndingLemmas
 pub mod LawLemmas

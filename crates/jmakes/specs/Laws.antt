@@ -1,7 +1,5 @@
 -- What is true of the acts that write images.
-use Rattle.std.specs.Prelude.{◌≡◌, ◌⊎◌, ℕ, Bool, true, List, Option, Err}
-use Rattle.jlisting.specs.declared.fault.BadLine.{BadLine}
-use Rattle.jlisting.specs.declared.line.Line.{Line}
+use Rattle.std.specs.Prelude.{◌≡◌, ◌⊎◌, ℕ, true, List, Option, Err}
 use Rattle.jlog.specs.declared.fault.SessionFault.{SessionFault}
 use Rattle.jlog.specs.declared.fault.SessionFault.TheVariants as session
 use Rattle.jreport.specs.declared.cause.Cause.{Cause}
@@ -11,13 +9,13 @@ use Rattle.jedge.specs.Acts.{Act}
 use Rattle.jedge.specs.Calls.{Event}
 use Rattle.jedge.specs.Laws.{BlamesEvent, LooksOnly}
 use Rattle.jedge.specs.Told.{Told}
-use Rattle.jedge.specs.Views.{Viewed}
 use Rattle.jedge.specs.declared.fault.Fault.{Fault}
 use Rattle.jedge.specs.declared.fault.Fault.TheVariants as fault
 use Rattle.jmakes.specs.Blaming.{HasFailedWriting, IsFileBlamed}
+use Rattle.jmakes.specs.Commands.{ImageCommand, file_by, image_act}
 use Rattle.jmakes.specs.Leaving.{LeavesFiles}
 use Rattle.jmakes.specs.Making.{WantedFile}
-use Rattle.jmakes.specs.Writing.{ImageWanted, not_written, writes_lines}
+use Rattle.jmakes.specs.Writing.{not_written}
 
 -- ---- with `--atomic`, a fault leaves the files as they were
 
@@ -27,8 +25,8 @@ LeavesAtFault file act = (events : List Event) (f : Fault) → file.atomic ≡ t
     → (f ≡ fault.Output → ⊥) → act events (Err f) → LeavesFiles events
 
 abbrev pub AtomicLeavesFiles : Type 0
-AtomicLeavesFiles = (wanted : ImageWanted) (base : Option Viewed) (files : List ℕ → List ℕ)
-    (lines : List Line) → LeavesAtFault wanted.file (writes_lines wanted base files lines)
+AtomicLeavesFiles =
+    (command : ImageCommand) → LeavesAtFault (file_by command) (image_act command)
 
 -- ---- all is judged before a file is made
 
@@ -56,8 +54,8 @@ JudgesBeforeMaking file act = (events : List Event) (f : Fault) → act events (
     → LooksOnly events ⊎ ComesLate file.name f events
 
 abbrev pub JudgedBeforeMade : Type 0
-JudgedBeforeMade = (wanted : ImageWanted) (base : Option Viewed) (files : List ℕ → List ℕ)
-    (lines : List Line) → JudgesBeforeMaking wanted.file (writes_lines wanted base files lines)
+JudgedBeforeMade =
+    (command : ImageCommand) → JudgesBeforeMaking (file_by command) (image_act command)
 
 -- ---- a fault is an event
 
@@ -66,18 +64,12 @@ abbrev pub IsWriteBlamed : Fault → List Event → Type 0
 IsWriteBlamed f events = (line : Option ℕ) × (reason : Reason)
     × (f ≡ fault.Refused (not_written line reason)) × HasFailedWriting reason events
 
--- a listing is refused for what it is
-abbrev pub IsOfListing : Fault → Type 0
-IsOfListing f = (bad : BadLine) × (f ≡ fault.Refused (program.Listing bad))
-
 -- A fault that names a file comes with a call on that file that failed, for the same reason: one
 -- that was read, or the one that is made. That of a sink comes with a write that failed, and that
 -- of the output with a print.
 abbrev pub BlamesMaking : WantedFile → Act Told → Type 0
 BlamesMaking file act = (events : List Event) (f : Fault) → act events (Err f)
-    → BlamesEvent f events ⊎ (IsFileBlamed file.name f events
-    ⊎ (IsWriteBlamed f events ⊎ IsOfListing f))
+    → BlamesEvent f events ⊎ (IsFileBlamed file.name f events ⊎ IsWriteBlamed f events)
 
 abbrev pub BlamesMade : Type 0
-BlamesMade = (wanted : ImageWanted) (base : Option Viewed) (files : List ℕ → List ℕ)
-    (lines : List Line) → BlamesMaking wanted.file (writes_lines wanted base files lines)
+BlamesMade = (command : ImageCommand) → BlamesMaking (file_by command) (image_act command)

@@ -1,4 +1,5 @@
 pub mod Blaming
+pub mod Commands
 pub mod Laws
 pub mod Leaving
 pub mod Making

@@ -6,9 +6,10 @@ use Rattle.jbuild.specs.declared.emitting.EmitFault.{EmitFault}
 use Rattle.jbuild.specs.declared.emitting.Emitted.{Emitted}
 use Rattle.jedge.specs.Commands.{shown_noted}
 use Rattle.jedge.specs.Told.{Told}
-use Rattle.jmakes.specs.Making.{FileMade, WantedFile}
+use Rattle.jmakes.specs.Making.{FileMade, WantedFile, wanted_file}
 use Rattle.jmakes.specs.Notes.{WeakNotes, written_told}
 use Rattle.jmakes.specs.Writing.{Done, Emission, ImageWanted, NotRun, Numbered, Ran, Run}
+use Rattle.jmakes.specs.declared.asked.ImageToWrite.{ImageToWrite}
 use Rattle.jmakes.specs.declared.asked.Writing.{Writing}
 use Rattle.jmakes.specs.declared.base_note.BaseNote.{BaseNote}
 use Rattle.jmakes.specs.declared.emitting.ImageMade.{ImageMade}
@@ -48,6 +49,14 @@ image_asked e asked = record {
   flash = flash_of_asked asked;
   file = file_asked asked;
   weak = asked.weak;
+}
+
+abbrev pub image_to_write : Endian → ImageToWrite → ImageWanted
+image_to_write e image = record {
+  order = e;
+  flash = image.flash;
+  file = wanted_file image.file;
+  weak = image.weak;
 }
 
 -- ---- what comes of it

@@ -1,11 +1,20 @@
 //! An image that is asked for.
 ghost use Rattle.std.specs.Prelude.{◌≡◌};
+ghost use Rattle.jnode.specs.declared.order.Endian.{Endian};
 ghost use Rattle.jmakes.specs.Making.{wanted_file};
-ghost use Rattle.jmakes.specs.Seen.{file_asked, filling_asked, flash_of_asked};
+ghost use Rattle.jmakes.specs.Seen.{file_asked, filling_asked, flash_of_asked, image_asked, image_to_write};
 
 use crate::wanted::{Filling, Wanted};
 use jcommand::{Placing, Target};
 use jlog::Flash;
+
+/// The flash that is written, the file that is made, and whether weak nodes are noted.
+#[derive(Clone, Copy)]
+pub struct ImageToWrite<'a> {
+    pub flash: Flash,
+    pub file: Wanted<'a>,
+    pub weak: bool,
+}
 
 /// An image that is written, what is done about its file, and whether its weak nodes are noted.
 #[derive(Clone, Copy)]
@@ -17,7 +26,7 @@ pub struct Writing<'a> {
 
 impl<'a> Writing<'a> {
     /// The flash that is written.
-    pub(crate) fn flash(self) -> Flash
+    fn flash(self) -> Flash
         ensures { result ≡ flash_of_asked self.entry }
     {
         Flash {
@@ -40,13 +49,24 @@ impl<'a> Writing<'a> {
     }
 
     /// The file that is made.
-    pub(crate) fn file(self) -> Wanted<'a>
+    fn file(self) -> Wanted<'a>
         ensures { wanted_file result ≡ file_asked self.entry }
     {
         Wanted {
             name: self.target.output,
             atomic: self.placing.atomic,
             filling: self.filling(),
+        }
+    }
+
+    /// All that is asked for.
+    pub(crate) fn image(self) -> ImageToWrite<'a>
+        ensures { (e : Endian) → image_to_write e result ≡ image_asked e self.entry }
+    {
+        ImageToWrite {
+            flash: self.flash(),
+            file: self.file(),
+            weak: self.weak,
         }
     }
 }

@@ -6,6 +6,7 @@
 
 pub mod asked;
 pub mod base_note;
+pub mod commands;
 pub mod emitting;
 pub mod ending;
 pub mod host;
@@ -13,5 +14,6 @@ pub mod laws;
 pub mod notes;
 pub mod numbered;
 pub mod reporting;
+pub mod texts;
 pub mod wanted;
 pub mod written;

@@ -1,25 +1,28 @@
 //! An image is written, and a line tells what the operations did.
 ghost use Rattle.std.specs.Prelude.{◌≡◌, [], IfErr, IfOk, IfSome, Some, length, option_map, string_bytes};
+ghost use Rattle.jbuild.specs.HostFiles.{part_contents};
 ghost use Rattle.jlog.specs.View.{address_of, flash_of_start, mount_of};
 ghost use Rattle.jmount.specs.Mounts.{IsMountOf};
 ghost use Rattle.jedge.specs.Acts.{DoesFrom, seen_as};
 ghost use Rattle.jedge.specs.Views.{viewed};
-ghost use Rattle.jmakes.specs.Seen.{done_seen, flash_of_asked, image_asked, noted_seen, numbered_seen, told_seen};
+ghost use Rattle.jmakes.specs.Seen.{done_seen, image_to_write, noted_seen, numbered_seen, told_seen};
 ghost use Rattle.jmakes.specs.Writing.{IsStartedBehind, base_image, line_answer, prints_accepted, writes_from, writes_lines, writes_on};
 
-use crate::asked::Writing;
-use crate::base_note::BaseNote;
+use crate::asked::ImageToWrite;
+use crate::base_note::{BaseNote, note_on};
 use crate::emitting::make_image;
 use crate::ending::{DoneOps, ended, plan_of};
 use crate::host::FileHost;
-use crate::notes::Notes;
-use crate::numbered::NumberedOps;
+use crate::notes::{Notes, notes_on};
+use crate::numbered::{NumberedOps, numbered};
 use flashbase::DeviceFault;
-use jbuild::put_accepted;
+use jbuild::{HostFiles, put_accepted};
 use jedge::fault::Fault;
 use jedge::found::finished;
 use jedge::host::Host;
+use jedge::mounting::mounted;
 use jedge::subject::Subject;
+use jlisting::Line;
 use jlog::{Flash, Start};
 use jmount::Mounted;
 use jnode::Order;
@@ -33,7 +36,7 @@ pub struct Written {
 }
 
 /// The image of a base, or an empty one.
-pub fn base_image(base: Option<&Subject>) -> &[u8]
+fn base_image(base: Option<&Subject>) -> &[u8]
     ensures { result.now ≡ base_image (option_map (λ subject. viewed subject.now) base.entry) }
 {
     match base {
@@ -43,7 +46,7 @@ pub fn base_image(base: Option<&Subject>) -> &[u8]
 }
 
 /// Where writing goes on behind a mounted image.
-pub fn start_on<'m, 'a, E: Order>(
+fn start_on<'m, 'a, E: Order>(
     mounted: &'m Mounted<'a>,
     flash: Flash,
 ) -> Result<Start<'m, 'a, E>, Fault>
@@ -118,28 +121,81 @@ fn print_accepted<H: Host>(
 }
 
 /// Writes operations to the file from an address on, and prints the line on them.
-pub fn write_from<E: Order, H: FileHost>(
+fn write_from<E: Order, H: FileHost>(
     host: &mut H,
-    asked: Writing<'_>,
+    image: ImageToWrite<'_>,
     start: &Start<'_, '_, E>,
     of: &NumberedOps<'_>,
     written: Written,
 ) -> Result<Written, Fault>
-    requires { flash_of_start start.now ≡ flash_of_asked asked }
+    requires { flash_of_start start.now ≡ image.flash }
     ensures { DoesFrom (H.history host.old) (H.history host.new)
-        (writes_from (image_asked E.order asked.entry) (mount_of start.now) (numbered_seen of.now)
-        (address_of start.now) (told_seen written)) (seen_as told_seen result) }
+        (writes_from (image_to_write E.order image.entry) (mount_of start.now)
+        (numbered_seen of.now) (address_of start.now) (told_seen written))
+        (seen_as told_seen result) }
 {
-    let (name, out) = match take_memory(host, asked.target.output) {
+    let (name, out) = match take_memory(host, image.file.name) {
         Ok(taken) => taken,
         Err(fault) => return Err(fault),
     };
-    let made = match make_image::<E, H>(host, asked.file(), start, &of.ops) {
+    let made = match make_image::<E, H>(host, image.file, start, &of.ops) {
         Ok(made) => made,
         Err(fault) => return Err(fault),
     };
     match ended(plan_of(start), &of.numbers, made, name) {
         Ok(done) => print_accepted(host, out, start.address(), done, written),
+        Err(fault) => Err(fault),
+    }
+}
+
+/// The same behind a mounted image, of which there may be a note.
+fn write_on<E: Order, H: FileHost>(
+    host: &mut H,
+    image: ImageToWrite<'_>,
+    note: Option<BaseNote>,
+    mounted: &Mounted<'_>,
+    of: &NumberedOps<'_>,
+) -> Result<Written, Fault>
+    requires mount { IsMountOf E.order image.flash.geometry.block mounted.now }
+    requires numbered { length of.now.numbers.items ≡ length of.now.ops.items }
+    ensures { DoesFrom (H.history host.old) (H.history host.new)
+        (writes_on (image_to_write E.order image.entry) (noted_seen note) mounted.now
+        (numbered_seen of.now)) (seen_as told_seen result) }
+{
+    let start = match start_on::<E>(mounted, image.flash) {
+        Ok(start) => start,
+        Err(fault) => return Err(fault),
+    };
+    match notes_on::<E>(host.alloc(), &start, &of.ops, &of.numbers, image.weak) {
+        Ok(weak) => write_from::<E, H>(host, image, &start, of, Written { note, weak }),
+        Err(fault) => Err(fault),
+    }
+}
+
+/// Writes the lines of a listing, with the bytes of the files that they name, on a base; on an
+/// empty one if there is none.
+pub fn write_lines<'b, 'a: 'b, E: Order, H: FileHost>(
+    host: &mut H,
+    image: ImageToWrite<'_>,
+    base: Option<&Subject>,
+    lines: Vec<Line<'a>>,
+    files: &'b HostFiles,
+) -> Result<Written, Fault>
+    ensures { DoesFrom (H.history host.old) (H.history host.new)
+        (writes_lines (image_to_write E.order image.entry)
+        (option_map (λ subject. viewed subject.now) base.entry) (part_contents files.now)
+        lines.entry.items) (seen_as told_seen result) }
+{
+    let of = match numbered::<E>(host.alloc(), lines, files) {
+        Ok(of) => of,
+        Err(fault) => return Err(fault),
+    };
+    let bytes = base_image(base);
+    match mounted::<E>(host.alloc(), bytes, image.flash.geometry) {
+        Ok(mounted) => {
+            let note = note_on(base, &mounted);
+            write_on::<E, H>(host, image, note, &mounted, &of)
+        }
         Err(fault) => Err(fault),
     }
 }

@@ -1,4 +1,4 @@
-use Rattle.jmakes.proofs.LawLemmas.{atomic_leaves_files}
+use Rattle.jmakes.proofs.CommandLaws.{atomic_leaves_files}
 use Rattle.jmakes.proofs.laws.atomic_leaves_files.Goals as goal
 
 pub returns : goal.returns

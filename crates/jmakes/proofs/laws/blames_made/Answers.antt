@@ -1,4 +1,4 @@
-use Rattle.jmakes.proofs.LawLemmas.{blames_made}
+use Rattle.jmakes.proofs.CommandLaws.{blames_made}
 use Rattle.jmakes.proofs.laws.blames_made.Goals as goal
 
 pub returns : goal.returns

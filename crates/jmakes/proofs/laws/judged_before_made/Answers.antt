@@ -1,4 +1,4 @@
-use Rattle.jmakes.proofs.LawLemmas.{judged_before_made}
+use Rattle.jmakes.proofs.CommandLaws.{judged_before_made}
 use Rattle.jmakes.proofs.laws.judged_before_made.Goals as goal
 
 pub returns : goal.returns
