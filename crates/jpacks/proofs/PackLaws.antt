@@ -1,0 +1,85 @@
+-- Laws of `pack`: what comes before its listing is written only looks.
+use Rattle.std.proofs.Common.{◌≡◌, ◌⊎◌, ◌++◌, ℕ, List, None, Ok, Err, inl, inr, refl, subst, sym}
+use Rattle.jnode.specs.declared.order.Endian.{Endian}
+use Rattle.jbuild.specs.declared.host_files.HostFiles.{HostFiles}
+use Rattle.jcommand.specs.Parsed.{PackingParsed}
+use Rattle.jcommand.specs.declared.parsed.Placing.{Placing}
+use Rattle.jedge.specs.Acts.{Act, Ends, GoesOn, Then, answers}
+use Rattle.jedge.specs.Calls.{Answers, Event, Open}
+use Rattle.jedge.specs.Laws.{BlamesEvent}
+use Rattle.jedge.specs.Told.{Told}
+use Rattle.jedge.specs.declared.fault.Fault.{Fault}
+use Rattle.jedge.specs.declared.fault.Fault.TheVariants as fault
+use Rattle.jedge.proofs.LookingLemmas.{answers_looks}
+use Rattle.jfolders.specs.Keeping.{reads_folder}
+use Rattle.jfolders.specs.Laws.{BlamesCall}
+use Rattle.jfolders.specs.Reading.{listing_settings}
+use Rattle.jfolders.specs.declared.keeping.Listed.{Listed}
+use Rattle.jfolders.proofs.BlameLaws.{folders_blamed}
+use Rattle.jfolders.proofs.ReadLaws.{reading_makes_nothing}
+use Rattle.jmakes.specs.Laws.{BlamesMaking, JudgesBeforeMaking, LeavesAtFault}
+use Rattle.jmakes.specs.Writing.{ImageWanted}
+use Rattle.jmakes.proofs.CommandLaws.{text_blamed, text_judges, text_leaves}
+use Rattle.jmakes.proofs.LawLemmas.{IsBlamedBy, blamed_later, then_blamed, then_judges, then_leaves}
+use Rattle.jpacks.specs.PackLaws.{IsPackBlamed, PackBlamed, PackJudgedFirst, PackLeavesFiles}
+use Rattle.jpacks.specs.Packing.{WereKept, image_packed, packed_told, writes_listed}
+
+-- the fault is that of the act before an answer
+fault_of : (act : Act Told) (make : Told → Told) (events : List Event) (f : Fault) → Then act (λ told. answers (λ result. result ≡ Ok (make told))) events (Err f) → act events (Err f)
+fault_of act make events f (Ends g did is) = let alike : f ≡ g = cc in subst (λ (h : Fault). act events (Err h)) (sym alike) did
+fault_of act make events f (GoesOn told before after did more is) = let no : ⊥ = (let wrong = more.1 in cc) in absurd no
+
+-- ---- the listing of a folder is written
+
+listed_leaves : (wanted : ImageWanted) (listed : Listed) → LeavesAtFault wanted.file (writes_listed wanted listed)
+listed_leaves wanted listed = then_leaves wanted.file _ _ (answers_looks _) (λ (before : HostFiles) events f atomic other did.
+    text_leaves wanted None before listed.text.items events f atomic other (fault_of _ (packed_told listed.left_out) events f did))
+
+listed_judges : (wanted : ImageWanted) (listed : Listed) → JudgesBeforeMaking wanted.file (writes_listed wanted listed)
+listed_judges wanted listed = then_judges wanted.file _ _ (answers_looks _) (λ (before : HostFiles) events f did.
+    text_judges wanted None before listed.text.items events f (fault_of _ (packed_told listed.left_out) events f did))
+
+kept_blamed : (wanted : ImageWanted) (listed : Listed) (events : List Event) (f : Fault) → answers (WereKept listed.files) events (Err f) → IsBlamedBy wanted.file.name f events
+kept_blamed wanted listed events f is = let no : ⊥ = (let wrong = is.1.1 in cc) in absurd no
+
+listed_blamed : (wanted : ImageWanted) (listed : Listed) → BlamesMaking wanted.file (writes_listed wanted listed)
+listed_blamed wanted listed = then_blamed wanted.file _ _ (kept_blamed wanted listed) (λ (before : HostFiles) events f did.
+    text_blamed wanted None before listed.text.items events f (fault_of _ (packed_told listed.left_out) events f did))
+
+-- ---- the command
+
+pub pack_leaves_files : PackLeavesFiles
+pack_leaves_files e asked placing = then_leaves (image_packed e asked placing).file _ _
+    (reading_makes_nothing (listing_settings asked.owner asked.time) asked.quiet asked.folder).1
+    (λ (listed : Listed). listed_leaves (image_packed e asked placing) listed)
+
+pub pack_judged_first : PackJudgedFirst
+pack_judged_first e asked placing = then_judges (image_packed e asked placing).file _ _
+    (reading_makes_nothing (listing_settings asked.owner asked.time) asked.quiet asked.folder).1
+    (λ (listed : Listed). listed_judges (image_packed e asked placing) listed)
+
+-- a call that failed is one on a file or a folder
+call_blamed : (f : Fault) (events : List Event) → BlamesEvent f events → BlamesCall f events
+call_blamed (fault.File file) events is = (_, inl refl, is)
+call_blamed (fault.NotRead file) events is = is
+call_blamed (fault.NoNodes name others) events is = is
+call_blamed (fault.NoSpace folder) events is = is
+call_blamed (fault.Findings name findings) events is = is
+call_blamed (fault.Refused why) events is = is
+call_blamed fault.Output events is = (Answers, is.0, is.1, is.2)
+call_blamed fault.OutOfMemory events is = is
+
+pack_blamed_by : (name : List ℕ) (f : Fault) (events : List Event) → IsBlamedBy name f events → IsPackBlamed name f events
+pack_blamed_by name f events (inl is) = inl (call_blamed f events is)
+pack_blamed_by name f events (inr is) = inr is
+
+pub pack_blamed : PackBlamed
+pack_blamed e asked placing events f (Ends g did is) =
+    let alike : f ≡ g = cc in
+    let blames = (folders_blamed.0 (listing_settings asked.owner asked.time) asked.quiet asked.folder).1 in
+    inl (subst (λ (h : Fault). BlamesCall h events) (sym alike) (blames events g did))
+pack_blamed e asked placing events f (GoesOn listed before after did more is) =
+    let wanted = image_packed e asked placing in
+    subst (λ (l : List Event). IsPackBlamed wanted.file.name f l) (sym is)
+    (pack_blamed_by wanted.file.name f (before ++ after)
+    (blamed_later wanted.file.name f before after (listed_blamed wanted listed after f more)))

@@ -1,0 +1,3 @@
+pub mod PackLaws
+pub mod Packing
+pub mod Seen

@@ -1,0 +1,80 @@
+-- What `pack` does: read it as the manual page. The order is that of the steps.
+use Rattle.std.specs.Prelude.{◌≡◌, ◌==◌, ◌*◌, ◌/◌, ℕ, Bool, true, false, if◌then◌else◌, max, List, Option, Some, None, Result, Ok, Err}
+use Rattle.jnode.specs.declared.order.Endian.{Endian}
+use Rattle.jscan.specs.Image.{greatest_image}
+use Rattle.jbuild.specs.HostFiles.{read_of}
+use Rattle.jbuild.specs.declared.host_files.HostFiles.{HostFiles}
+use Rattle.jcommand.specs.Parsed.{PackingParsed}
+use Rattle.jcommand.specs.declared.parsed.Placing.{Placing}
+use Rattle.jedge.specs.Acts.{Act, Then, answers}
+use Rattle.jedge.specs.Told.{Told, either}
+use Rattle.jedge.specs.declared.fault.Fault.{Fault}
+use Rattle.jfolders.specs.Keeping.{files_kept, reads_folder}
+use Rattle.jfolders.specs.Reading.{listing_settings}
+use Rattle.jfolders.specs.declared.kept.KeptFiles.{KeptFiles}
+use Rattle.jfolders.specs.declared.keeping.Listed.{Listed}
+use Rattle.jmakes.specs.Commands.{writes_text}
+use Rattle.jmakes.specs.Writing.{ImageWanted}
+use Rattle.jmakes.specs.declared.wanted.Filling.{Filling}
+use Rattle.jmakes.specs.declared.wanted.Filling.TheVariants as filling
+
+-- ---- what is asked for
+
+-- as many blocks of a size as a flash may have, and one where no flash has blocks of this size
+abbrev pub most_packed : ℕ → ℕ
+most_packed size = if size == 0 then 1 else max (greatest_image / size) 1
+
+-- the number that is given, or else the greatest
+abbrev pub blocks_packed : ℕ → Option ℕ → ℕ
+blocks_packed size None = most_packed size
+blocks_packed size (Some given) = given
+
+-- with `--pad`, up to the end of the flash; or where the number of its blocks is left out, of the
+-- last one that has a byte
+abbrev pub filling_packed : Bool → ℕ → Option ℕ → Option Filling
+filling_packed false size given = None
+filling_packed true size None = Some (filling.Block size)
+filling_packed true size (Some given) = Some (filling.Length (given * size))
+
+abbrev pub image_packed : Endian → PackingParsed → Placing → ImageWanted
+image_packed e asked placing = record {
+  order = e;
+  flash = record {
+    geometry = asked.options.geometry;
+    blocks = blocks_packed asked.options.geometry.block asked.blocks;
+    page = asked.page;
+  };
+  file = record {
+    name = asked.output;
+    atomic = placing.atomic;
+    filling = filling_packed placing.pad asked.options.geometry.block asked.blocks;
+  };
+  weak = asked.weak;
+}
+
+-- ---- the act
+
+-- these were kept when they were found in the folder
+abbrev pub WereKept : KeptFiles → Result HostFiles Fault → Type 0
+WereKept files result = (before : HostFiles) × (result ≡ Ok before)
+    × ((name : List ℕ) → read_of before name ≡ files_kept files name)
+
+-- what was left out is found, or else what is found where the image is written
+abbrev pub packed_told : ℕ → Told → Told
+packed_told left_out told =
+    record { counted = either left_out told.counted; noted = told.noted }
+
+-- The text of a folder's listing is written on an empty base. Of the files that it names those are
+-- read that were not kept.
+abbrev pub writes_listed : ImageWanted → Listed → Act Told
+writes_listed wanted listed =
+    Then (answers (WereKept listed.files)) (λ before.
+    Then (writes_text wanted None before listed.text.items) (λ told.
+    answers (λ result. result ≡ Ok (packed_told listed.left_out told))))
+
+-- `pack`: the folder is read whole, and standard error is told what is left out; its listing is
+-- written.
+abbrev pub pack_act : Endian → PackingParsed → Placing → Act Told
+pack_act e asked placing =
+    Then (reads_folder asked.folder asked.quiet (listing_settings asked.owner asked.time))
+    (writes_listed (image_packed e asked placing))

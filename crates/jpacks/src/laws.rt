@@ -1,0 +1,19 @@
+//! Laws of the act of `pack`. Each function's contract is a law, and its body is empty.
+ghost use Rattle.jpacks.specs.PackLaws.{PackBlamed, PackJudgedFirst, PackLeavesFiles};
+
+/// With `--atomic`, a fault leaves the files of the host as they were, and what was made is
+/// removed, or that failed. But the fault of standard output comes when the file has its name.
+pub fn pack_leaves_files()
+    ensures { PackLeavesFiles }
+{}
+
+/// Nothing is made, and no file changed, at any fault but those of the file that is made and of
+/// writing it.
+pub fn pack_judged_first()
+    ensures { PackJudgedFirst }
+{}
+
+/// A fault that names a file or a folder comes with a call on it that failed, for the same reason.
+pub fn pack_blamed()
+    ensures { PackBlamed }
+{}
