@@ -1,0 +1,100 @@
+//! All that a command may touch, of the system. What the system did is not reported.
+ghost use Rattle.std.specs.Prelude.{◌≡◌, None};
+
+use crate::faults::unread;
+use crate::output::BufferedOutput;
+use crate::source::FileSource;
+use flashbase::{FromWriter, load};
+use jedge::fault::{FailedFile, Fault};
+use jedge::host::{Host, Input};
+use jreport::Reason;
+use jscan::GREATEST_IMAGE;
+use std::alloc::Global;
+use std::fs;
+use std::fs::File;
+use std::io::{Stderr, Stdout};
+
+/// A file of the system that was opened by this name.
+#[derive(Drop)]
+pub struct OpenedFile {
+    pub(crate) name: String,
+    pub(crate) file: File,
+}
+
+impl Input for OpenedFile {
+    ghost use Rattle.std.specs.Prelude.{string_bytes};
+
+    ghost name = { λ input. string_bytes input.name };
+}
+
+/// The system's files, streams and folders.
+#[derive(Drop)]
+pub struct SystemHost<'r> {
+    pub(crate) rt: &'r HostRuntime,
+}
+
+impl<'r> SystemHost<'r> {
+    pub fn new(rt: &'r HostRuntime) -> Self
+        ensures { ⟦<SystemHost<'r> as Host>⟧.history result ≡ None }
+    {
+        SystemHost { rt }
+    }
+}
+
+impl<'r> Host for SystemHost<'r> {
+    ghost use Rattle.std.specs.Prelude.{None};
+
+    ghost history = { λ _. None };
+
+    type Input = OpenedFile;
+
+    type Output = BufferedOutput<Stdout>;
+
+    type Errors = FromWriter<Stderr>;
+
+    fn alloc(&self) -> Global {
+        self.rt.alloc()
+    }
+
+    fn open(&mut self, name: &str) -> Result<OpenedFile, Fault> {
+        let Ok(name) = name.to_string(self.rt.alloc()) else {
+            return Err(Fault::OutOfMemory);
+        };
+        match fs::open(self.rt, name.as_str()) {
+            Ok(file) => Ok(OpenedFile { name, file }),
+            Err(error) => Err(Fault::File(FailedFile {
+                name,
+                reason: Reason::of(&error),
+            })),
+        }
+    }
+
+    fn read(&mut self, input: OpenedFile) -> Result<Vec<u8>, Fault> {
+        let OpenedFile { name, file } = input;
+        let mut source = FileSource::new(file);
+        match load(self.rt.alloc(), &mut source, GREATEST_IMAGE) {
+            Ok(bytes) => Ok(bytes),
+            Err(why) => Err(unread(name, source.reason(), why)),
+        }
+    }
+
+    fn output(&mut self) -> Result<BufferedOutput<Stdout>, Fault> {
+        match BufferedOutput::new(self.rt.alloc(), self.rt.stdout()) {
+            Ok(out) => Ok(out),
+            Err(_) => Err(Fault::OutOfMemory),
+        }
+    }
+
+    fn close(&mut self, mut out: BufferedOutput<Stdout>) -> Result<(), Fault> {
+        match out.finish(None) {
+            Ok(()) => Ok(()),
+            Err(_) => Err(Fault::Output),
+        }
+    }
+
+    fn errors(&mut self) -> FromWriter<Stderr> {
+        FromWriter::new(self.rt.stderr())
+    }
+
+    fn close_errors(&mut self, _errors: FromWriter<Stderr>) {}
+}
