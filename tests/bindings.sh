@@ -134,6 +134,23 @@ if has python3 && has cc; then
         "$program" compress --block 8192 "$image.plain" small.wanted > /dev/null
         does "Python: $image compressed" cmp small.img small.wanted
     done
+    # what a listing makes: of no image, and behind one
+    printf '%s\n' 'time 7' 'owner 3 4' 'mkdir 0750 /made' 'file 0640 /made/text words' 'part /made/text 4000 words' \
+        'symlink /made/name text' 'rename /made/text /made/other' 'remove /made/name' > listing
+    python3 -c 'print("some words\n" * 500)' > words
+    for image in $images; do
+        does "Python: what a listing makes of $image" \
+            python3 python/tests/write_as_program.py "$image.plain" 8192 64 listing . words
+        flash="--block 8192 --blocks 64"
+        "$program" build $flash listing built.wanted > /dev/null
+        "$program" append $flash "$image.plain" listing added.wanted > /dev/null
+        "$program" cuts $flash listing > built.told
+        "$program" cuts $flash --on "$image.plain" listing > added.told
+        for name in built added; do
+            does "Python: $name of $image" cmp "$name.img" "$name.wanted"
+            does "Python: the cuts of what is $name of $image" diff "$name.txt" "$name.told"
+        done
+    done
     # nodes and findings of ten images: whole, decompressed, in big-endian order, cut and damaged
     cp "$data/lzo.img" lzo.plain
     cp "$data/lzma_big.img" big.plain

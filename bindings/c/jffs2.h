@@ -44,7 +44,17 @@ enum {
     JFFS2_TOO_LONG = 21,     /* decompressed, the node at .address is too long */
     JFFS2_READ_ONLY = 22,    /* a node says that the image may not be written */
     JFFS2_GEOMETRY = 23,     /* blocks of this size are not written: they have at least 8192 bytes */
-    JFFS2_FULL = 24          /* the greatest flash has no room for the nodes */
+    JFFS2_FULL = 24,         /* the flash has no room for the nodes, or, if .address is not 0, for the
+                                operation at line .address */
+    JFFS2_PAGE = 25,         /* files are cut by pages of 4096, 8192 or 16384 bytes */
+    JFFS2_LISTING = 30,      /* line .address of the listing means nothing. By .detail: 1: a space at
+                                its start; 2: two spaces; 3: a space at its end; 4: a carriage
+                                return; 5: an unknown name; 6: too few words; 7: too many; 8: a
+                                wrong word. */
+    JFFS2_REFUSED = 31,      /* the operation at line .address is refused: .detail is 1 to 12 for O1
+                                to O12 of the manual page */
+    JFFS2_FILES = 32,        /* row .address of the files, from 0 on, is not within their bytes */
+    JFFS2_NO_FILE = 33       /* line .address names a file that is not given */
 };
 
 /* The block size and byte order, which an image does not record, and how its data are read. */
@@ -173,6 +183,32 @@ typedef struct jffs2_info_row {
     uint64_t data_other;
 } jffs2_info_row;
 
+/* The flash that is written: how many blocks it has, and the page by which files are cut. */
+typedef struct jffs2_target {
+    uint32_t blocks;
+    uint32_t page; /* 4096, 8192 or 16384 */
+} jffs2_target;
+
+/* A file that a listing may name: where its name and its bytes are among the bytes of all files. */
+typedef struct jffs2_file {
+    uint64_t name_at;
+    uint64_t name_len;
+    uint64_t at;
+    uint64_t length;
+} jffs2_file;
+
+/* What jffs2_append or jffs2_update wrote. */
+typedef struct jffs2_written {
+    uint64_t bytes;    /* of the new image */
+    uint64_t accepted; /* operations, from the first on */
+    uint64_t nodes;
+    uint32_t stop;     /* 0 if all were accepted, else JFFS2_FULL or JFFS2_REFUSED: the next one was
+                          not */
+    uint32_t line;     /* the line of that one, else 0 */
+    uint32_t detail;   /* at JFFS2_REFUSED 1 to 12, else 0 */
+    uint32_t spare;    /* 0 */
+} jffs2_written;
+
 /* The checksum of bytes, as in nodes: CRC-32 without the two complements. */
 uint32_t jffs2_crc(const uint8_t *bytes, size_t len);
 
@@ -240,6 +276,43 @@ uint32_t jffs2_decompress(const uint8_t *image, size_t len, const jffs2_how *how
  * to 4, 7, 21 to 24; 4 if a node is compressed already; JFFS2_SMALL. */
 uint32_t jffs2_compress(const uint8_t *image, size_t len, const jffs2_how *how,
                         uint8_t *out, size_t out_len, size_t *needed, jffs2_fault *fault);
+
+/* The image of those nodes alone that matter, on an erased flash of so many blocks, each with the bytes
+ * that it has: it shows the same tree, and has no damage or dirt. Compressed data stay as they are,
+ * whatever `how` asks. 1 to 7, 20 to 24; at 24 so many blocks have no room for the nodes; JFFS2_SMALL. */
+uint32_t jffs2_compact(const uint8_t *image, size_t len, const jffs2_how *how, uint32_t blocks,
+                       uint8_t *out, size_t out_len, size_t *needed, jffs2_fault *fault);
+
+/* What `jffs2_image cuts` prints of the operations of a listing on an image: from which byte on each
+ * node that they write is whole. With no bytes as `image` they make a new one. Lines may name files:
+ * the first one of a name counts. 1 to 7, 22 to 25, 30 to 33; JFFS2_SMALL. */
+uint32_t jffs2_cuts(const uint8_t *image, size_t len, const jffs2_how *how,
+                    const jffs2_target *target, const uint8_t *listing, size_t listing_len,
+                    const uint8_t *files, size_t files_len,
+                    const jffs2_file *rows, size_t row_count,
+                    uint8_t *out, size_t out_len, size_t *needed, jffs2_fault *fault);
+
+/* An image with what `jffs2_image append` writes behind its nodes; with no bytes as `image` what
+ * `build` writes. If an operation is refused or has no room, those before it are written, and
+ * `written` says which one it is. 1 to 7, 22, 23, 25, 30, 32, 33; JFFS2_SMALL, at which `written` is
+ * as at JFFS2_OK. */
+uint32_t jffs2_append(const uint8_t *image, size_t len, const jffs2_how *how,
+                      const jffs2_target *target, const uint8_t *listing, size_t listing_len,
+                      const uint8_t *files, size_t files_len,
+                      const jffs2_file *rows, size_t row_count,
+                      uint8_t *out, size_t out_len, jffs2_written *written, jffs2_fault *fault);
+
+/* A device's image with what the operations of a listing write to its blank blocks and to the erased
+ * ends of the others; each other byte is as it is in `image`. What the image shows is read through its
+ * compression, whatever `how` asks. If `pack` is not 0, new data of files are compressed by ZLIB if
+ * that makes a node shorter. `written` is as of jffs2_append. 1 to 7, 20 to 23, 25, 30, 32, 33;
+ * JFFS2_SMALL. */
+uint32_t jffs2_update(const uint8_t *image, size_t len, const jffs2_how *how,
+                      const jffs2_target *target, uint32_t pack,
+                      const uint8_t *listing, size_t listing_len,
+                      const uint8_t *files, size_t files_len,
+                      const jffs2_file *rows, size_t row_count,
+                      uint8_t *out, size_t out_len, jffs2_written *written, jffs2_fault *fault);
 
 #ifdef __cplusplus
 }

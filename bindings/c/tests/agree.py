@@ -19,7 +19,12 @@ STRUCTS = {
     "jffs2_finding_row": ("FindingRow", "Finding", "_Finding"),
     "jffs2_node_row": ("NodeRow", "Node", "_Node"),
     "jffs2_info_row": ("InfoRow", "InfoRow", "_InfoRow"),
+    "jffs2_target": ("Target", "Target", "_Target"),
+    "jffs2_file": ("FileRow", "FileRow", "_FileRow"),
+    "jffs2_written": ("Written", "Written", "_Written"),
 }
+# the modules of crates/jcalls that have them
+ROWS_IN = ("how", "told", "rows", "finding_row", "node_row", "given", "working", "appending")
 RATTLE = {rattle: header for header, (rattle, _, _) in STRUCTS.items()}
 RUST = {rust: header for header, (_, rust, _) in STRUCTS.items()}
 
@@ -123,7 +128,7 @@ kinds = {"uint32_t": ctypes.c_uint32, "uint64_t": ctypes.c_uint64}
 def main():
     header = text_of("bindings/c/jffs2.h")
     structs, calls = header_structs(header), header_calls(header)
-    rattle = text_of(*(f"crates/jcalls/src/{it}.rt" for it in ("how", "told", "rows", "finding_row", "node_row")))
+    rattle = text_of(*(f"crates/jcalls/src/{it}.rt" for it in ROWS_IN))
     rust = text_of("bindings/rust/src/sys.rs", "bindings/rust/src/lib.rs")
     pairs = [("calls of crates/jffs2_c", rattle_calls(text_of("crates/jffs2_c/src/lib.rt")), calls)]
     pairs += [("calls of bindings/rust", rust_calls(rust), calls)]

@@ -35,7 +35,13 @@ void rattle_dealloc(void *p) {
 
 static uint8_t image[1 << 17], out[1 << 17], small[1 << 17];
 static jffs2_entry rows[100];
-static const char *names_of_calls[] = {"stat", "read", "tree", "decompress", "compress", "tree_text", "check_text"};
+static const char *names_of_calls[] = {"stat",       "read",    "tree", "decompress", "compress", "tree_text",
+                                       "check_text", "compact", "cuts", "append",     "update"};
+
+enum { CALLS = sizeof names_of_calls / sizeof *names_of_calls };
+static const char listing[] = "time 1\nmkdir 0755 /new\nfile 0644 /new/file x\n";
+static const jffs2_file files[] = {{0, 1, 0, 5000}};
+static uint8_t content[5000] = "x";
 
 static int untouched(const void *at, size_t len) {
     for (size_t i = 0; i < len; i++)
@@ -55,6 +61,19 @@ static uint32_t call(int which, size_t len, const jffs2_how *how, size_t plain_l
     if (which == 5)
         return jffs2_tree_text(image, len, how, (const uint8_t *)"/", 1, out, sizeof out, &got, &fault);
     if (which == 6) return jffs2_check_text(image, len, how, 1, out, sizeof out, &got, &fault);
+    if (which == 7) return jffs2_compact(image, len, how, 16, out, sizeof out, &got, &fault);
+    jffs2_target target = {16, 4096};
+    const uint8_t *text = (const uint8_t *)listing;
+    size_t text_len = sizeof listing - 1;
+    if (which == 8)
+        return jffs2_cuts(small, plain_len, how, &target, text, text_len, content, sizeof content, files, 1, out,
+                          sizeof out, &got, &fault);
+    if (which == 9)
+        return jffs2_append(small, plain_len, how, &target, text, text_len, content, sizeof content, files, 1, out,
+                            sizeof out, (jffs2_written *)rows, &fault);
+    if (which == 10)
+        return jffs2_update(image, len, how, &target, 1, text, text_len, content, sizeof content, files, 1, out,
+                            sizeof out, (jffs2_written *)rows, &fault);
     return jffs2_compress(small, plain_len, how, out, sizeof out, &got, &fault);
 }
 
@@ -66,7 +85,7 @@ int main(int argc, char **argv) {
     jffs2_fault fault;
     left = -1;
     if (jffs2_decompress(image, len, &how, small, sizeof small, &plain_len, &fault)) return 2;
-    for (int which = 0; which < 7; which++) {
+    for (int which = 0; which < CALLS; which++) {
         long i;
         for (i = 0;; i++) {
             memset(out, 7, sizeof out), memset(rows, 7, sizeof rows);

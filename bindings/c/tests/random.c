@@ -20,7 +20,9 @@ static void untouched(const char *what, uint32_t status, const void *at, size_t 
     for (size_t i = from; i < len; i++)
         if (((const uint8_t *)at)[i] != 7) fail(what, status);
 }
-static int known(uint32_t status) { return status <= 12 ? status != 8 : status >= 20 && status <= 24; }
+static int known(uint32_t status) {
+    return status <= 12 ? status != 8 : (status >= 20 && status <= 25) || (status >= 30 && status <= 33);
+}
 
 static long seen[64];
 
@@ -82,6 +84,38 @@ static void convert(const uint8_t *image, size_t len, const jffs2_how *how) {
     free(out);
 }
 
+/* a listing cut at any byte and changed in one, over files whose rows are changed too */
+static void write_on(const uint8_t *image, size_t len, const jffs2_how *how) {
+    static const char lines[] = "time 1\nmkdir 0755 /new\nfile 0644 /new/x f\nremove /etc/passwd\nrename /new /old\n";
+    static const uint8_t content[2000] = "f";
+    jffs2_fault fault = {0, 0};
+    jffs2_written written = {0, 0, 0, 0, 0, 0, 0};
+    jffs2_target target = {below(8) ? 2 + below(8) : below(3), 4096u << below(4)};
+    jffs2_file row = {below(2), 1, below(2), below(2100)};
+    size_t needed = 0, room = below(60000), text_len = below(4) ? sizeof lines - 1 : below(sizeof lines);
+    uint8_t *out = malloc(room + 1), *text = malloc(text_len + 1);
+    memset(out, 7, room), memcpy(text, lines, text_len);
+    if (below(4) == 0 && text_len) text[below((uint32_t)text_len)] = (uint8_t)below(256);
+    if (below(16) == 0) row.at = UINT64_MAX - below(2000);
+    uint32_t which = below(4), pack = below(2);
+    uint32_t status =
+        which == 0   ? jffs2_compact(image, len, how, target.blocks, out, room, &needed, &fault)
+        : which == 1 ? jffs2_cuts(image, len, how, &target, text, text_len, content, sizeof content, &row, 1, out, room,
+                                  &needed, &fault)
+        : which == 2
+            ? jffs2_append(image, len, how, &target, text, text_len, content, sizeof content, &row, 1, out, room, &written,
+                           &fault)
+            : jffs2_update(image, len, how, &target, pack, text, text_len, content, sizeof content, &row, 1, out, room,
+                           &written, &fault);
+    if (which >= 2) needed = written.bytes;
+    seen[status]++;
+    if (!known(status)) fail("write", status);
+    if (status == JFFS2_SMALL && needed <= room) fail("write is small", status);
+    if (status && status != JFFS2_SMALL && needed) fail("write told", status);
+    untouched("write wrote", status, out, status ? 0 : needed, room);
+    free(out), free(text);
+}
+
 int main(int argc, char **argv) {
     FILE *file = argc == 5 ? fopen(argv[1], "rb") : NULL;
     if (!file) return 2;
@@ -98,6 +132,7 @@ int main(int argc, char **argv) {
         look(image, part, &how);
         print(image, part, &how);
         if (i % 8 == 0) convert(image, part, &how);
+        if (i % 4 == 0) write_on(image, part, &how);
         free(image);
     }
     for (int i = 0; i < 64; i++)

@@ -1,5 +1,5 @@
-"""Images of JFFS2, the Journalling Flash File System 2: their files, their damage, and the same nodes decompressed or
-compressed.
+"""Images of JFFS2, the Journalling Flash File System 2: their files, their damage, the same nodes decompressed,
+compressed or compacted, and images that operations make or go on with.
 
 The shared library libjffs2.so, which is proved, does the work. docs/BINDINGS.md of the repository says what is proved
 and what is only trusted. This module needs no other package.
@@ -20,10 +20,10 @@ from __future__ import annotations
 import ctypes
 import os
 import sys
-from collections.abc import Iterable
+from collections.abc import Iterable, Mapping
 from typing import Any, NamedTuple
 
-__all__ = ["Counts", "Entry", "Error", "Finding", "Image", "Info", "Node", "Stat", "crc", "info"]
+__all__ = ["Counts", "Entry", "Error", "Finding", "Image", "Info", "Node", "Stat", "Written", "crc", "info"]
 
 #: The numbers of errors and their names.
 NAMES = {
@@ -43,13 +43,20 @@ NAMES = {
     22: "ReadOnly",
     23: "Geometry",
     24: "Full",
+    25: "Page",
+    30: "Listing",
+    31: "Refused",
+    32: "Files",
+    33: "NoFile",
 }
 _SMALL = 9
 
 
 class Error(Exception):
     """Why a call gives no answer: its number `status`, its `name`, the `address` of the node, and a `detail`, which is
-    the type of the node or the number of its compression."""
+    the type of the node or the number of its compression. Errors of a listing (Listing, Refused, NoFile, Full) have
+    the number of its line as `address`, and `detail` is a key of RULES at Listing, and 1 to 12 for O1 to O12 of the
+    manual page at Refused."""
 
     def __init__(self, status: int, address: int = 0, detail: int = 0) -> None:
         self.status = status
@@ -154,6 +161,32 @@ KINDS = {
 CHECKS = {1: "node-crc", 2: "name-crc", 3: "data-crc", 4: "length", 5: "range"}
 
 
+#: What is wrong about a line, by the `detail` of the error Listing.
+RULES = {
+    1: "space-at-start",
+    2: "two-spaces",
+    3: "space-at-end",
+    4: "carriage-return",
+    5: "no-operation",
+    6: "too-few-words",
+    7: "too-many-words",
+    8: "word",
+}
+
+
+class Written(NamedTuple):
+    """What `append` wrote: the bytes of the new image, how many operations were accepted, and how many nodes these
+    have. `stop` is 0 if all were accepted, else the number of the error Full or Refused of the next one, with its
+    `line` and `detail`."""
+
+    bytes: int
+    accepted: int
+    nodes: int
+    stop: int
+    line: int
+    detail: int
+
+
 class Info(NamedTuple):
     """The parameters of an image of unknown block size and byte order. `order` is "little", "big", or None if no node
     is good; `least_block` and `greatest_block` are 0 if no size is known."""
@@ -196,6 +229,12 @@ _Request = _structure(
 )
 _Finding = _structure("_Finding", [(it, _U32) for it in Finding._fields])
 _Node = _structure("_Node", [(it, _U32) for it in (*Node._fields[:-1], "spare")] + [("stored", _U64)])
+_Target = _structure("_Target", [("blocks", _U32), ("page", _U32)])
+_FileRow = _structure("_FileRow", [(it, _U64) for it in ("name_at", "name_len", "at", "length")])
+_Written = _structure(
+    "_Written",
+    [(it, _U64) for it in Written._fields[:3]] + [(it, _U32) for it in (*Written._fields[3:], "spare")],
+)
 _InfoRow = _structure(
     "_InfoRow",
     [("bytes", _U64)]
@@ -205,6 +244,7 @@ _InfoRow = _structure(
 )
 
 _IMAGE = [_AT, _LEN, _AT]
+_WORK = [_AT, _AT, _LEN, _AT, _LEN, _AT, _LEN]
 _CALLS = {
     "jffs2_crc": [_AT, _LEN],
     "jffs2_info": [_AT, _LEN, _AT],
@@ -219,6 +259,10 @@ _CALLS = {
     "jffs2_check_text": [*_IMAGE, _U32, _AT, _LEN, _AT, _AT],
     "jffs2_decompress": [*_IMAGE, _AT, _LEN, _AT, _AT],
     "jffs2_compress": [*_IMAGE, _AT, _LEN, _AT, _AT],
+    "jffs2_compact": [*_IMAGE, _U32, _AT, _LEN, _AT, _AT],
+    "jffs2_cuts": [*_IMAGE, *_WORK, _AT, _LEN, _AT, _AT],
+    "jffs2_append": [*_IMAGE, *_WORK, _AT, _LEN, _AT, _AT],
+    "jffs2_update": [*_IMAGE, _AT, _U32, *_WORK[1:], _AT, _LEN, _AT, _AT],
 }
 
 
@@ -246,6 +290,25 @@ def _lent(data: Any) -> _Lent:
         return _lent(b"")
     kept = (ctypes.c_ubyte * view.nbytes).from_buffer(view.cast("B"))
     return ctypes.cast(kept, _AT), view.nbytes, kept
+
+
+class _Work:
+    """What is to be done: a listing, the files that it may name, and the flash. It keeps what is lent while it lives."""
+
+    def __init__(self, listing: str | bytes, blocks: int, page: int, files: Mapping[str | bytes, Any] | None) -> None:
+        text, rows = bytearray(), []
+        for name, content in (files or {}).items():
+            word, data = os.fsencode(name), bytes(memoryview(content))
+            rows.append(_FileRow(len(text), len(word), len(text) + len(word), len(data)))
+            text += word + data
+        self._kept = _lent(os.fsencode(listing)), _lent(bytes(text))
+        self._rows, self._target = (_FileRow * (len(rows) or 1))(*rows), _Target(blocks, page)
+        self._count = len(rows)
+
+    def words(self) -> list[Any]:
+        """The parameters of a call."""
+        lent = [word for at, length, _kept in self._kept for word in (at, length)]
+        return [ctypes.byref(self._target), *lent, self._rows, self._count]
 
 
 def _tuple(row: Any, kind: Any) -> Any:
@@ -400,6 +463,57 @@ class Image:
     def compress(self) -> bytes:
         """An image of the same nodes, with data of files compressed by ZLIB if that makes a node shorter."""
         return self._bytes("jffs2_compress", self._length)
+
+    def compact(self, blocks: int) -> bytes:
+        """The image of those nodes alone that matter, on an erased flash of so many blocks: it shows the same tree, and
+        has no damage or dirt. Compressed data stay as they are."""
+        return self._bytes("jffs2_compact", self._length, blocks)
+
+    def cuts(
+        self, listing: str | bytes, blocks: int, page: int = 4096, files: Mapping[str | bytes, Any] | None = None
+    ) -> bytes:
+        """What `jffs2_image cuts` prints of the operations of a listing on the image, on a flash of so many blocks:
+        from which byte on each node that they write is whole. On an image of no bytes they make a new one. `files` has
+        the bytes of the files that lines name. Listing, Refused, NoFile, Full, Page, ReadOnly, Geometry, or an error
+        because the image does not mount."""
+        work = _Work(listing, blocks, page, files)
+        return self._bytes("jffs2_cuts", 0, *work.words())
+
+    def append(
+        self, listing: str | bytes, blocks: int, page: int = 4096, files: Mapping[str | bytes, Any] | None = None
+    ) -> tuple[bytes, Written]:
+        """The image with what the operations of a listing write behind its nodes, as `jffs2_image append`; on an image
+        of no bytes a new one, as `jffs2_image build`. If an operation is refused or has no room, those before it are
+        written, and the second part of the answer says why. Listing, NoFile, Page, ReadOnly, Geometry, or an error
+        because the image does not mount."""
+        work = _Work(listing, blocks, page, files)
+        return self._written("jffs2_append", *work.words())
+
+    def update(
+        self,
+        listing: str | bytes,
+        blocks: int,
+        page: int = 4096,
+        files: Mapping[str | bytes, Any] | None = None,
+        pack: bool = False,
+    ) -> tuple[bytes, Written]:
+        """The image of a device with what the operations of a listing write to its blank blocks and to the erased ends
+        of the others; each other byte stays. The image is read through its compression. With `pack` new data of files
+        are compressed by ZLIB if that makes a node shorter. Answer and errors as of `append`."""
+        work = _Work(listing, blocks, page, files)
+        target, *rest = work.words()
+        return self._written("jffs2_update", target, int(pack), *rest)
+
+    def _written(self, name: str, *words: Any) -> tuple[bytes, Written]:
+        size = self._length
+        while True:
+            out, row, fault = ctypes.create_string_buffer(size or 1), _Written(), _Fault()
+            status = self._call(name, *words, out, size, ctypes.byref(row), ctypes.byref(fault))
+            if status != _SMALL:
+                break
+            size = row.bytes
+        _answer(status, fault)
+        return out.raw[: row.bytes], _tuple(row, Written)
 
 
 if sys.byteorder != "little":

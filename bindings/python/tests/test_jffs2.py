@@ -109,6 +109,53 @@ class Calls(unittest.TestCase):
         self.assertLess(len(small), len(plain))
         self.assertEqual(jffs2.Image(small, 8192).decompress(), plain)
 
+    def test_append(self):
+        listing, files = "time 7\nmkdir 0755 /d\nfile 0644 /d/f text\n", {"text": b"hello", "none": bytearray()}
+        made, row = jffs2.Image(b"", 8192).append(listing, 4, files=files)
+        self.assertEqual((row.bytes, row.accepted, row.stop), (len(made), 2, 0))
+        image = jffs2.Image(made, 8192)
+        self.assertEqual(image.read("/d/f"), b"hello")
+        # the last line of `cuts` tells of the same nodes
+        told = jffs2.Image(b"", 8192).cuts(listing, 4, files=files).decode().splitlines()
+        self.assertEqual(told[-1].split()[:5], ["total", "operations", "2", "steps", str(row.nodes)])
+        self.assertEqual(len(told), row.nodes + 1)
+        more = "time 8\nremove /d/f\nremove /e\n"
+        less, row = image.append(more, 4)
+        self.assertEqual(less[: len(made)], made)
+        self.assertEqual((row.accepted, row.stop, row.line, row.detail), (1, 31, 3, 3))
+        self.refused("NotFound", jffs2.Image(less, 8192).stat, "/d/f")
+        found = self.refused("Refused", image.cuts, more, 4)
+        self.assertEqual((found.address, found.detail), (3, 3))
+
+    def test_append_refused(self):
+        none = jffs2.Image(b"", 8192)
+        for call in (none.append, none.cuts):
+            self.assertEqual(self.refused("NoFile", call, "time 1\nfile 0644 /f x", 4).address, 2)
+            found = self.refused("Listing", call, "time 1\n\nmkdir  0755 /d", 4)
+            self.assertEqual((found.address, jffs2.RULES[found.detail]), (3, "two-spaces"))
+            self.refused("Page", call, "", 4, 512)
+            self.refused("Geometry", call, "", 4, 8192)
+            self.refused("Compressed", jffs2.Image(self.data, 8192).append, "", 4)
+        large = ("time 1\nfile 0644 /f x", 1, 4096, {"x": b"x" * 9000})
+        self.assertEqual(none.append(*large)[1].stop, 24)
+        self.assertEqual(self.refused("Full", none.cuts, *large).address, 2)
+
+    def test_update(self):
+        lines, files = "time 8\nmkdir 0755 /new\nfile 0644 /new/f text\nremove /new/e\n", {"text": b"x" * 3000}
+        for pack in (False, True):
+            made, row = self.image.update(lines, 4, files=files, pack=pack)
+            self.assertEqual((row.bytes, row.accepted, row.stop, row.line, row.detail), (len(made), 2, 31, 4, 3))
+            image = jffs2.Image(made, 8192, through=True)
+            self.assertEqual(image.read("/new/f"), files["text"])
+            self.assertEqual(image.read("/etc/passwd"), self.image.read("/etc/passwd"))
+            self.assertEqual(jffs2.info(made).data["zlib"] - jffs2.info(self.data).data["zlib"], int(pack))
+        self.refused("Page", self.image.update, lines, 4, 512)
+
+    def test_compact(self):
+        made = self.image.compact(2)
+        self.assertEqual(jffs2.Image(made, 8192, through=True).tree_text(), self.image.tree_text())
+        self.refused("Geometry", self.image.compact, 0)
+
     def test_no_image(self):
         self.assertEqual(jffs2.Image(b"").tree(), [])
         self.assertEqual(jffs2.Image(b"").stat("/").number, 1)

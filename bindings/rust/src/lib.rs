@@ -1,5 +1,5 @@
-//! Images of JFFS2, the Journalling Flash File System 2: their files, their damage, and the same
-//! nodes decompressed or compressed.
+//! Images of JFFS2, the Journalling Flash File System 2: their files, their damage, the same nodes
+//! decompressed, compressed or compacted, and images that operations make or go on with.
 //!
 //! `libjffs2_c.a`, which is proved, does the work. `docs/BINDINGS.md` of the repository says what
 //! is proved and what is only trusted. The duties of the library's caller follow from Rust's types,
@@ -82,8 +82,34 @@ pub enum Error {
     ReadOnly,
     /// Blocks of this size are not written: they have at least 8 KiB.
     Geometry,
-    /// The greatest flash of such blocks has no room for the nodes.
-    Full,
+    /// The flash has no room for the operation at this line of the listing; or, if it is 0, for the
+    /// nodes.
+    Full {
+        /// The line, from 1 on, or 0.
+        line: u32,
+    },
+    /// Files are cut by pages of 4096, 8192 or 16384 bytes.
+    Page,
+    /// This line of the listing means nothing.
+    Listing {
+        /// The line, from 1 on.
+        line: u32,
+        /// 1 a space at its start, 2 two spaces, 3 a space at its end, 4 a carriage return, 5 an
+        /// unknown name, 6 too few words, 7 too many, 8 a wrong word.
+        rule: u32,
+    },
+    /// The operation at this line is refused.
+    Refused {
+        /// The line, from 1 on.
+        line: u32,
+        /// 1 to 12 for O1 to O12 of the manual page.
+        reason: u32,
+    },
+    /// This line names a file that is not given.
+    NoFile {
+        /// The line, from 1 on.
+        line: u32,
+    },
     /// A number that this crate does not know.
     Other {
         /// The number.
@@ -115,7 +141,12 @@ impl fmt::Display for Error {
             Error::TooLong { address } => write!(f, "the node at {address:08x} gets too long"),
             Error::ReadOnly => write!(f, "the image may not be written"),
             Error::Geometry => write!(f, "blocks of this size are not written"),
-            Error::Full => write!(f, "no flash has room for the nodes"),
+            Error::Full { line: 0 } => write!(f, "the flash has no room for the nodes"),
+            Error::Full { line } => write!(f, "the flash has no room for line {line}"),
+            Error::Page => write!(f, "files are not cut by such pages"),
+            Error::Listing { line, rule } => write!(f, "line {line} means nothing: rule {rule}"),
+            Error::Refused { line, reason } => write!(f, "line {line} is refused: O{reason}"),
+            Error::NoFile { line } => write!(f, "line {line} names a file that is not given"),
             Error::Other { status } => write!(f, "status {status}"),
         }
     }
@@ -146,7 +177,17 @@ fn error(status: u32, fault: sys::Fault) -> Error {
         21 => Error::TooLong { address },
         22 => Error::ReadOnly,
         23 => Error::Geometry,
-        24 => Error::Full,
+        24 => Error::Full { line: address },
+        25 => Error::Page,
+        30 => Error::Listing {
+            line: address,
+            rule: fault.detail,
+        },
+        31 => Error::Refused {
+            line: address,
+            reason: fault.detail,
+        },
+        33 => Error::NoFile { line: address },
         status => Error::Other { status },
     }
 }
@@ -375,6 +416,82 @@ impl Tree {
     /// The names of one directory, in byte order.
     pub fn directory(&self, number: u32) -> impl Iterator<Item = Entry<'_>> + '_ {
         self.entries().filter(move |it| it.directory == number)
+    }
+}
+
+/// The flash that is written.
+#[repr(C)]
+#[derive(Clone, Copy, Debug, PartialEq, Eq)]
+pub struct Target {
+    /// How many blocks it has.
+    pub blocks: u32,
+    /// The bytes of the page by which files are cut: 4096, 8192 or 16384.
+    pub page: u32,
+}
+
+/// A file that a listing may name.
+#[derive(Clone, Copy, Debug, PartialEq, Eq)]
+pub struct File<'f> {
+    /// The name that lines have. The first file of a name counts.
+    pub name: &'f [u8],
+    /// Its bytes.
+    pub bytes: &'f [u8],
+}
+
+/// What `append` wrote.
+#[repr(C)]
+#[derive(Clone, Copy, Debug, Default, PartialEq, Eq)]
+pub struct Written {
+    /// The bytes of the new image.
+    pub bytes: u64,
+    /// How many operations were accepted, from the first on.
+    pub accepted: u64,
+    /// How many nodes these have.
+    pub nodes: u64,
+    /// 0 if all were accepted, else the number of what `stopped` tells.
+    pub stop: u32,
+    /// The line of the operation that was not, else 0.
+    pub line: u32,
+    /// The reason if it was refused, else 0.
+    pub detail: u32,
+    /// 0.
+    pub spare: u32,
+}
+
+impl Written {
+    /// Why the operation after the accepted ones was not: `Full` or `Refused`. None if all were
+    /// accepted.
+    pub fn stopped(&self) -> Option<Error> {
+        let fault = sys::Fault {
+            address: self.line,
+            detail: self.detail,
+        };
+        (self.stop != 0).then(|| error(self.stop, fault))
+    }
+}
+
+/// The bytes of files, one after the other, and where each has its own.
+struct Lent {
+    bytes: Vec<u8>,
+    rows: Vec<sys::FileRow>,
+}
+
+impl Lent {
+    fn of(files: &[File<'_>]) -> Self {
+        let (mut bytes, mut rows) = (Vec::new(), Vec::new());
+        for file in files {
+            let name_at = bytes.len() as u64;
+            bytes.extend_from_slice(file.name);
+            let at = bytes.len() as u64;
+            bytes.extend_from_slice(file.bytes);
+            rows.push(sys::FileRow {
+                name_at,
+                name_len: file.name.len() as u64,
+                at,
+                length: file.bytes.len() as u64,
+            });
+        }
+        Lent { bytes, rows }
     }
 }
 
@@ -644,6 +761,143 @@ impl<'a> Image<'a> {
     /// `BlockSize` to `Compressed`, `OutOfMemory`, `TooLong` to `Full`.
     pub fn compress(&self) -> Result<Vec<u8>, Error> {
         self.made(sys::jffs2_compress)
+    }
+
+    /// The image of those nodes alone that matter, on an erased flash of so many blocks: it shows the
+    /// same tree, and has no damage or dirt. Compressed data stay as they are.
+    ///
+    /// # Errors
+    /// That it does not mount through its compression; `TooLong` to `Full`.
+    pub fn compact(&self, blocks: u32) -> Result<Vec<u8>, Error> {
+        bytes_of(self.bytes.len(), |out, out_len, needed, fault| unsafe {
+            sys::jffs2_compact(
+                self.bytes.as_ptr(),
+                self.bytes.len(),
+                &self.how,
+                blocks,
+                out,
+                out_len,
+                needed,
+                fault,
+            )
+        })
+    }
+
+    /// What `jffs2_image cuts` prints of the operations of a listing on the image: from which byte
+    /// on each node that they write is whole. On an image of no bytes they make a new one.
+    ///
+    /// # Errors
+    /// That it does not mount; `ReadOnly` to `NoFile`.
+    pub fn cuts(
+        &self,
+        target: &Target,
+        listing: &[u8],
+        files: &[File<'_>],
+    ) -> Result<Vec<u8>, Error> {
+        let lent = Lent::of(files);
+        bytes_of(0, |out, out_len, needed, fault| unsafe {
+            sys::jffs2_cuts(
+                self.bytes.as_ptr(),
+                self.bytes.len(),
+                &self.how,
+                target,
+                listing.as_ptr(),
+                listing.len(),
+                lent.bytes.as_ptr(),
+                lent.bytes.len(),
+                lent.rows.as_ptr(),
+                lent.rows.len(),
+                out,
+                out_len,
+                needed,
+                fault,
+            )
+        })
+    }
+
+    /// The image with what the operations of a listing write behind its nodes, as `jffs2_image
+    /// append`; on an image of no bytes a new one, as `jffs2_image build`. If an operation is refused
+    /// or has no room, those before it are written, and [`Written::stopped`] says why.
+    ///
+    /// # Errors
+    /// That it does not mount; `ReadOnly`, `Geometry`, `Page`, `Listing`, `NoFile`.
+    pub fn append(
+        &self,
+        target: &Target,
+        listing: &[u8],
+        files: &[File<'_>],
+    ) -> Result<(Vec<u8>, Written), Error> {
+        let lent = Lent::of(files);
+        self.written(|out, out_len, written, fault| unsafe {
+            sys::jffs2_append(
+                self.bytes.as_ptr(),
+                self.bytes.len(),
+                &self.how,
+                target,
+                listing.as_ptr(),
+                listing.len(),
+                lent.bytes.as_ptr(),
+                lent.bytes.len(),
+                lent.rows.as_ptr(),
+                lent.rows.len(),
+                out,
+                out_len,
+                written,
+                fault,
+            )
+        })
+    }
+
+    /// The image of a device with what the operations of a listing write to its blank blocks and to
+    /// the erased ends of the others; each other byte stays. The image is read through its
+    /// compression. With `pack` new data of files are compressed by ZLIB if that makes a node
+    /// shorter. It stops as `append` does.
+    ///
+    /// # Errors
+    /// As `append`, and `Data`, `TooLong`.
+    pub fn update(
+        &self,
+        target: &Target,
+        pack: bool,
+        listing: &[u8],
+        files: &[File<'_>],
+    ) -> Result<(Vec<u8>, Written), Error> {
+        let lent = Lent::of(files);
+        self.written(|out, out_len, written, fault| unsafe {
+            sys::jffs2_update(
+                self.bytes.as_ptr(),
+                self.bytes.len(),
+                &self.how,
+                target,
+                u32::from(pack),
+                listing.as_ptr(),
+                listing.len(),
+                lent.bytes.as_ptr(),
+                lent.bytes.len(),
+                lent.rows.as_ptr(),
+                lent.rows.len(),
+                out,
+                out_len,
+                written,
+                fault,
+            )
+        })
+    }
+
+    fn written(
+        &self,
+        give: impl Fn(*mut u8, usize, &mut Written, &mut sys::Fault) -> u32,
+    ) -> Result<(Vec<u8>, Written), Error> {
+        let mut out = vec![0; self.bytes.len()];
+        loop {
+            let (mut written, mut fault) = (Written::default(), sys::Fault::default());
+            let status = give(out.as_mut_ptr(), out.len(), &mut written, &mut fault);
+            if status != SMALL {
+                out.truncate(written.bytes as usize);
+                return answer(status, fault, (out, written));
+            }
+            out.resize(written.bytes as usize, 0);
+        }
     }
 
     fn made(&self, make: Make) -> Result<Vec<u8>, Error> {

@@ -66,6 +66,15 @@ pub struct InfoRow {
     pub data: [u64; 7],
 }
 
+#[repr(C)]
+#[derive(Clone, Copy, Default)]
+pub struct FileRow {
+    pub name_at: u64,
+    pub name_len: u64,
+    pub at: u64,
+    pub length: u64,
+}
+
 extern "C" {
     pub fn jffs2_crc(bytes: *const u8, len: usize) -> u32;
     pub fn jffs2_info(image: *const u8, len: usize, info: *mut InfoRow) -> u32;
@@ -173,6 +182,65 @@ extern "C" {
         out: *mut u8,
         out_len: usize,
         needed: *mut usize,
+        fault: *mut Fault,
+    ) -> u32;
+    pub fn jffs2_compact(
+        image: *const u8,
+        len: usize,
+        how: *const How,
+        blocks: u32,
+        out: *mut u8,
+        out_len: usize,
+        needed: *mut usize,
+        fault: *mut Fault,
+    ) -> u32;
+    pub fn jffs2_cuts(
+        image: *const u8,
+        len: usize,
+        how: *const How,
+        target: *const crate::Target,
+        listing: *const u8,
+        listing_len: usize,
+        files: *const u8,
+        files_len: usize,
+        rows: *const FileRow,
+        row_count: usize,
+        out: *mut u8,
+        out_len: usize,
+        needed: *mut usize,
+        fault: *mut Fault,
+    ) -> u32;
+    pub fn jffs2_append(
+        image: *const u8,
+        len: usize,
+        how: *const How,
+        target: *const crate::Target,
+        listing: *const u8,
+        listing_len: usize,
+        files: *const u8,
+        files_len: usize,
+        rows: *const FileRow,
+        row_count: usize,
+        out: *mut u8,
+        out_len: usize,
+        written: *mut crate::Written,
+        fault: *mut Fault,
+    ) -> u32;
+    pub fn jffs2_update(
+        image: *const u8,
+        len: usize,
+        how: *const How,
+        target: *const crate::Target,
+        pack: u32,
+        listing: *const u8,
+        listing_len: usize,
+        files: *const u8,
+        files_len: usize,
+        rows: *const FileRow,
+        row_count: usize,
+        out: *mut u8,
+        out_len: usize,
+        written: *mut crate::Written,
         fault: *mut Fault,
     ) -> u32;
 }

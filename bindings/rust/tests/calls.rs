@@ -1,6 +1,6 @@
 //! Each call once, on an image that `mkfs.jffs2` compressed. `JFFS2_TEST_DATA` names the folder of
 //! tests/data of the repository, which is beside this crate unless it is told otherwise.
-use jffs2::{crc, info, Error, Image, Order, Wanted};
+use jffs2::{crc, info, Error, File, Image, Order, Target, Wanted};
 
 fn data() -> Vec<u8> {
     let folder = std::env::var("JFFS2_TEST_DATA")
@@ -177,4 +177,99 @@ fn comes_back() {
     assert_eq!(image(&small).decompress().unwrap(), plain);
     let counts = image(&plain).check().unwrap();
     assert_eq!((counts.entries, counts.findings), (13, 0));
+}
+
+const TARGET: Target = Target {
+    blocks: 4,
+    page: 4096,
+};
+
+#[test]
+fn appends() {
+    let listing = b"time 7\nmkdir 0755 /d\nfile 0644 /d/f text\n";
+    let files = [File {
+        name: b"text",
+        bytes: b"hello",
+    }];
+    let none = Image::new(&[], 8192, Order::Little);
+    let (made, row) = none.append(&TARGET, listing, &files).unwrap();
+    assert_eq!((row.bytes, row.accepted), (made.len() as u64, 2));
+    assert_eq!(row.stopped(), None);
+    assert_eq!(image(&made).read(b"/d/f").unwrap(), b"hello");
+    // the last line of `cuts` tells of the same nodes
+    let told = none.cuts(&TARGET, listing, &files).unwrap();
+    let told = String::from_utf8(told).unwrap();
+    let last = told.lines().last().unwrap();
+    assert!(last.starts_with(&format!("total operations 2 steps {} ", row.nodes)));
+    let more = b"time 8\nremove /d/f\nremove /e\n";
+    let (less, row) = image(&made).append(&TARGET, more, &[]).unwrap();
+    assert_eq!(&less[..made.len()], made);
+    assert_eq!(row.accepted, 1);
+    let refused = Error::Refused { line: 3, reason: 3 };
+    assert_eq!(row.stopped(), Some(refused));
+    assert_eq!(image(&less).stat(b"/d/f"), Err(Error::NotFound));
+    assert_eq!(image(&made).cuts(&TARGET, more, &[]), Err(refused));
+}
+
+#[test]
+fn refuses_to_append() {
+    let none = Image::new(&[], 8192, Order::Little);
+    let file = b"time 1\nfile 0644 /f x\n";
+    let absent = Error::NoFile { line: 2 };
+    assert_eq!(none.append(&TARGET, file, &[]), Err(absent));
+    assert_eq!(none.cuts(&TARGET, file, &[]), Err(absent));
+    let few = Error::Listing { line: 1, rule: 6 };
+    assert_eq!(none.append(&TARGET, b"mkdir 0755", &[]), Err(few));
+    let page = Target {
+        page: 512,
+        ..TARGET
+    };
+    assert_eq!(none.append(&page, b"", &[]), Err(Error::Page));
+    let small = Image::new(&[], 4096, Order::Little);
+    assert_eq!(small.append(&TARGET, b"", &[]), Err(Error::Geometry));
+    let full = Target {
+        blocks: 1,
+        ..TARGET
+    };
+    let large = [File {
+        name: b"x",
+        bytes: &[b'x'; 9000],
+    }];
+    let (_, row) = none.append(&full, file, &large).unwrap();
+    assert_eq!(row.stopped(), Some(Error::Full { line: 2 }));
+}
+
+#[test]
+fn compacts() {
+    let bytes = data();
+    let whole = image(&bytes);
+    let made = whole.compact(2).unwrap();
+    assert_eq!(
+        image(&made).tree_text(b"/").unwrap(),
+        whole.tree_text(b"/").unwrap()
+    );
+    assert_eq!(whole.compact(0), Err(Error::Geometry));
+}
+
+#[test]
+fn updates() {
+    let bytes = data();
+    let device = image(&bytes);
+    let more = b"time 8\nmkdir 0755 /new\nfile 0644 /new/f text\nremove /new/e\n";
+    let text = [b'x'; 3000];
+    let files = [File {
+        name: b"text",
+        bytes: &text,
+    }];
+    for pack in [false, true] {
+        let (made, row) = device.update(&TARGET, pack, more, &files).unwrap();
+        assert_eq!(row.accepted, 2);
+        let refused = Error::Refused { line: 4, reason: 3 };
+        assert_eq!(row.stopped(), Some(refused));
+        assert_eq!(image(&made).read(b"/new/f").unwrap(), text);
+        let passwd = b"/etc/passwd";
+        assert_eq!(image(&made).read(passwd), device.read(passwd));
+        let packed = info(&made).unwrap().data[3] - info(&bytes).unwrap().data[3];
+        assert_eq!(packed, u64::from(pack));
+    }
 }

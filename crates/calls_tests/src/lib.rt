@@ -8,6 +8,12 @@ mod calls;
 #[cfg(test)]
 mod checks;
 #[cfg(test)]
+mod compacts;
+#[cfg(test)]
 mod images;
 #[cfg(test)]
 mod texts;
+#[cfg(test)]
+mod updates;
+#[cfg(test)]
+mod writes;

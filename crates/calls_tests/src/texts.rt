@@ -60,7 +60,7 @@ fn is(found: (u32, usize, Fault), status: u32, needed: usize, address: u32, deta
     (found.0, found.1) == (status, needed) && (found.2.address, found.2.detail) == (address, detail)
 }
 
-fn begins_with(bytes: &[u8], text: &[u8]) -> bool {
+pub(crate) fn begins_with(bytes: &[u8], text: &[u8]) -> bool {
     bytes.len() >= text.len() && &bytes[..text.len()] == text
 }
 

@@ -1,7 +1,14 @@
+pub mod AskedLemmas
+pub mod BaseLemmas
+pub mod CompactingLemmas
 pub mod CountingLemmas
+pub mod FileLemmas
 pub mod FillingLemmas
+pub mod GivenLemmas
 pub mod ManyLemmas
 pub mod NodesLemmas
 pub mod ShownLemmas
 pub mod TextLemmas
 pub mod TreeLemmas
+pub mod UpdatingLemmas
+pub mod WritingLemmas

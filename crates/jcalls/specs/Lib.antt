@@ -1,5 +1,9 @@
+pub mod Appending
 pub mod Asked
+pub mod Compacting
 pub mod Counting
+pub mod Cutting
+pub mod Files
 pub mod Filling
 pub mod FindingRows
 pub mod InfoRows
@@ -11,3 +15,5 @@ pub mod Rows
 pub mod Shown
 pub mod Texts
 pub mod Told
+pub mod Updating
+pub mod Works

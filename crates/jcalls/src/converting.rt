@@ -1,6 +1,6 @@
 //! Images of the same nodes, decompressed or compressed.
 
-ghost use Rattle.std.specs.Prelude.{◌≡◌, ◌≢◌, IfOk, IfErr};
+ghost use Rattle.std.specs.Prelude.{◌≡◌, ◌≢◌, ◌⊎◌, IfOk, IfErr};
 ghost use Rattle.jcalls.specs.Asked.{asked_order};
 ghost use Rattle.jcalls.specs.Made as made;
 ghost use Rattle.jcalls.specs.Made.{GivesMade, NeedsForMade};
@@ -88,6 +88,7 @@ pub fn decompress(
         (told_by result fault.new) }
     ensures kept { result ≢ 0 → out.new ≡ out.old }
     ensures needed_kept { result ≢ 0 → result ≢ 9 → needed.new ≡ needed.old }
+    ensures quiet { (result ≡ 0) ⊎ (result ≡ 9) → fault.new ≡ fault.old }
 {
     match decompress_asked(alloc, image, how) {
         Ok(bytes) => give_all(&bytes, out, needed),
@@ -120,6 +121,7 @@ pub fn compress(
         (told_by result fault.new) }
     ensures kept { result ≢ 0 → out.new ≡ out.old }
     ensures needed_kept { result ≢ 0 → result ≢ 9 → needed.new ≡ needed.old }
+    ensures quiet { (result ≡ 0) ⊎ (result ≡ 9) → fault.new ≡ fault.old }
 {
     match compress_asked(alloc, image, how) {
         Ok(bytes) => give_all(&bytes, out, needed),

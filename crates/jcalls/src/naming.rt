@@ -1,6 +1,6 @@
 //! All names of an image, as rows.
 
-ghost use Rattle.std.specs.Prelude.{◌≡◌, ◌≢◌, ◌++◌, ◌∷◌, [], ℕ, IfOk, IfErr, OnOk, length};
+ghost use Rattle.std.specs.Prelude.{◌≡◌, ◌≢◌, ◌⊎◌, ◌++◌, ◌∷◌, [], ℕ, IfOk, IfErr, OnOk, length};
 ghost use Rattle.jmount.specs.Tree.{State};
 ghost use Rattle.jcalls.specs.Looking.{GivesTree, NeedsForTree};
 ghost use Rattle.jcalls.specs.Rows as rows;
@@ -154,6 +154,7 @@ pub fn tree(
     ensures rows_kept { result ≢ 0 → rows.new ≡ rows.old }
     ensures names_kept { result ≢ 0 → names.new ≡ names.old }
     ensures needed_kept { result ≢ 0 → result ≢ 9 → needed.new ≡ needed.old }
+    ensures quiet { (result ≡ 0) ⊎ (result ≡ 9) → fault.new ≡ fault.old }
 {
     match tree_of(alloc, image, how) {
         Ok(tree) => tree.give(rows, names, needed),

@@ -4,9 +4,13 @@ ghost use Rattle.std.specs.Prelude.{◌≡◌, ◌≢◌, ◌<◌};
 ghost use Rattle.jcalls.specs.Told as told;
 ghost use Rattle.jcalls.specs.Told.{told_at};
 
+use jcollect::{CollectFault, ThroughFault};
 use jexpand::ConvertFault;
+use jlisting::{ListingFault, Rule};
+use jlog::SessionFault;
 use jmount::{FindFault, MountFault};
 use jscan::ScanFault;
+use jsteps::OpFault;
 use jthrough::ViewFault;
 
 /// All was done.
@@ -105,6 +109,34 @@ pub(crate) fn view_told(fault: ViewFault) -> Told
     }
 }
 
+/// What is told where the nodes that matter do not go out. The sink is memory: it fails where that
+/// is wanting.
+fn collect_told(fault: CollectFault) -> Told
+    ensures told { result ≡ told.collect_told fault }
+    ensures is { 0 < result.status }
+    ensures other { result.status ≢ 9 }
+{
+    match fault {
+        CollectFault::ReadOnly => Told::of(22, 0, 0),
+        CollectFault::Geometry => Told::of(23, 0, 0),
+        CollectFault::TooLong { addr } => Told::of(21, addr, 0),
+        CollectFault::Full { .. } => Told::of(24, 0, 0),
+        CollectFault::Sink | CollectFault::OutOfMemory => Told::of(7, 0, 0),
+    }
+}
+
+/// What is told where an image of them is not made.
+pub(crate) fn through_told(fault: ThroughFault) -> Told
+    ensures told { result ≡ told.through_told fault }
+    ensures is { 0 < result.status }
+    ensures other { result.status ≢ 9 }
+{
+    match fault {
+        ThroughFault::Unmounted(why) => view_told(why),
+        ThroughFault::Uncollected(fault) => collect_told(fault),
+    }
+}
+
 /// What is told where a path names nothing.
 pub(crate) fn find_told(fault: FindFault) -> Told
     ensures told { result ≡ told.find_told fault }
@@ -151,5 +183,105 @@ pub(crate) fn convert_told(fault: ConvertFault) -> Told
         ConvertFault::ReadOnly => Told::of(22, 0, 0),
         ConvertFault::Geometry => Told::of(23, 0, 0),
         ConvertFault::Full { .. } => Told::of(24, 0, 0),
+    }
+}
+
+/// A number of 32 bits, or the greatest one.
+fn told_number(n: usize) -> u32
+    ensures { result ≡ told.told_number n }
+{
+    n.min(4_294_967_295) as u32
+}
+
+/// The page is none by which files are cut.
+pub(crate) fn page_told() -> Told
+    ensures told { result ≡ told_at 25 0 0 }
+    ensures is { 0 < result.status }
+    ensures other { result.status ≢ 9 }
+{
+    Told::of(25, 0, 0)
+}
+
+/// A row of files is not within their bytes.
+pub(crate) fn row_told(at: usize) -> Told
+    ensures told { result ≡ told_at 32 (told.told_number at) 0 }
+    ensures is { 0 < result.status }
+    ensures other { result.status ≢ 9 }
+{
+    Told::of(32, told_number(at), 0)
+}
+
+/// A line names a file that is not given.
+pub(crate) fn missing_told(line: usize) -> Told
+    ensures told { result ≡ told_at 33 (told.told_number line) 0 }
+    ensures is { 0 < result.status }
+    ensures other { result.status ≢ 9 }
+{
+    Told::of(33, told_number(line), 0)
+}
+
+fn rule_number(rule: Rule) -> u32
+    ensures { result ≡ told.rule_number rule }
+{
+    match rule {
+        Rule::SpaceAtStart => 1,
+        Rule::TwoSpaces => 2,
+        Rule::SpaceAtEnd => 3,
+        Rule::CarriageReturn => 4,
+        Rule::NoOperation => 5,
+        Rule::TooFew(_) => 6,
+        Rule::TooMany(_) => 7,
+        Rule::Word(_, _) => 8,
+    }
+}
+
+/// What is told where a listing is not read.
+pub(crate) fn told_of_listing(fault: ListingFault) -> Told
+    ensures told { result ≡ told.told_of_listing fault }
+    ensures is { 0 < result.status }
+    ensures other { result.status ≢ 9 }
+{
+    match fault {
+        ListingFault::Line(bad) => Told::of(30, told_number(bad.line), rule_number(bad.rule)),
+        ListingFault::OutOfMemory => Told::of(7, 0, 0),
+    }
+}
+
+/// What is told where an operation is refused at a line.
+fn op_told(line: u32, fault: OpFault) -> Told
+    ensures told { result ≡ told.op_told line fault }
+    ensures is { 0 < result.status }
+    ensures other { result.status ≢ 9 }
+{
+    match fault {
+        OpFault::BadPath => Told::of(31, line, 1),
+        OpFault::NameTooLong => Told::of(31, line, 2),
+        OpFault::NotFound => Told::of(31, line, 3),
+        OpFault::NotDirectory => Told::of(31, line, 4),
+        OpFault::Exists => Told::of(31, line, 5),
+        OpFault::WrongKind => Told::of(31, line, 6),
+        OpFault::NotEmpty => Told::of(31, line, 7),
+        OpFault::IntoItself => Told::of(31, line, 8),
+        OpFault::TooLarge => Told::of(31, line, 9),
+        OpFault::BadMode => Told::of(31, line, 10),
+        OpFault::BadTarget => Told::of(31, line, 11),
+        OpFault::Exhausted => Told::of(31, line, 12),
+        OpFault::OutOfMemory => Told::of(7, 0, 0),
+    }
+}
+
+/// What is told where a session is refused, at a line if it is about one, else at line 0. It fails
+/// or breaks only if memory runs out.
+pub(crate) fn session_told(line: usize, fault: SessionFault) -> Told
+    ensures told { result ≡ told.session_told (told.told_number line) fault }
+    ensures is { 0 < result.status }
+    ensures other { result.status ≢ 9 }
+{
+    match fault {
+        SessionFault::Refused(why) => op_told(told_number(line), why),
+        SessionFault::Full { .. } => Told::of(24, told_number(line), 0),
+        SessionFault::ReadOnly => Told::of(22, 0, 0),
+        SessionFault::Geometry => Told::of(23, 0, 0),
+        SessionFault::Sink | SessionFault::OutOfMemory | SessionFault::Broken => Told::of(7, 0, 0),
     }
 }

@@ -7,8 +7,11 @@ ghost use Rattle.flashbase.specs.Crc.{crc_of};
 ghost use Rattle.jscan.specs.Image.{greatest_image};
 ghost use Rattle.jinfo.specs.Infos.{info_of};
 ghost use Rattle.jmount.specs.Tree.{State};
+ghost use Rattle.jcalls.specs.Appending.{AppendRefused, GivesAppended, NeedsForAppended};
 ghost use Rattle.jcalls.specs.Asked.{asked_order, is_asked};
+ghost use Rattle.jcalls.specs.Compacting.{CompactRefused, IsCompacted};
 ghost use Rattle.jcalls.specs.Counting.{CountsAsked, CountRefused};
+ghost use Rattle.jcalls.specs.Cutting.{AreCutsAsked, CutsRefused};
 ghost use Rattle.jcalls.specs.Filling.{GivesRows, NeedsForRows};
 ghost use Rattle.jcalls.specs.FindingRows.{finding_rows};
 ghost use Rattle.jcalls.specs.InfoRows.{info_row};
@@ -19,9 +22,12 @@ ghost use Rattle.jcalls.specs.NodeRows.{node_rows};
 ghost use Rattle.jcalls.specs.Shown.{Shows, ShowsNone};
 ghost use Rattle.jcalls.specs.Texts.{IsListing, IsReport, ReportRefused};
 ghost use Rattle.jcalls.specs.Told.{told_by};
+ghost use Rattle.jcalls.specs.Updating.{GivesUpdated, NeedsForUpdated, UpdateRefused};
+ghost use Rattle.jcalls.specs.Works.{listed_with};
 
 use jcalls::{
-    Counted, Entry, Fault, FindingRow, How, InfoRow, Needed, NodeRow, Place, Request, Stat,
+    Counted, DeviceWork, Entry, Fault, FileRow, Files, FindingRow, How, InfoRow, Needed, NodeRow,
+    Place, Request, Stat, Target, Work, Written,
 };
 use std::alloc::Global;
 
@@ -204,6 +210,7 @@ pub extern "C" fn jffs2_tree(
     ensures rows_kept { result ≢ 0 → rows.new ≡ rows.old }
     ensures names_kept { result ≢ 0 → names.new ≡ names.old }
     ensures needed_kept { result ≢ 0 → result ≢ 9 → needed.new ≡ needed.old }
+    ensures quiet { (result ≡ 0) ⊎ (result ≡ 9) → fault.new ≡ fault.old }
 {
     jcalls::tree(alloc, image, *how, rows, names, needed, fault)
 }
@@ -279,6 +286,7 @@ pub extern "C" fn jffs2_decompress(
         (told_by result fault.new) }
     ensures kept { result ≢ 0 → out.new ≡ out.old }
     ensures needed_kept { result ≢ 0 → result ≢ 9 → needed.new ≡ needed.old }
+    ensures quiet { (result ≡ 0) ⊎ (result ≡ 9) → fault.new ≡ fault.old }
 {
     jcalls::decompress(alloc, image, *how, out, needed, fault)
 }
@@ -304,6 +312,139 @@ pub extern "C" fn jffs2_compress(
         (told_by result fault.new) }
     ensures kept { result ≢ 0 → out.new ≡ out.old }
     ensures needed_kept { result ≢ 0 → result ≢ 9 → needed.new ≡ needed.old }
+    ensures quiet { (result ≡ 0) ⊎ (result ≡ 9) → fault.new ≡ fault.old }
 {
     jcalls::compress(alloc, image, *how, out, needed, fault)
+}
+
+/// An image of the nodes alone that matter, on an erased flash of so many blocks.
+#[unsafe(no_mangle)]
+pub extern "C" fn jffs2_compact(
+    alloc: Global,
+    image: &[u8],
+    how: &How,
+    blocks: u32,
+    out: &mut [u8],
+    needed: &mut usize,
+    fault: &mut Fault,
+) -> u32
+    ensures done { result ≡ 0
+        → GivesMade (IsCompacted (asked_order how.now) how.now.block blocks image.now)
+        out.old out.new needed.new }
+    ensures small { result ≡ 9
+        → NeedsForMade (IsCompacted (asked_order how.now) how.now.block blocks image.now)
+        out.old needed.new }
+    ensures refused { result ≢ 0 → result ≢ 9
+        → CompactRefused (asked_order how.now) how.now.block blocks image.now
+        (told_by result fault.new) }
+    ensures kept { result ≢ 0 → out.new ≡ out.old }
+    ensures needed_kept { result ≢ 0 → result ≢ 9 → needed.new ≡ needed.old }
+    ensures quiet { (result ≡ 0) ⊎ (result ≡ 9) → fault.new ≡ fault.old }
+{
+    jcalls::compact(alloc, image, *how, blocks, out, needed, fault)
+}
+
+/// What `cuts` prints of the operations of a listing on an image.
+#[unsafe(no_mangle)]
+pub extern "C" fn jffs2_cuts(
+    alloc: Global,
+    image: &[u8],
+    how: &How,
+    target: &Target,
+    listing: &[u8],
+    files: &[u8],
+    rows: &[FileRow],
+    out: &mut [u8],
+    needed: &mut usize,
+    fault: &mut Fault,
+) -> u32
+    ensures done { result ≡ 0 → GivesMade (AreCutsAsked how.now image.now target.now
+        (listed_with listing.now files.now rows.now)) out.old out.new needed.new }
+    ensures small { result ≡ 9 → NeedsForMade (AreCutsAsked how.now image.now target.now
+        (listed_with listing.now files.now rows.now)) out.old needed.new }
+    ensures refused { result ≢ 0 → result ≢ 9 → CutsRefused how.now image.now target.now
+        (listed_with listing.now files.now rows.now) (told_by result fault.new) }
+    ensures kept { result ≢ 0 → out.new ≡ out.old }
+    ensures needed_kept { result ≢ 0 → result ≢ 9 → needed.new ≡ needed.old }
+    ensures quiet { (result ≡ 0) ⊎ (result ≡ 9) → fault.new ≡ fault.old }
+{
+    let work = Work {
+        target: *target,
+        listing,
+        files: Files { bytes: files, rows },
+    };
+    jcalls::cuts(alloc, image, *how, work, out, needed, fault)
+}
+
+/// An image with what the operations of a listing write behind its nodes.
+#[unsafe(no_mangle)]
+pub extern "C" fn jffs2_append(
+    alloc: Global,
+    image: &[u8],
+    how: &How,
+    target: &Target,
+    listing: &[u8],
+    files: &[u8],
+    rows: &[FileRow],
+    out: &mut [u8],
+    written: &mut Written,
+    fault: &mut Fault,
+) -> u32
+    ensures done { result ≡ 0 → GivesAppended how.now image.now target.now
+        (listed_with listing.now files.now rows.now) out.old out.new written.new }
+    ensures small { result ≡ 9 → NeedsForAppended how.now image.now target.now
+        (listed_with listing.now files.now rows.now) out.old written.new }
+    ensures refused { result ≢ 0 → result ≢ 9 → AppendRefused how.now image.now target.now
+        (listed_with listing.now files.now rows.now) (told_by result fault.new) }
+    ensures kept { result ≢ 0 → out.new ≡ out.old }
+    ensures written_kept { result ≢ 0 → result ≢ 9 → written.new ≡ written.old }
+    ensures quiet { (result ≡ 0) ⊎ (result ≡ 9) → fault.new ≡ fault.old }
+{
+    let work = Work {
+        target: *target,
+        listing,
+        files: Files { bytes: files, rows },
+    };
+    jcalls::append(alloc, image, *how, work, out, written, fault)
+}
+
+/// An image with what the operations of a listing write in its openings.
+#[unsafe(no_mangle)]
+pub extern "C" fn jffs2_update(
+    alloc: Global,
+    image: &[u8],
+    how: &How,
+    target: &Target,
+    pack: u32,
+    listing: &[u8],
+    files: &[u8],
+    rows: &[FileRow],
+    out: &mut [u8],
+    written: &mut Written,
+    fault: &mut Fault,
+) -> u32
+    ensures done { result ≡ 0 → GivesUpdated how.now image.now target.now pack
+        (listed_with listing.now files.now rows.now) out.old out.new written.new }
+    ensures small { result ≡ 9 → NeedsForUpdated how.now image.now target.now pack
+        (listed_with listing.now files.now rows.now) out.old written.new }
+    ensures refused { result ≢ 0 → result ≢ 9 → UpdateRefused how.now image.now target.now
+        (listed_with listing.now files.now rows.now) (told_by result fault.new) }
+    ensures kept { result ≢ 0 → out.new ≡ out.old }
+    ensures written_kept { result ≢ 0 → result ≢ 9 → written.new ≡ written.old }
+    ensures quiet { (result ≡ 0) ⊎ (result ≡ 9) → fault.new ≡ fault.old }
+{
+    let work = Work {
+        target: *target,
+        listing,
+        files: Files { bytes: files, rows },
+    };
+    jcalls::update(
+        alloc,
+        image,
+        *how,
+        DeviceWork { work, pack },
+        out,
+        written,
+        fault,
+    )
 }
