@@ -1,19 +1,35 @@
--- What standard error took, and what standard output gave on.
-use Rattle.std.proofs.Common.{ℕ, List, Option, inl, inr}
-use Rattle.std.specs.Prelude.{Result, Ok, Err}
-use Rattle.std.specs.Io.KnownBytes.{Keeps}
-use Rattle.flashbase.specs.Device.{Puts}
-use Rattle.jffs2_image.specs.Runs.{IsSaid}
-use Rattle.jffs2_image.specs.Writes.{GivesText, IsBehind}
-use Rattle.jffs2_image.proofs.HostLemmas.{part_all, same_behind}
+-- A run: what the words ask for, and that the host did it.
+use Rattle.std.proofs.Common.{◌≡◌, List, Some, Ok, Err, subst, sym}
+use Rattle.std.specs.Prelude.{◌⊎◌, Result}
+use Rattle.clap.specs.Words.{Text}
+use Rattle.jcommand.specs.Parsed.{IsFaultless, IsHelpRequested, IsRefusedByClap, IsUnreadable, TaskParsed, parsed_from, placing_from}
+use Rattle.jcommand.specs.Refused.{IsHelp, IsUsage}
+use Rattle.jcommand.specs.declared.command_line.RequestFault.{RequestFault}
+use Rattle.jcommand.specs.declared.command_line.RequestFault.TheVariants as refused
+use Rattle.jcommand.specs.declared.outcome.Outcome.{Outcome}
+use Rattle.jcommand.specs.declared.parsed.Placing.{Placing}
+use Rattle.jedge.specs.Acts.{DoesFrom}
+use Rattle.jedge.specs.Commands.{reported}
+use Rattle.jedge.specs.declared.fault.Fault.{Fault}
+use Rattle.jedge.proofs.Steps.{History, mapped}
+use Rattle.jffs2_image.specs.Running.{AsksFor, refused_act, run_act, task_act}
 
--- whatever putting a text came to
-pub said_of : {T E : Type 0} (old new : Option (List ℕ)) (before now : ℕ) (text : List ℕ) (r : Result T E) → Puts old new before now text r → IsSaid old new before now text
-said_of old new before now text (Ok x) puts = inl puts
-said_of old new before now text (Err e) puts = inr puts
+-- they ask for a task, and it was done
+pub ran_task : {old new : History} {words : List Text} {placing : Placing} {task : TaskParsed} {r : Result Outcome Fault}
+    → parsed_from words ≡ Some task → IsFaultless words → placing_from words ≡ placing
+    → DoesFrom old new (reported (task_act placing task)) r → DoesFrom old new (run_act words) r
+ran_task {task} {r} parsed faultless placed done = mapped (λ events did. record {
+  asked = Ok task;
+  asks = (parsed, faultless);
+  does = subst (λ (p : Placing). reported (task_act p task) events r) (sym placed) did;
+}) done
 
--- a text that was put as far as that came to, and given on as far as that did
-pub text_behind : {T E : Type 0} (old mid taken given : Option (List ℕ)) (before now : ℕ) (text : List ℕ) (r : Result T E) → Puts old mid before now text r
-    → Keeps mid taken → IsBehind given taken → GivesText old given text
-text_behind old mid taken given before now text (Ok x) puts kept behind = (mid, part_all old mid text puts.0, same_behind given mid taken kept behind)
-text_behind old mid taken given before now text (Err e) puts kept behind = (mid, puts.0, same_behind given mid taken kept behind)
+-- they ask for none, since it is due
+pub refusal : (words : List Text) (why : RequestFault) → (IsHelp why → IsHelpRequested words) → (IsUsage why → IsRefusedByClap words ⊎ IsUnreadable words) → AsksFor words (Err why)
+refusal words (refused.Help text) help usage = help tt
+refusal words (refused.Usage text) help usage = usage tt
+refusal words refused.OutOfMemory help usage = tt
+
+pub ran_refused : {old new : History} {words : List Text} {r : Result Outcome Fault} (why : RequestFault)
+    → AsksFor words (Err why) → DoesFrom old new (refused_act why) r → DoesFrom old new (run_act words) r
+ran_refused why asks done = mapped (λ events did. record { asked = Err why; asks = asks; does = did }) done

@@ -1,56 +1,30 @@
 //! Reads and writes flash images of JFFS2: the program `jffs2_image`.
 //!
-//! `jcommand` reads the command line. A command that prints something of images is run by `jedge`,
-//! on the `SystemHost` (`inspecting`). `tasks` runs any other, in the byte order that it names:
-//! each opens its files, puts what it has to, and reports how that ended. `writing` makes images by
-//! `jbuild`. `main` hands over the process's arguments and streams.
+//! `jcommand` reads the command line, and the crates of the commands run what it asks for, on the
+//! `SystemHost` of `jsystem`. `program` joins the two: `specs/Running.antt` says what a run does.
 #![tactic(auto)]
 
 ghost use Rattle.std.specs.Prelude.{◌≡◌, IfOk, map, string_bytes};
 ghost use Rattle.std.specs.Vec.Iter.{into_iter_items};
 
-pub mod clashes;
-pub mod compressing;
-pub mod cuts;
-pub mod decompressing;
-pub mod filling;
-mod first;
-mod folders;
-pub mod host;
-pub mod inspecting;
-mod judging;
-mod keeping;
-mod kept;
-pub mod loading;
-mod looking;
-pub mod output;
-mod packing;
-pub mod placing;
+pub mod laws;
+mod orders;
+mod placed;
 pub mod program;
-mod refusing;
-mod replacing;
-pub mod source;
-pub mod system;
-pub mod system_host;
 pub mod tasks;
-mod weak;
-pub mod writing;
+mod words;
 
-use flashbase::FromWriter;
-use host::{FileLoader, FileMaker};
-use jcommand::{Outcome, status};
-use jreport::ProgramFault;
-use output::BufferedOutput;
-use program::{report_fault, report_usage};
+use jcommand::{Outcome, RequestFault, status};
+use jedge::host::Host;
+use jsystem::host::SystemHost;
+use program::run;
 use std::alloc::{AllocError, Global};
-use std::cell::Cell;
 use std::env::Args;
-use std::io::{ErrorKind, IsTerminal};
+use std::io::{Error, ErrorKind};
 use std::process::ExitCode;
 use std::rt::{Env, Files};
 use std::{env, fs, io};
-use system::SystemFolders;
-use system_host::SystemHost;
+use words::{answer_refused, say_usage};
 
 /// The arguments of the command line. Those that are not UTF-8 are `InvalidData`.
 fn args_of<R: Env + AllocGlobal>(rt: &R) -> io::Result<Vec<String>> {
@@ -80,40 +54,20 @@ fn texts_of(alloc: Global, args: &[String]) -> Result<Vec<&str>, AllocError>
     Ok(texts)
 }
 
-fn run(rt: &HostRuntime) -> Outcome {
-    let mut errors = FromWriter::new(rt.stderr());
-    let args = match args_of(rt) {
-        Ok(args) => args,
-        Err(error) => {
-            return match error.kind() {
-                ErrorKind::InvalidData => report_usage(
-                    "error: the command line is not UTF-8\n",
-                    &mut errors,
-                ),
-                _ => report_fault(&ProgramFault::OutOfMemory, &mut errors),
-            };
-        }
-    };
-    let Ok(texts) = texts_of(rt.alloc(), args.as_slice()) else {
-        return report_fault(&ProgramFault::OutOfMemory, &mut errors);
-    };
-    let Ok(mut output) = BufferedOutput::new(rt.alloc(), rt.stdout()) else {
-        return report_fault(&ProgramFault::OutOfMemory, &mut errors);
-    };
-    let mut host = SystemHost::new(rt);
-    let kept = Cell::new(None);
-    let mut loader = FileLoader::new(rt, &kept);
-    let mut maker = FileMaker::new(rt);
-    let mut folders = SystemFolders::new(rt, rt.stderr().is_terminal(), &kept);
-    program::run(
-        &mut host,
-        &mut loader,
-        &mut maker,
-        &mut folders,
-        texts.as_slice(),
-        &mut output,
-        &mut errors,
-    )
+/// Runs the program on its arguments.
+fn run_on(host: &mut SystemHost<'_>, args: &[String]) -> Outcome {
+    match texts_of(host.alloc(), args) {
+        Ok(texts) => run(host, texts.as_slice()),
+        Err(_) => answer_refused(host, RequestFault::OutOfMemory),
+    }
+}
+
+/// Says why there are no arguments.
+fn answer_unread(host: &mut SystemHost<'_>, error: &Error) -> Outcome {
+    match error.kind() {
+        ErrorKind::InvalidData => say_usage(host, "error: the command line is not UTF-8\n"),
+        _ => answer_refused(host, RequestFault::OutOfMemory),
+    }
 }
 
 /// A file that can't be written. It takes the lowest number that is free, which may be that of a
@@ -124,5 +78,10 @@ fn unwritable<R: Files>(rt: &R) -> Option<R::File> {
 
 fn main(rt: HostRuntime) -> ExitCode {
     let _streams = (unwritable(&rt), unwritable(&rt), unwritable(&rt));
-    ExitCode::from(status(run(&rt)))
+    let mut host = SystemHost::new(&rt);
+    let outcome = match args_of(&rt) {
+        Ok(args) => run_on(&mut host, args.as_slice()),
+        Err(error) => answer_unread(&mut host, &error),
+    };
+    ExitCode::from(status(outcome))
 }

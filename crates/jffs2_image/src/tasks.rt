@@ -1,460 +1,144 @@
-//! A work is run, and the file that it wrote is filled up and takes its name.
-ghost use Rattle.std.specs.Prelude.{◌≡◌, ℕ, List, Some, true};
-ghost use Rattle.jcommand.specs.Parsed.{view, work_view};
-ghost use Rattle.jffs2_image.specs.Placing.{FillsIf, FillsUp, PutsHeld, RunsBeside, RunsFilled, RunsHeld, RunsIntended, RunsPlaced, SaysOn, TakesName, flash_end, flash_end_of, is_well, intent_of, putting, telling, tellings, writes, written_by, written_by_request};
-ghost use Rattle.jffs2_image.specs.Tasks.{Asks, RunsTask, fills, order_asked, passage, reads};
+//! A task is run by the command that does it.
+ghost use Rattle.std.specs.Prelude.{◌≡◌, Ok};
+ghost use Rattle.jcommand.specs.Parsed.{inspection_view, options_of, task_view, view, work_view};
+ghost use Rattle.jedge.specs.Acts.{DoesFrom};
+ghost use Rattle.jedge.specs.Commands.{act_of, reported};
+ghost use Rattle.jffs2_image.specs.Orders.{order_inspected, order_of_task, order_worked};
+ghost use Rattle.jffs2_image.specs.Running.{command_of, request_act, task_act};
 
-use crate::clashes::run_apart;
-use crate::compressing::run_compress;
-use crate::cuts::run_cuts;
-use crate::filling::Filling;
-use crate::folders::{Folders, run_extract, run_listing};
-use crate::host::{Loader, Maker};
-use crate::output::{HeldLine, Output};
-use crate::packing::run_pack;
-use crate::placing::Placer;
-use crate::program::{put_whole, report_fault, run_image};
-use crate::weak::run_weak;
-use byteorder::{BigEndian, LittleEndian};
-use flashbase::Sink;
-use jcommand::{Options, Outcome, Placing, Request, Work};
-use jlog::SessionFault;
-use jnode::{Endian, Order};
-use jreport::{Cause, ProgramFault, Unopened};
-use std::alloc::Global;
+use crate::placed::{remaking, writing};
+use jcommand::{Asked, Inspection, Outcome, Placing, Request, Task, Work};
+use jedge::commands::{run_cat, run_check, run_damage, run_diff, run_info, run_list};
+use jedge::host::Host;
+use jfolders::commands::{run_extract, run_listing};
+use jfolders::host::FolderHost;
+use jmakes::commands::{run_append, run_build};
+use jmakes::host::FileHost;
+use jnode::Order;
+use jpacks::commands::run_pack;
+use jreads::commands::{run_cuts, run_scan};
+use jreads::files_host::FilesHost;
+use jreads::stream_host::StreamHost;
+use jremakes::commands::{run_apart, run_compress, run_decompress};
 
-/// A work, and what is done about the file that it writes.
-#[derive(Clone, Copy)]
-pub struct Placed<'a> {
-    pub work: Work<'a>,
-    pub placing: Placing,
-}
-
-/// The end of a flash of so many blocks.
-fn flash_end(options: Options, blocks: u32) -> Filling
-    ensures { result ≡ flash_end options blocks }
+/// Runs a command that prints something of images that are read whole.
+fn run_inspection<E: Order, H: Host>(host: &mut H, asked: Inspection<'_>) -> Outcome
+    requires { order_inspected asked ≡ E.order }
+    ensures { DoesFrom (H.history host.old) (H.history host.new)
+        (reported (act_of (command_of (inspection_view asked.entry)))) (Ok result) }
 {
-    Filling::Length(u64::from(blocks) * u64::from(options.geometry.block))
+    match asked {
+        Inspection::Check {
+            options,
+            shape,
+            image,
+        } => run_check::<E, H>(host, options, shape, image),
+        Inspection::List {
+            options,
+            decompress,
+            image,
+            path,
+        } => run_list::<E, H>(host, options, decompress, image, path),
+        Inspection::Cat {
+            options,
+            decompress,
+            image,
+            path,
+        } => run_cat::<E, H>(host, options, decompress, image, path),
+        Inspection::Info { image } => run_info(host, image),
+        Inspection::Diff(asked) => run_diff::<E, H>(host, asked),
+        Inspection::Damage(asked) => run_damage::<E, H>(host, asked),
+    }
 }
 
-/// The file that a request writes, and up to where it is filled where that is asked for.
-fn written_by_request<'a>(request: Request<'a>) -> (&'a str, Filling)
-    ensures name { result.0.now ≡ (written_by_request (view request.entry)).0 }
-    ensures filling { result.1 ≡ (written_by_request (view request.entry)).1 }
+/// Runs a request of an image, and notes weak nodes if that is asked for.
+fn run_request<E: Order, H: FileHost + FilesHost + StreamHost>(
+    host: &mut H,
+    placing: Placing,
+    weak: bool,
+    request: Request<'_>,
+) -> Outcome
+    requires { (options_of request).endian ≡ E.order }
+    ensures { DoesFrom (H.history host.old) (H.history host.new)
+        (reported (request_act placing weak (view request.entry))) (Ok result) }
 {
     match request {
-        Request::Build { target, .. } | Request::Append { target, .. } => {
-            (target.output, flash_end(target.options, target.blocks))
+        Request::Scan { options, image } => run_scan::<E, H>(host, options, image),
+        Request::Build { target, listing } => {
+            run_build::<E, H>(host, writing(target, placing, weak), listing)
+        }
+        Request::Append {
+            target,
+            decompress,
+            image,
+            listing,
+        } => {
+            let asked = writing(target, placing, weak);
+            run_append::<E, H>(host, asked, decompress, image, listing)
         }
         Request::Decompress {
             options,
+            force,
+            image,
             output,
-            ..
-        } => (output, Filling::Block(options.geometry.block)),
-        Request::Scan { .. } => ("", Filling::Length(0)),
-    }
-}
-
-/// The same of a work.
-fn written_by<'a>(work: Work<'a>) -> (&'a str, Filling)
-    ensures name { result.0.now ≡ (written_by (work_view work.entry)).0 }
-    ensures filling { result.1 ≡ (written_by (work_view work.entry)).1 }
-{
-    match work {
-        Work::Image(request) | Work::Weak(request) => written_by_request(request),
-        Work::Compress(asked) => (asked.output, Filling::Block(asked.options.geometry.block)),
-        Work::Apart(asked) => (asked.output, Filling::Block(asked.options.geometry.block)),
-        Work::Pack(asked) => (asked.output, packed_end(asked.options, asked.blocks)),
-        Work::Extract(_) | Work::Listing(_) | Work::Cuts(_) => ("", Filling::Length(0)),
-    }
-}
-
-/// The end of the flash, or where the number of its blocks is left out, of the last one that is
-/// written.
-fn packed_end(options: Options, blocks: Option<u32>) -> Filling
-    ensures { result ≡ flash_end_of options blocks }
-{
-    match blocks {
-        Some(blocks) => flash_end(options, blocks),
-        None => Filling::Block(options.geometry.block),
-    }
-}
-
-/// Whether a command that ended so did all that was asked for.
-fn is_well(ended: Outcome) -> bool
-    ensures { result ≡ is_well ended }
-{
-    match ended {
-        Outcome::Done | Outcome::Found => true,
-        Outcome::Usage | Outcome::Fault => false,
-    }
-}
-
-/// Fills up the file that was made last.
-fn fill_up<M: Maker, E: Sink>(
-    maker: &mut M,
-    filling: Filling,
-    ended: Outcome,
-    errors: &mut E,
-) -> Outcome
-    ensures { FillsUp (SaysOn E.taken E.failures)
-        filling (writes (telling M.names M.held M.failures) maker.old maker.new)
-        (errors.old, errors.new) ended result }
-{
-    match maker.fill_up(filling) {
-        Ok(()) => ended,
-        Err(reason) => {
-            let fault = ProgramFault::Session {
-                fault: SessionFault::Sink,
-                line: None,
-                cause: Cause::Host(reason),
-            };
-            report_fault(&fault, errors)
+        } => {
+            let asked = remaking(placing, options, force, image, output);
+            run_decompress::<E, H>(host, asked)
         }
     }
 }
 
-/// The same where it is asked for and the work went well.
-fn fill_if<'a, M: Maker, E: Sink>(
-    maker: &mut M,
-    work: Work<'a>,
+/// Runs a command that makes an image, or works with a folder, or a scan.
+fn run_work<E: Order, H: FileHost + FilesHost + StreamHost + FolderHost>(
+    host: &mut H,
     placing: Placing,
-    ended: Outcome,
-    errors: &mut E,
+    work: Work<'_>,
 ) -> Outcome
-    ensures { FillsIf (SaysOn E.taken E.failures)
-        (intent_of placing (work_view work.entry)) (maker.new ≡ maker.old)
-        (writes (telling M.names M.held M.failures) maker.old maker.new)
-        (errors.old, errors.new) ended result }
-{
-    if !placing.pad {
-        return ended;
-    }
-    if !is_well(ended) {
-        return ended;
-    }
-    let (_, filling) = written_by(work);
-    fill_up(maker, filling, ended, errors)
-}
-
-/// Gives the file that was made beside it the name of one, where the task went well.
-fn settle<M: Placer, E: Sink>(
-    maker: &mut M,
-    beside: M::Beside,
-    name: &str,
-    ended: Outcome,
-    errors: &mut E,
-) -> Outcome
-    ensures { TakesName (SaysOn E.taken E.failures)
-        name.now (writes (telling M.Beside.names M.Beside.held M.Beside.failures) beside beside)
-        (writes (telling M.names M.held M.failures) maker.old maker.new)
-        (errors.old, errors.new) ended result }
-{
-    if !is_well(ended) {
-        maker.discard(beside);
-        return ended;
-    }
-    match maker.place(beside) {
-        Ok(()) => ended,
-        Err(reason) => report_fault(&ProgramFault::File(Unopened { name, reason }), errors),
-    }
-}
-
-/// The byte order that a work is given. `listing` reads no image.
-fn order_of(work: Work<'_>) -> Endian
-    ensures { result ≡ order_asked work.entry }
+    requires { order_worked work ≡ E.order }
+    ensures { DoesFrom (H.history host.old) (H.history host.new)
+        (reported (task_act placing (work_view work.entry))) (Ok result) }
 {
     match work {
-        Work::Image(request) | Work::Weak(request) => request.options().endian,
-        Work::Extract(asked) => asked.options.endian,
-        Work::Cuts(asked) => asked.options.endian,
-        Work::Compress(asked) => asked.options.endian,
-        Work::Apart(asked) => asked.options.endian,
-        Work::Pack(asked) => asked.options.endian,
-        Work::Listing(_) => Endian::Little,
-    }
-}
-
-/// Runs a work in the byte order that it is given.
-fn run_work_in<'a, E: Order, L: Loader, M: Maker, D: Folders, T: Output, N: Sink>(
-    alloc: Global,
-    loader: &mut L,
-    maker: &mut M,
-    folders: &mut D,
-    work: Work<'a>,
-    output: &mut T,
-    errors: &mut N,
-) -> Outcome
-    requires { order_asked work ≡ E.order }
-    ensures { (words : List (List ℕ)) → Asks words (work_view work.entry)
-        → RunsTask words (record {
-          reading = reads L.told L.failures loader.old loader.new;
-          writing = writes (telling M.names M.held M.failures) maker.old maker.new;
-          folders = fills D.made D.reads folders.old folders.new;
-          output = passage T.taken T.given T.failures output.old output.new;
-          errors = passage N.taken N.taken N.failures errors.old errors.new;
-        }) (record {
-          loader = loader.new ≡ loader.old;
-          maker = maker.new ≡ maker.old;
-          folders = folders.new ≡ folders.old;
-          output = output.new ≡ output.old;
-          errors = errors.new ≡ errors.old;
-        }) result }
-{
-    match work {
-        Work::Image(request) => {
-            run_image::<E, L, M, T, N>(alloc, loader, maker, request, output, errors)
-        }
-        Work::Weak(request) => {
-            run_weak::<E, L, M, T, N>(alloc, loader, maker, request, output, errors)
-        }
-        Work::Extract(asked) => run_extract::<E, L, D, N>(alloc, loader, folders, asked, errors),
-        Work::Listing(asked) => run_listing(alloc, folders, asked, output, errors),
-        Work::Cuts(asked) => run_cuts::<E, L, T, N>(alloc, loader, asked, output, errors),
+        Work::Image(request) => run_request::<E, H>(host, placing, false, request),
+        Work::Weak(request) => run_request::<E, H>(host, placing, true, request),
+        Work::Extract(asked) => run_extract::<E, H>(host, asked),
+        Work::Listing(asked) => run_listing(host, asked),
+        Work::Cuts(asked) => run_cuts::<E, H>(host, asked),
         Work::Compress(asked) => {
-            run_compress::<E, L, M, T, N>(alloc, loader, maker, asked, output, errors)
+            let asked = remaking(
+                placing,
+                asked.options,
+                asked.force,
+                asked.image,
+                asked.output,
+            );
+            run_compress::<E, H>(host, asked)
         }
         Work::Apart(asked) => {
-            run_apart::<E, L, M, T, N>(alloc, loader, maker, asked, output, errors)
+            let asked = remaking(
+                placing,
+                asked.options,
+                asked.force,
+                asked.image,
+                asked.output,
+            );
+            run_apart::<E, H>(host, asked)
         }
-        Work::Pack(asked) => {
-            run_pack::<E, L, M, D, T, N>(alloc, loader, maker, folders, asked, output, errors)
-        }
+        Work::Pack(asked) => run_pack::<E, H>(host, asked, placing),
     }
 }
 
-/// Runs a work, as if nothing were done about the file that it writes. All that is done with an
-/// image from here on is done in its byte order.
-fn run_work<'a, L: Loader, M: Maker, D: Folders, T: Output, E: Sink>(
-    alloc: Global,
-    loader: &mut L,
-    maker: &mut M,
-    folders: &mut D,
-    work: Work<'a>,
-    output: &mut T,
-    errors: &mut E,
+/// Runs a task.
+pub fn run_task<E: Order, H: FileHost + FilesHost + StreamHost + FolderHost>(
+    host: &mut H,
+    asked: Asked<'_>,
 ) -> Outcome
-    ensures { (words : List (List ℕ)) → Asks words (work_view work.entry)
-        → RunsTask words (record {
-          reading = reads L.told L.failures loader.old loader.new;
-          writing = writes (telling M.names M.held M.failures) maker.old maker.new;
-          folders = fills D.made D.reads folders.old folders.new;
-          output = passage T.taken T.given T.failures output.old output.new;
-          errors = passage E.taken E.taken E.failures errors.old errors.new;
-        }) (record {
-          loader = loader.new ≡ loader.old;
-          maker = maker.new ≡ maker.old;
-          folders = folders.new ≡ folders.old;
-          output = output.new ≡ output.old;
-          errors = errors.new ≡ errors.old;
-        }) result }
+    requires { order_of_task asked.task ≡ E.order }
+    ensures { DoesFrom (H.history host.old) (H.history host.new)
+        (reported (task_act asked.entry.placing (task_view asked.entry.task))) (Ok result) }
 {
-    match order_of(work) {
-        Endian::Little => run_work_in::<LittleEndian, L, M, D, T, E>(
-            alloc, loader, maker, folders, work, output, errors,
-        ),
-        Endian::Big => run_work_in::<BigEndian, L, M, D, T, E>(
-            alloc, loader, maker, folders, work, output, errors,
-        ),
-    }
-}
-
-/// Runs a work, and fills up the file that it made, where that is asked for and it went well.
-fn run_filled<'a, L: Loader, M: Maker, D: Folders, T: Output, E: Sink>(
-    alloc: Global,
-    loader: &mut L,
-    maker: &mut M,
-    folders: &mut D,
-    asked: Placed<'a>,
-    output: &mut T,
-    errors: &mut E,
-) -> Outcome
-    ensures { (words : List (List ℕ)) → Asks words (work_view asked.entry.work)
-        → RunsFilled (telling M.names M.held M.failures)
-        (SaysOn E.taken E.failures)
-        (intent_of asked.entry.placing (work_view asked.entry.work))
-        (λ files same last ended. RunsTask words (record {
-          reading = reads L.told L.failures loader.old loader.new;
-          writing = files;
-          folders = fills D.made D.reads folders.old folders.new;
-          output = passage T.taken T.given T.failures output.old output.new;
-          errors = passage E.taken E.taken E.failures errors.old last;
-        }) (record {
-          loader = loader.new ≡ loader.old;
-          maker = same;
-          folders = folders.new ≡ folders.old;
-          output = output.new ≡ output.old;
-          errors = last ≡ errors.old;
-        }) ended) maker.old maker.new errors.new result }
-{
-    let Placed { work, placing } = asked;
-    let ended = run_work(alloc, loader, maker, folders, work, output, errors);
-    fill_if(maker, work, placing, ended, errors)
-}
-
-/// Runs a work over a maker of files beside those of their names, which they take where it went
-/// well.
-fn run_beside<'a, L: Loader, M: Placer, D: Folders, T: Output, E: Sink>(
-    alloc: Global,
-    loader: &mut L,
-    maker: &mut M,
-    folders: &mut D,
-    asked: Placed<'a>,
-    output: &mut T,
-    errors: &mut E,
-) -> Outcome
-    ensures { (words : List (List ℕ)) → Asks words (work_view asked.entry.work)
-        → RunsBeside (tellings (telling M.names M.held M.failures)
-        (telling M.Beside.names M.Beside.held M.Beside.failures))
-        (SaysOn E.taken E.failures)
-        (intent_of asked.entry.placing (work_view asked.entry.work))
-        (λ files same last ended. RunsTask words (record {
-          reading = reads L.told L.failures loader.old loader.new;
-          writing = files;
-          folders = fills D.made D.reads folders.old folders.new;
-          output = passage T.taken T.given T.failures output.old output.new;
-          errors = passage E.taken E.taken E.failures errors.old last;
-        }) (record {
-          loader = loader.new ≡ loader.old;
-          maker = same;
-          folders = folders.new ≡ folders.old;
-          output = output.new ≡ output.old;
-          errors = last ≡ errors.old;
-        }) ended) maker.old maker.new errors.new result }
-{
-    let mut beside = maker.beside();
-    let ended = run_filled(alloc, loader, &mut beside, folders, asked, output, errors);
-    let (name, _) = written_by(asked.work);
-    settle(maker, beside, name, ended, errors)
-}
-
-/// Runs a work, and fills up the file that it writes or gives it its name, as is asked for.
-fn run_intended<'a, L: Loader, M: Placer, D: Folders, T: Output, E: Sink>(
-    alloc: Global,
-    loader: &mut L,
-    maker: &mut M,
-    folders: &mut D,
-    asked: Placed<'a>,
-    output: &mut T,
-    errors: &mut E,
-) -> Outcome
-    ensures { (words : List (List ℕ)) → Asks words (work_view asked.entry.work)
-        → RunsIntended (tellings (telling M.names M.held M.failures)
-        (telling M.Beside.names M.Beside.held M.Beside.failures))
-        (SaysOn E.taken E.failures)
-        (intent_of asked.entry.placing (work_view asked.entry.work))
-        (λ files same last ended. RunsTask words (record {
-          reading = reads L.told L.failures loader.old loader.new;
-          writing = files;
-          folders = fills D.made D.reads folders.old folders.new;
-          output = passage T.taken T.given T.failures output.old output.new;
-          errors = passage E.taken E.taken E.failures errors.old last;
-        }) (record {
-          loader = loader.new ≡ loader.old;
-          maker = same;
-          folders = folders.new ≡ folders.old;
-          output = output.new ≡ output.old;
-          errors = last ≡ errors.old;
-        }) ended) (maker.old, maker.new) errors.new result }
-{
-    if asked.placing.atomic {
-        run_beside(alloc, loader, maker, folders, asked, output, errors)
-    } else {
-        run_filled(alloc, loader, maker, folders, asked, output, errors)
-    }
-}
-
-/// Puts what a task put while it was held, if all went well.
-fn put_held<T: Output, E: Sink>(
-    text: &[u8],
-    ended: Outcome,
-    output: &mut T,
-    errors: &mut E,
-) -> Outcome
-    ensures { PutsHeld (SaysOn E.taken E.failures) (output.new ≡ output.old) text.now
-        (passage T.taken T.given T.failures output.old output.new)
-        (errors.old, errors.new) ended result }
-{
-    if !is_well(ended) {
-        return ended;
-    }
-    match put_whole(text, output) {
-        Ok(()) => ended,
-        Err(fault) => report_fault(&fault, errors),
-    }
-}
-
-/// Runs a work, and does about the file that it writes what is asked for. What it puts is held
-/// until that is done.
-fn run_held<'a, L: Loader, M: Placer, D: Folders, T: Output, E: Sink>(
-    alloc: Global,
-    loader: &mut L,
-    maker: &mut M,
-    folders: &mut D,
-    asked: Placed<'a>,
-    output: &mut T,
-    errors: &mut E,
-) -> Outcome
-    ensures { (words : List (List ℕ)) → Asks words (work_view asked.entry.work)
-        → RunsHeld (tellings (telling M.names M.held M.failures)
-        (telling M.Beside.names M.Beside.held M.Beside.failures))
-        (SaysOn E.taken E.failures)
-        (intent_of asked.entry.placing (work_view asked.entry.work))
-        (λ put files same last ended. RunsTask words (record {
-          reading = reads L.told L.failures loader.old loader.new;
-          writing = files;
-          folders = fills D.made D.reads folders.old folders.new;
-          output = put.change;
-          errors = passage E.taken E.taken E.failures errors.old last;
-        }) (record {
-          loader = loader.new ≡ loader.old;
-          maker = same;
-          folders = folders.new ≡ folders.old;
-          output = put.untouched;
-          errors = last ≡ errors.old;
-        }) ended) (putting (passage T.taken T.given T.failures output.old output.new)
-        (output.new ≡ output.old)) (maker.old, maker.new) errors.new result }
-{
-    let mut held = HeldLine::new();
-    let ended = run_intended(alloc, loader, maker, folders, asked, &mut held, errors);
-    put_held(held.as_slice(), ended, output, errors)
-}
-
-/// Runs a work, and does about the file that it writes what is asked for.
-pub fn run_placed<'a, L: Loader, M: Placer, D: Folders, T: Output, E: Sink>(
-    alloc: Global,
-    loader: &mut L,
-    maker: &mut M,
-    folders: &mut D,
-    asked: Placed<'a>,
-    output: &mut T,
-    errors: &mut E,
-) -> Outcome
-    ensures { (words : List (List ℕ)) → Asks words (work_view asked.entry.work)
-        → RunsPlaced (tellings (telling M.names M.held M.failures)
-        (telling M.Beside.names M.Beside.held M.Beside.failures))
-        (SaysOn E.taken E.failures)
-        (intent_of asked.entry.placing (work_view asked.entry.work))
-        (λ put files same last ended. RunsTask words (record {
-          reading = reads L.told L.failures loader.old loader.new;
-          writing = files;
-          folders = fills D.made D.reads folders.old folders.new;
-          output = put.change;
-          errors = passage E.taken E.taken E.failures errors.old last;
-        }) (record {
-          loader = loader.new ≡ loader.old;
-          maker = same;
-          folders = folders.new ≡ folders.old;
-          output = put.untouched;
-          errors = last ≡ errors.old;
-        }) ended) (putting (passage T.taken T.given T.failures output.old output.new)
-        (output.new ≡ output.old)) (maker.old, maker.new) errors.new result }
-{
-    if asked.placing.pad {
-        run_held(alloc, loader, maker, folders, asked, output, errors)
-    } else if asked.placing.atomic {
-        run_held(alloc, loader, maker, folders, asked, output, errors)
-    } else {
-        run_work(alloc, loader, maker, folders, asked.work, output, errors)
+    match asked.task {
+        Task::Inspect(inspection) => run_inspection::<E, H>(host, inspection),
+        Task::Work(work) => run_work::<E, H>(host, asked.placing, work),
     }
 }

@@ -1,0 +1,5 @@
+use Rattle.jffs2_image.proofs.TaskLaws.{printing_makes_nothing}
+use Rattle.jffs2_image.proofs.laws.printing_makes_nothing.Goals as goal
+
+pub returns : goal.returns
+returns c = printing_makes_nothing

@@ -1,7 +1,0 @@
-use Rattle.std.proofs.Common.{inr}
-use Rattle.jedge.specs.Calls.{Errors}
-use Rattle.jffs2_image.proofs.SystemLemmas.{none_of, untold}
-use Rattle.jffs2_image.proofs.system_host.SystemHostHost.close_errors.Goals as goal
-
-pub returns : goal.returns
-returns c = λ text told. untold _ (inr (none_of Errors text))
