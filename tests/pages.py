@@ -7,6 +7,7 @@ it anew:
 - docs/PROOFS-CALLS.md: each public function with its doc comment and its clauses (of the crates
   that call the system, each function with a contract);
 - docs/NAMES.md: each definition of specs/ with the comment above it;
+- docs/ACTS.md: the definitions of what each command does, as they are in specs/;
 - docs/TRACE.md, of the tags in specs/ and in the edits;
 - docs/WRONG-BODIES.md, its list, of the first lines of the edits.
 
@@ -39,6 +40,10 @@ EDGE = ("jhost", "jffs2_image")
 # groups of crates.txt whose calls are no part of the library or the program
 OTHERS = ("Tests", "Benchmarks")
 CLAUSE = re.compile(r"(requires|ensures\*?)(?: (\w+))? \{(.*)\}\s*;?", re.S)
+# where specs/ say what each command does, in the order of the page
+ACTS = ("jedge/specs/Commands", "jreads/specs/Scanning", "jreads/specs/Cutting",
+        "jmakes/specs/Commands", "jremakes/specs/Commands", "jfolders/specs/Commands",
+        "jpacks/specs/Commands", "jffs2_image/specs/Running")
 KINDS = r"(?:pub|unfoldable|abbrev|record|data|opaque) "
 HEAD = re.compile(rf"(?:{KINDS})+(\S+)")
 
@@ -286,6 +291,59 @@ field is in [GLOSSARY.md](GLOSSARY.md); which rule a definition gives is in [TRA
     return re.sub(r"\n{3,}", "\n\n", "".join(out))
 
 
+# ---- acts
+
+
+def acts_in(text):
+    """The paragraphs of a file of specs/, without its imports and tags: headings and definitions,
+    each with the comment above it in prose."""
+    kept = [line for line in untagged(text).split("\n") if not line.startswith("use ")]
+    for paragraph in re.split(r"\n{2,}", "\n".join(kept).strip("\n")):
+        lines = paragraph.split("\n")
+        first = next((at for at, it in enumerate(lines) if not it.startswith("--")), len(lines))
+        said = " ".join(it.strip("- ") for it in lines[:first])
+        if first == len(lines):
+            is_heading = lines[0].startswith("-- ----")
+            yield f"### {said[:1].upper()}{said[1:]}\n" if is_heading else folded(said, "", "")
+            continue
+        if said:
+            yield folded(f"{said[:1].upper()}{said[1:]}" + ("" if said.endswith(".") else "."), "", "")
+        yield "\n".join(["```text", *lines[first:], "```", ""])
+
+
+def acts_page():
+    """The page of what each command does."""
+    out = ["# What each command does\n\n", MARK, """
+Each command is an *act*: what the host is asked, in order, with the host's answers, and what comes
+of it. For example, `info` reads the file of a name, and prints the text on its bytes:
+
+    info_act name = Then (loads name) (λ image. prints (Whole (info_text image) (informed image)))
+
+The contract of each command, and of the program's `run`, is that the host's calls and the answer
+are those of its act. A step that comes to a fault ends the act with it. What is not in an act does
+not happen.
+
+| Word | What happens |
+|---|---|
+| `Then a (λ x. b)` | `a`, and if it came to an answer `x` then `b`; a fault of `a` is that of both |
+| `answers P` | nothing; the answer is one of which `P` says when it comes |
+| `loads name` | the file of that name is opened and read to its end; or a fault has its name |
+| `prints (Whole text x)` | the text goes to standard output, and `x` is the answer |
+| `prints_put` | the same, by memory that was taken before |
+| `makes`, `remakes` | a file is made: in its place, or beside it until it takes its name |
+| `reported act` | the act, and a note or its fault on standard error; the status is what was found |
+
+These are defined in `jedge` (`Acts`, `Calls`), `jmakes` (`Making`) and `jfolders`. All names are in
+[NAMES.md](NAMES.md), the laws on all acts in [PROOFS.md](PROOFS.md).
+"""]
+    for file in ACTS:
+        path = f"crates/{file}.antt"
+        if os.path.exists(path):
+            out.append(f"\n## {file.replace('/specs/', '.')}\n\n")
+            out.append("\n".join(acts_in(text_of(path))))
+    return "".join(out)
+
+
 # ---- rules
 
 
@@ -402,7 +460,8 @@ def edits_list():
 
 def main():
     os.chdir(ROOT)
-    pages = {"docs/PROOFS-CALLS.md": calls_page(), "docs/NAMES.md": names_page()}
+    pages = {"docs/PROOFS-CALLS.md": calls_page(), "docs/NAMES.md": names_page(),
+             "docs/ACTS.md": acts_page()}
     for path, made in (("docs/TRACE.md", trace_page()), ("docs/WRONG-BODIES.md", edits_list())):
         by_hand = text_of(path).partition(MARK)[0]
         if made and path.endswith("WRONG-BODIES.md"):
