@@ -140,9 +140,26 @@ fn run_end<E: Order>(rest: &Part<'_>, begun: usize, kind: &ExtentKind<'_>) -> us
 {
     let mut end = begun;
     while let Some(len) = next_of_run::<E>(&rest.slice(end, rest.len() - end), kind) {
-        end += len;
+        end = dirt_on::<E>(rest, end + len, kind);
     }
     end
+}
+
+/// If a run of dirt goes on after the first `begun` bytes, how far it does at least.
+fn dirt_on<E: Order>(rest: &Part<'_>, begun: usize, kind: &ExtentKind<'_>) -> usize
+    requires whole_words { length rest.now % 4 ≡ 0 }
+    requires words { begun % 4 ≡ 0 }
+    requires within { begun ≤ length rest.now }
+    requires begins { BeginsRun E.order rest.now begun kind.now }
+    ensures begins { BeginsRun E.order rest.now result kind.now }
+    ensures least { begun ≤ result }
+    ensures within { result ≤ length rest.now }
+    ensures words { result % 4 ≡ 0 }
+{
+    match kind {
+        ExtentKind::Dirt => dirt_words::<E>(rest, begun),
+        _ => begun,
+    }
 }
 
 /// The length of the tile at the front, where a run of this kind goes on with it.
