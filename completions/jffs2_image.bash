@@ -3,20 +3,23 @@
 
 # The options of a command, or of the program if there is no command.
 _jffs2_image_options() {
-    local plain='--block --endian' write='--blocks --page' place='--pad --atomic' help='-h --help'
+    local plain='-e --block --endian -l --little-endian -b --big-endian' write='--blocks --page' place='--pad --atomic' help='-h --help'
     case $1 in
-        check) echo "$plain --scan --shape $help" ;;
+        check) echo "$plain --scan --shape --decompress $help" ;;
         ls | cat) echo "$plain --decompress $help" ;;
         build) echo "$plain $write --weak $place $help" ;;
         append) echo "$plain $write --weak $place --decompress $help" ;;
+        update) echo "$plain $write --plain --tail $place $help" ;;
         decompress) echo "$plain --clashes --atomic --force $help" ;;
         compress) echo "$plain --atomic --force $help" ;;
+        compact) echo "$plain --blocks $place --force $help" ;;
         extract) echo "$plain --decompress --owners --quiet $help" ;;
         listing) echo "--owner --time --quiet $help" ;;
         info) echo "$help" ;;
         cuts) echo "$plain $write --on $help" ;;
-        diff) echo "$plain --times $help" ;;
-        damage) echo "$plain $help" ;;
+        diff) echo "$plain --decompress --times $help" ;;
+        damage) echo "$plain --decompress $help" ;;
+        map) echo "$plain --svg $help" ;;
         pack) echo "$plain $write --weak $place --owner --time --quiet $help" ;;
         '') echo "$help -V --version" ;;
     esac
@@ -26,7 +29,7 @@ _jffs2_image_options() {
 _jffs2_image_count() {
     case $1 in
         --owner) echo 2 ;;
-        --block | --endian | --blocks | --page | --time | --on | --clashes) echo 1 ;;
+        -e | --block | --eraseblock | --endian | --blocks | --page | --time | --on | --clashes) echo 1 ;;
         *) echo 0 ;;
     esac
 }
@@ -34,7 +37,7 @@ _jffs2_image_count() {
 # The values that are offered for an option.
 _jffs2_image_values() {
     case $1 in
-        --block) echo '4096 8192 16384 32768 65536 131072 262144' ;;
+        -e | --block | --eraseblock) echo '4K 8K 16K 32K 64K 128K 256K' ;;
         --endian) echo 'little big' ;;
         --page) echo '4096 8192 16384' ;;
         --clashes) echo 'higher' ;;
@@ -44,8 +47,8 @@ _jffs2_image_values() {
 # How `compgen` finds a command's word at this place, counted from 0.
 _jffs2_image_kind() {
     case $1:$2 in
-        check:0 | ls:0 | cat:0 | build:[01] | append:[012] | decompress:[01] | compress:[01] | \
-            extract:0 | info:0 | cuts:0 | diff:[01] | damage:0 | pack:1)
+        check:0 | ls:0 | cat:0 | build:[01] | append:[012] | update:[012] | decompress:[01] | compress:[01] | \
+            compact:[01] | extract:0 | info:0 | cuts:0 | diff:[01] | damage:0 | map:0 | pack:1)
             echo -f
             ;;
         extract:1 | listing:0 | pack:0) echo -d ;;
@@ -53,7 +56,7 @@ _jffs2_image_kind() {
 }
 
 _jffs2_image() {
-    local commands='check ls cat build append decompress compress extract listing info cuts diff damage pack help'
+    local commands='check ls cat build append update decompress compress compact extract listing info cuts diff damage map pack help'
     local current=${COMP_WORDS[COMP_CWORD]} command='' option='' place=0 values=0 word kind
     # bash cuts --option=value into three words
     for word in "${COMP_WORDS[@]:1:COMP_CWORD-1}"; do

@@ -12,38 +12,45 @@ complete -c jffs2_image -n __fish_use_subcommand -a ls -d 'The tree, a line for 
 complete -c jffs2_image -n __fish_use_subcommand -a cat -d 'Bytes of a regular file'
 complete -c jffs2_image -n __fish_use_subcommand -a build -d 'Make an image from a listing'
 complete -c jffs2_image -n __fish_use_subcommand -a append -d 'Extend an image by a listing'
+complete -c jffs2_image -n __fish_use_subcommand -a update -d 'Listing into the blank blocks'
 complete -c jffs2_image -n __fish_use_subcommand -a decompress -d 'Copy with data decompressed'
 complete -c jffs2_image -n __fish_use_subcommand -a compress -d 'Copy with data compressed'
+complete -c jffs2_image -n __fish_use_subcommand -a compact -d 'Copy of the nodes that matter'
 complete -c jffs2_image -n __fish_use_subcommand -a extract -d 'Tree into a new folder'
 complete -c jffs2_image -n __fish_use_subcommand -a listing -d 'Listing of a folder'
 complete -c jffs2_image -n __fish_use_subcommand -a info -d 'Find byte order and block size'
 complete -c jffs2_image -n __fish_use_subcommand -a cuts -d 'Which steps survive a power cut'
 complete -c jffs2_image -n __fish_use_subcommand -a diff -d 'Differences between two images'
 complete -c jffs2_image -n __fish_use_subcommand -a damage -d 'Files that damaged nodes affect'
+complete -c jffs2_image -n __fish_use_subcommand -a map -d 'Where the nodes of an image lie'
 complete -c jffs2_image -n __fish_use_subcommand -a pack -d 'Make an image of a folder'
 complete -c jffs2_image -n __fish_use_subcommand -a help -d 'Help of a command'
 complete -c jffs2_image -n '__jffs2_image_in help' -f \
-    -a 'check ls cat build append decompress compress extract listing info cuts diff damage pack help'
+    -a 'check ls cat build append update decompress compress compact extract listing info cuts diff damage map pack help'
 
 # Options of the program and of every command
 complete -c jffs2_image -n 'not __jffs2_image_in help' -s h -l help -d 'Print help'
 complete -c jffs2_image -n __fish_use_subcommand -s V -l version -d 'Print the version'
 
 # Options of several commands
-complete -c jffs2_image -n '__jffs2_image_in check ls cat build append decompress compress extract cuts diff damage pack' \
-    -l block -x -a '4096 8192 16384 32768 65536 131072 262144' -d 'Size of an erase block'
-complete -c jffs2_image -n '__jffs2_image_in check ls cat build append decompress compress extract cuts diff damage pack' \
+complete -c jffs2_image -n '__jffs2_image_in check ls cat build append update decompress compress compact extract cuts diff damage map pack' \
+    -s e -l block -x -a '4K 8K 16K 32K 64K 128K 256K' -d 'Size of an erase block'
+complete -c jffs2_image -n '__jffs2_image_in check ls cat build append update decompress compress compact extract cuts diff damage map pack' \
     -l endian -x -a 'little big' -d 'Byte order'
-complete -c jffs2_image -n '__jffs2_image_in build append cuts pack' -l blocks -x -d 'Number of blocks'
-complete -c jffs2_image -n '__jffs2_image_in build append cuts pack' -l page -x \
+complete -c jffs2_image -n '__jffs2_image_in check ls cat build append update decompress compress compact extract cuts diff damage map pack' \
+    -s l -l little-endian -d 'The same as --endian little'
+complete -c jffs2_image -n '__jffs2_image_in check ls cat build append update decompress compress compact extract cuts diff damage map pack' \
+    -s b -l big-endian -d 'The same as --endian big'
+complete -c jffs2_image -n '__jffs2_image_in build append update compact cuts pack' -l blocks -x -d 'Number of blocks'
+complete -c jffs2_image -n '__jffs2_image_in build append update cuts pack' -l page -x \
     -a '4096 8192 16384' -d 'Largest piece of a file in one node'
-complete -c jffs2_image -n '__jffs2_image_in ls cat append extract' -l decompress \
+complete -c jffs2_image -n '__jffs2_image_in check ls cat append extract diff damage' -l decompress \
     -d 'Take it as decompress writes it'
 complete -c jffs2_image -n '__jffs2_image_in build append pack' -l weak -d 'Note the weak nodes'
-complete -c jffs2_image -n '__jffs2_image_in build append pack' -l pad -d 'Fill OUT with 0xFF'
-complete -c jffs2_image -n '__jffs2_image_in build append decompress compress pack' -l atomic \
+complete -c jffs2_image -n '__jffs2_image_in build append update compact pack' -l pad -d 'Fill OUT with 0xFF'
+complete -c jffs2_image -n '__jffs2_image_in build append update decompress compress compact pack' -l atomic \
     -d 'Replace an old OUT only if all goes well'
-complete -c jffs2_image -n '__jffs2_image_in decompress compress' -l force \
+complete -c jffs2_image -n '__jffs2_image_in decompress compress compact' -l force \
     -d 'Write over an IMAGE that is OUT'
 complete -c jffs2_image -n '__jffs2_image_in extract listing pack' -l quiet -d 'Print no progress'
 complete -c jffs2_image -n '__jffs2_image_in listing pack' -l owner -x -d 'Owner and group'
@@ -52,6 +59,9 @@ complete -c jffs2_image -n '__jffs2_image_in listing pack' -l time -x -d 'Time o
 # Options of one command
 complete -c jffs2_image -n '__jffs2_image_in check' -l scan -d 'Report alone, no mount'
 complete -c jffs2_image -n '__jffs2_image_in check' -l shape -d 'Whether the directories make a tree'
+complete -c jffs2_image -n '__jffs2_image_in update' -l plain -d 'Do not compress new nodes'
+complete -c jffs2_image -n '__jffs2_image_in update' -l tail -d 'Write into begun blocks too'
+complete -c jffs2_image -n '__jffs2_image_in map' -l svg -d 'One SVG picture'
 complete -c jffs2_image -n '__jffs2_image_in cuts' -l on -r -d 'Image to go on from, as append does'
 complete -c jffs2_image -n '__jffs2_image_in extract' -l owners -d 'Set the owners of the image'
 complete -c jffs2_image -n '__jffs2_image_in decompress' -l clashes -x -a higher \

@@ -1,6 +1,6 @@
 -- The command line, as clap sees it: the program, its subcommands, and the words that each one
 -- takes.
-use Rattle.std.specs.Prelude.{◌≡◌, true, false, [], ◌∷◌, Some, Result, IfOk, codes}
+use Rattle.std.specs.Prelude.{◌≡◌, ℕ, true, false, [], ◌∷◌, Some, Result, IfOk, codes}
 use Rattle.clap.specs.Words.{App, Rule, Text, app_of, new_app, new_rule, rule_of, with_rule, with_subcommand}
 use Rattle.clap.specs.declared.builder.Arg.{Arg}
 use Rattle.clap.specs.declared.builder.Command.{Command}
@@ -35,20 +35,32 @@ option_of_two id = record (new_rule id) { long = Some id; value_names = 2 }
 abbrev pub flag : Text → Rule
 flag id = record (new_rule id) { long = Some id; action = Some SetTrue }
 
--- a subcommand with the options that each one has
+-- a flag that has a letter too
+abbrev pub lettered_flag : Text → ℕ → Rule
+lettered_flag id letter = record (flag id) { short = Some letter }
+
+-- `--block N`, which may be spelled `--eraseblock N` and `-e N` too
+abbrev pub block_option : Rule
+block_option = record (option_or (codes "block") (codes "65536"))
+    { aliases = codes "eraseblock" ∷ []; short = Some 101 }
+
+-- a subcommand with the options that each one has: `-l` and `-b` are for the byte order
 abbrev pub plain_command : Text → App
-plain_command name =
-    with_rule (with_rule (new_app name) (option_or (codes "block") (codes "65536")))
-    (option_or (codes "endian") (codes "little"))
+plain_command name = with_rule
+    (with_rule (with_rule (with_rule (new_app name) block_option) (option_of (codes "endian")))
+    (lettered_flag (codes "little-endian") 108))
+    (lettered_flag (codes "big-endian") 98)
 
--- `check [--scan] [--shape] [--block N] [--endian ORDER] IMAGE`
-abbrev pub check_app : App
-check_app = with_rule (with_rule (with_rule (plain_command (codes "check")) (flag (codes "scan")))
-    (flag (codes "shape"))) (word (codes "IMAGE"))
-
--- a subcommand that decompresses the image that it reads, where that is asked for
+-- a subcommand that decompresses the images that it reads, where that is asked for
 abbrev pub decompressing : App → App
 decompressing app = with_rule app (flag (codes "decompress"))
+
+-- `check [--scan] [--shape] [--decompress] [--block N] [--endian ORDER] IMAGE`
+abbrev pub check_app : App
+check_app = with_rule
+    (decompressing (with_rule (with_rule (plain_command (codes "check")) (flag (codes "scan")))
+    (flag (codes "shape"))))
+    (word (codes "IMAGE"))
 
 -- `ls [--decompress] [--block N] [--endian ORDER] IMAGE [PATH]`
 abbrev pub ls_app : App
@@ -92,6 +104,23 @@ append_app = with_rule
     (word (codes "LISTING")))
     (word (codes "OUT"))
 
+-- `update [--blocks N] [--page N] [--plain] [--tail] [--pad] [--atomic] [--block N]
+-- [--endian ORDER] IMAGE LISTING OUT`
+abbrev pub update_app : App
+update_app = with_rule
+    (with_rule
+    (with_rule
+    (placing
+    (with_rule
+    (with_rule
+    (with_rule (with_rule (plain_command (codes "update")) (option_of (codes "blocks")))
+    (option_or (codes "page") (codes "4096")))
+    (flag (codes "plain")))
+    (flag (codes "tail"))))
+    (word (codes "IMAGE")))
+    (word (codes "LISTING")))
+    (word (codes "OUT"))
+
 -- the output may be the image, also where that has findings
 abbrev pub replacing : App → App
 replacing app = with_rule (atomic app) (flag (codes "force"))
@@ -107,6 +136,16 @@ decompress_app = with_rule
 abbrev pub compress_app : App
 compress_app =
     with_rule (with_rule (replacing (plain_command (codes "compress"))) (word (codes "IMAGE")))
+    (word (codes "OUT"))
+
+-- `compact [--blocks N] [--pad] [--atomic] [--force] [--block N] [--endian ORDER] IMAGE OUT`
+abbrev pub compact_app : App
+compact_app = with_rule
+    (with_rule
+    (with_rule
+    (placing (with_rule (plain_command (codes "compact")) (option_of (codes "blocks"))))
+    (flag (codes "force")))
+    (word (codes "IMAGE")))
     (word (codes "OUT"))
 
 -- an owner and a time for all that a folder holds, and whether its reading tells no progress
@@ -154,14 +193,21 @@ abbrev pub cuts_app : App
 cuts_app =
     with_rule (with_rule (writer (codes "cuts")) (option_of (codes "on"))) (word (codes "LISTING"))
 
--- `diff [--times] [--block N] [--endian ORDER] A B`
+-- `diff [--decompress] [--times] [--block N] [--endian ORDER] A B`
 abbrev pub diff_app : App
-diff_app = with_rule (with_rule (with_rule (plain_command (codes "diff")) (flag (codes "times")))
-    (word (codes "A"))) (word (codes "B"))
+diff_app = with_rule
+    (with_rule (with_rule (decompressing (plain_command (codes "diff"))) (flag (codes "times")))
+    (word (codes "A")))
+    (word (codes "B"))
 
--- `damage [--block N] [--endian ORDER] IMAGE`
+-- `damage [--decompress] [--block N] [--endian ORDER] IMAGE`
 abbrev pub damage_app : App
-damage_app = with_rule (plain_command (codes "damage")) (word (codes "IMAGE"))
+damage_app = with_rule (decompressing (plain_command (codes "damage"))) (word (codes "IMAGE"))
+
+-- `map [--svg] [--block N] [--endian ORDER] IMAGE`
+abbrev pub map_app : App
+map_app = with_rule (with_rule (plain_command (codes "map")) (flag (codes "svg")))
+    (word (codes "IMAGE"))
 
 -- the program without its subcommands, of which one has to be named; it tells its version
 abbrev pub bare : App
@@ -179,10 +225,13 @@ program = with_subcommand
     (with_subcommand
     (with_subcommand
     (with_subcommand
+    (with_subcommand
+    (with_subcommand
+    (with_subcommand
     (with_subcommand (with_subcommand (with_subcommand (with_subcommand bare
-    check_app.top) ls_app.top) cat_app.top) build_app.top) append_app.top) decompress_app.top)
-    compress_app.top) extract_app.top) listing_app.top) info_app.top) cuts_app.top) diff_app.top)
-    damage_app.top) pack_app.top
+    check_app.top) ls_app.top) cat_app.top) build_app.top) append_app.top) update_app.top)
+    decompress_app.top) compress_app.top) compact_app.top) extract_app.top) listing_app.top)
+    info_app.top) cuts_app.top) diff_app.top) damage_app.top) map_app.top) pack_app.top
 
 -- ---- what is made
 

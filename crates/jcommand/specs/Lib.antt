@@ -2,3 +2,5 @@ pub mod Parsed
 pub mod Commands
 pub mod Refused
 pub mod Status
+pub mod Worked
+pub mod Sizes

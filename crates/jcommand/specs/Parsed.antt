@@ -1,5 +1,6 @@
 -- What a command line asks for, by clap's matches of its words.
-use Rattle.std.specs.Prelude.{◌≡◌, ◌≢◌, ◌⊎◌, ◌+◌, ◌-◌, ◌*◌, ◌^◌, ◌&&◌, ℕ, Bool, true, false, List, [], ◌∷◌, Option, Some, None, if◌then◌else◌, nat_lt, not, codes, option_and_then, option_map}
+use Rattle.std.specs.Prelude.{◌≡◌, ◌≢◌, ◌⊎◌, ◌+◌, ◌-◌, ◌*◌, ◌^◌, ◌&&◌, ◌||◌, ℕ, Bool, true, false, List, [], ◌∷◌, Option, Some, None, if◌then◌else◌, nat_lt, codes, is_some, option_and_then, option_map}
+use Rattle.std.specs.Borrow.{Bor}
 use Rattle.std.specs.Char.{is_ascii_digit}
 use Rattle.std.specs.Str.{bytes_eq}
 use Rattle.clap.specs.Words.{Row, Text, IsAmong, all_of, fault_of, first_of, subcommand_of, takes}
@@ -11,18 +12,22 @@ use Rattle.jscan.specs.declared.page.Page.{Page}
 use Rattle.jscan.specs.declared.page.Page.TheVariants.{P4096, P8192, P16384}
 use Rattle.jline.specs.Read.{◌>>=◌}
 use Rattle.jcommand.specs.Commands.{program}
-use Rattle.jcommand.specs.declared.parsed.Inspection.{Inspection}
-use Rattle.jcommand.specs.declared.parsed.Inspection.TheVariants as inspection
+use Rattle.jcommand.specs.Sizes.{size_number}
+use Rattle.jcommand.specs.declared.parsed.Check.{Check}
+use Rattle.jcommand.specs.declared.parsed.Command.{Command}
+use Rattle.jcommand.specs.declared.parsed.Command.TheVariants as command
+use Rattle.jcommand.specs.declared.parsed.Comparison.{Comparison}
+use Rattle.jcommand.specs.declared.parsed.Conversion.{Conversion}
+use Rattle.jcommand.specs.declared.parsed.Extraction.{Extraction}
+use Rattle.jcommand.specs.declared.parsed.FolderListing.{FolderListing}
+use Rattle.jcommand.specs.declared.parsed.Image.{Image}
+use Rattle.jcommand.specs.declared.parsed.Mapping.{Mapping}
 use Rattle.jcommand.specs.declared.parsed.Options.{Options}
 use Rattle.jcommand.specs.declared.parsed.Owner.{Owner}
 use Rattle.jcommand.specs.declared.parsed.Packing.{Packing}
 use Rattle.jcommand.specs.declared.parsed.Placing.{Placing}
-use Rattle.jcommand.specs.declared.parsed.Request.{Request}
-use Rattle.jcommand.specs.declared.parsed.Request.TheVariants as request
-use Rattle.jcommand.specs.declared.parsed.Task.{Task}
-use Rattle.jcommand.specs.declared.parsed.Task.TheVariants as task
-use Rattle.jcommand.specs.declared.parsed.Work.{Work}
-use Rattle.jcommand.specs.declared.parsed.Work.TheVariants as work
+use Rattle.jcommand.specs.declared.parsed.Target.{Target}
+use Rattle.jcommand.specs.declared.parsed.Updating.{Updating}
 
 -- ---- values
 
@@ -65,76 +70,77 @@ if_given (Some value) read = option_and_then (λ x. Some (Some x)) (read value)
 abbrev pub number_option : Text → List Row → Option ℕ
 number_option id rows = option_and_then decimal_number (first_of id rows)
 
--- ---- a request, without where its texts lie
+-- ---- a command, without where its texts lie
 
-pub data Parsed : Type 0 where
-  ScanParsed : Options → Text → Parsed
-  BuildParsed : Options → ℕ → Page → Text → Text → Parsed
-  AppendParsed : Options → ℕ → Page → Bool → Text → Text → Text → Parsed
-  DecompressParsed : Options → Bool → Text → Text → Parsed
+abbrev pub image_view : Image (Bor Text) → Image Text
+image_view i = record { options = i.options; image = i.image.now }
 
-abbrev pub view : Request → Parsed
-view (request.Scan options image) = ScanParsed options image.now
-view (request.Build target listing) =
-    BuildParsed target.options target.blocks target.page listing.now target.output.now
-view (request.Append target decompress image listing) = AppendParsed target.options target.blocks
-    target.page decompress image.now listing.now target.output.now
-view (request.Decompress options force image output) =
-    DecompressParsed options force image.now output.now
+abbrev pub comparison_view : Comparison (Bor Text) → Comparison Text
+comparison_view d = record {
+  options = d.options;
+  decompress = d.decompress;
+  times = d.times;
+  first = d.first.now;
+  second = d.second.now;
+}
 
--- the same of what is printed of images: of their tiles and their mount, of a tree, of a file, of
--- what one tells of itself, of what two differ in, of what the damage of one costs
-pub data InspectionParsed : Type 0 where
-  CheckParsed : Options → Bool → Text → InspectionParsed
-  ListParsed : Options → Bool → Text → Option Text → InspectionParsed
-  CatParsed : Options → Bool → Text → Text → InspectionParsed
-  InfoParsed : Text → InspectionParsed
-  DiffParsed : Options → Bool → Text → Text → InspectionParsed
-  DamageParsed : Options → Text → InspectionParsed
+abbrev pub target_view : Target (Bor Text) → Target Text
+target_view t = record {
+  options = t.options;
+  blocks = t.blocks;
+  page = t.page;
+  weak = t.weak;
+  placing = t.placing;
+  output = t.output.now;
+}
 
-abbrev pub inspection_view : Inspection → InspectionParsed
-inspection_view (inspection.Check options shape image) = CheckParsed options shape image.now
-inspection_view (inspection.List options decompress image path) =
-    ListParsed options decompress image.now (option_map (λ p. p.now) path)
-inspection_view (inspection.Cat options decompress image path) =
-    CatParsed options decompress image.now path.now
-inspection_view (inspection.Info image) = InfoParsed image.now
-inspection_view (inspection.Diff d) = DiffParsed d.options d.times d.first.now d.second.now
-inspection_view (inspection.Damage d) = DamageParsed d.options d.image.now
+abbrev pub conversion_view : Conversion (Bor Text) → Conversion Text
+conversion_view c = record {
+  options = c.options;
+  force = c.force;
+  placing = c.placing;
+  image = c.image.now;
+  output = c.output.now;
+}
 
--- an image of a folder of the host: of a flash of so many blocks, where they are given
-pub record PackingParsed : Type 0 where
-  pub options : Options
-  pub blocks : Option ℕ
-  pub page : Page
-  pub weak : Bool
-  pub owner : Option Owner
-  pub time : Option ℕ
-  pub quiet : Bool
-  pub folder : Text
-  pub output : Text
+abbrev pub updating_view : Updating (Bor Text) → Updating Text
+updating_view u = record {
+  options = u.options;
+  blocks = u.blocks;
+  page = u.page;
+  plain = u.plain;
+  tail = u.tail;
+  placing = u.placing;
+  image = u.image.now;
+  listing = u.listing.now;
+  output = u.output.now;
+}
 
--- the same of a task: what is printed of images, a request of an image, one that writes an image
--- and notes weak nodes, one that works with a folder of the host, what stands after a stop, an
--- image that is compressed, one that is decompressed without nodes that clash, or an image of a
--- folder
-pub data TaskParsed : Type 0 where
-  InspectParsed : InspectionParsed → TaskParsed
-  ImageParsed : Parsed → TaskParsed
-  WeakParsed : Parsed → TaskParsed
-  ExtractParsed : Options → Bool → Bool → Bool → Text → Text → Option Text → TaskParsed
-  ListingParsed : Option Owner → Option ℕ → Bool → Text → TaskParsed
-  CutsParsed : Options → ℕ → Page → Option Text → Text → TaskParsed
-  CompressParsed : Options → Bool → Text → Text → TaskParsed
-  ApartParsed : Options → Bool → Text → Text → TaskParsed
-  PackParsed : PackingParsed → TaskParsed
+abbrev pub mapping_view : Mapping (Bor Text) → Mapping Text
+mapping_view m = record { options = m.options; svg = m.svg; image = m.image.now }
 
-abbrev pub packing_view : Packing → PackingParsed
+abbrev pub extraction_view : Extraction (Bor Text) → Extraction Text
+extraction_view x = record {
+  options = x.options;
+  decompress = x.decompress;
+  owners = x.owners;
+  quiet = x.quiet;
+  image = x.image.now;
+  folder = x.folder.now;
+  path = option_map (λ p. p.now) x.path;
+}
+
+abbrev pub folder_view : FolderListing (Bor Text) → FolderListing Text
+folder_view l =
+    record { owner = l.owner; time = l.time; quiet = l.quiet; folder = l.folder.now }
+
+abbrev pub packing_view : Packing (Bor Text) → Packing Text
 packing_view p = record {
   options = p.options;
   blocks = p.blocks;
   page = p.page;
   weak = p.weak;
+  placing = p.placing;
   owner = p.owner;
   time = p.time;
   quiet = p.quiet;
@@ -142,215 +148,347 @@ packing_view p = record {
   output = p.output.now;
 }
 
-abbrev pub work_view : Work → TaskParsed
-work_view (work.Image r) = ImageParsed (view r)
-work_view (work.Weak r) = WeakParsed (view r)
-work_view (work.Extract x) =
-    ExtractParsed x.options x.decompress x.owners x.quiet x.image.now x.folder.now
-    (option_map (λ p. p.now) x.path)
-work_view (work.Listing l) = ListingParsed l.owner l.time l.quiet l.folder.now
-work_view (work.Cuts x) =
-    CutsParsed x.options x.blocks x.page (option_map (λ name. name.now) x.on) x.listing.now
-work_view (work.Compress c) = CompressParsed c.options c.force c.image.now c.output.now
-work_view (work.Apart a) = ApartParsed a.options a.force a.image.now a.output.now
-work_view (work.Pack p) = PackParsed (packing_view p)
+abbrev pub command_view : Command (Bor Text) → Command Text
+command_view (command.Scan i) = command.Scan (image_view i)
+command_view (command.Check c) =
+    command.Check (record { options = c.options; shape = c.shape; image = c.image.now })
+command_view (command.CheckThrough c) =
+    command.CheckThrough (record { options = c.options; shape = c.shape; image = c.image.now })
+command_view (command.List l) = command.List (record {
+  options = l.options;
+  decompress = l.decompress;
+  image = l.image.now;
+  path = option_map (λ p. p.now) l.path;
+})
+command_view (command.Cat c) = command.Cat (record {
+  options = c.options;
+  decompress = c.decompress;
+  image = c.image.now;
+  path = c.path.now;
+})
+command_view (command.Info image) = command.Info image.now
+command_view (command.Diff d) = command.Diff (comparison_view d)
+command_view (command.Damage x) = command.Damage
+    (record { options = x.options; decompress = x.decompress; image = x.image.now })
+command_view (command.Map m) = command.Map (mapping_view m)
+command_view (command.Build b) =
+    command.Build (record { target = target_view b.target; listing = b.listing.now })
+command_view (command.Append a) = command.Append (record {
+  target = target_view a.target;
+  decompress = a.decompress;
+  image = a.image.now;
+  listing = a.listing.now;
+})
+command_view (command.Update u) = command.Update (updating_view u)
+command_view (command.Cuts c) = command.Cuts (record {
+  options = c.options;
+  blocks = c.blocks;
+  page = c.page;
+  on = option_map (λ name. name.now) c.on;
+  listing = c.listing.now;
+})
+command_view (command.Decompress c) = command.Decompress (conversion_view c)
+command_view (command.Apart c) = command.Apart (conversion_view c)
+command_view (command.Compress c) = command.Compress (conversion_view c)
+command_view (command.Compact c) =
+    command.Compact (record { conversion = conversion_view c.conversion; blocks = c.blocks })
+command_view (command.Extract x) = command.Extract (extraction_view x)
+command_view (command.Listing l) = command.Listing (folder_view l)
+command_view (command.Pack p) = command.Pack (packing_view p)
 
-abbrev pub task_view : Task → TaskParsed
-task_view (task.Inspect i) = InspectParsed (inspection_view i)
-task_view (task.Work w) = work_view w
-
-abbrev pub options_of : Request → Options
-options_of (request.Scan options image) = options
-options_of (request.Build target listing) = target.options
-options_of (request.Append target decompress image listing) = target.options
-options_of (request.Decompress options force image output) = options
+-- The byte order that a command is given, if it is given one. `info` finds out its own, and
+-- `listing` reads no image.
+abbrev pub order_asked : {T : Type 0} → Command T → Endian
+order_asked (command.Scan i) = i.options.endian
+order_asked (command.Check c) = c.options.endian
+order_asked (command.CheckThrough c) = c.options.endian
+order_asked (command.List l) = l.options.endian
+order_asked (command.Cat c) = c.options.endian
+order_asked (command.Info image) = Little
+order_asked (command.Diff d) = d.options.endian
+order_asked (command.Damage x) = x.options.endian
+order_asked (command.Map m) = m.options.endian
+order_asked (command.Build b) = b.target.options.endian
+order_asked (command.Append a) = a.target.options.endian
+order_asked (command.Update u) = u.options.endian
+order_asked (command.Cuts c) = c.options.endian
+order_asked (command.Decompress c) = c.options.endian
+order_asked (command.Apart c) = c.options.endian
+order_asked (command.Compress c) = c.options.endian
+order_asked (command.Compact c) = c.conversion.options.endian
+order_asked (command.Extract x) = x.options.endian
+order_asked (command.Listing l) = Little
+order_asked (command.Pack p) = p.options.endian
 
 -- ---- by the rows of the subcommand's matches
 
-abbrev pub options_in : List Row → Option Options
-options_in rows = number_option (codes "block") rows >>= λ block.
-    (first_of (codes "endian") rows >>= endian_of) >>= λ endian.
-    Some (record { geometry = record { block = block }; endian = endian })
-
--- the options and the image that a subcommand reads
-abbrev pub image_in : List Row → Option (Options × Text)
-image_in rows =
-    options_in rows >>= λ options. first_of (codes "IMAGE") rows >>= λ image. Some (options, image)
+abbrev pub options_of : ℕ → Endian → Options
+options_of block endian = record { geometry = record { block = block }; endian = endian }
 
 -- a flag that is given
-abbrev pub is_given : Option Text → Bool
-is_given (Some text) = bytes_eq text (codes "true")
-is_given None = false
+abbrev pub is_true : Option Text → Bool
+is_true (Some text) = bytes_eq text (codes "true")
+is_true None = false
 
--- `--shape` says nothing beside `--scan`, which mounts nothing
-abbrev pub check_in : List Row → Option TaskParsed
-check_in rows = image_in rows >>= λ p.
-    Some (if is_given (first_of (codes "scan") rows) then ImageParsed (ScanParsed p.0 p.1)
-    else InspectParsed (CheckParsed p.0 (is_given (first_of (codes "shape") rows)) p.1))
+abbrev pub is_given : Text → List Row → Bool
+is_given id rows = is_true (first_of id rows)
 
--- whether what is read is decompressed
-abbrev pub is_decompressed : List Row → Bool
-is_decompressed rows = is_given (first_of (codes "decompress") rows)
+-- little if no order is named
+abbrev pub order_named : Option Text → Option Endian
+order_named None = Some Little
+order_named (Some text) = endian_of text
+
+-- by its name, or by a flag for little or one for big, of which two say nothing
+abbrev pub order_from : Option Text → Bool → Bool → Option Endian
+order_from named little big =
+    if little then (if big || is_some named then None else Some Little)
+    else if big then (if is_some named then None else Some Big)
+    else order_named named
+
+abbrev pub order_in : List Row → Option Endian
+order_in rows = order_from (first_of (codes "endian") rows) (is_given (codes "little-endian") rows)
+    (is_given (codes "big-endian") rows)
+
+abbrev pub options_in : List Row → Option Options
+options_in rows = (first_of (codes "block") rows >>= size_number) >>= λ block.
+    order_in rows >>= λ endian.
+    Some (options_of block endian)
+
+-- it is filled up to the end of the flash, and takes its name only when all is written, where each
+-- of these is asked for
+abbrev pub placing_in : List Row → Placing
+placing_in rows =
+    record { pad = is_given (codes "pad") rows; atomic = is_given (codes "atomic") rows }
+
+-- the options and the image that a subcommand reads
+abbrev pub image_in : List Row → Option (Image Text)
+image_in rows = options_in rows >>= λ options. first_of (codes "IMAGE") rows >>= λ image.
+    Some (record { options = options; image = image })
+
+-- what is mounted, and whether its tree has its shape too, where that is asked for
+abbrev pub check_of : List Row → Image Text → Check Text
+check_of rows i =
+    record { options = i.options; shape = is_given (codes "shape") rows; image = i.image }
+
+-- `--shape` and `--decompress` say nothing beside `--scan`, which mounts nothing
+abbrev pub check_in : List Row → Option (Command Text)
+check_in rows = image_in rows >>= λ i. Some (if is_given (codes "scan") rows then command.Scan i
+    else if is_given (codes "decompress") rows then command.CheckThrough (check_of rows i)
+    else command.Check (check_of rows i))
+
+abbrev pub ls_in : List Row → Option (Command Text)
+ls_in rows = image_in rows >>= λ i. Some (command.List (record {
+  options = i.options;
+  decompress = is_given (codes "decompress") rows;
+  image = i.image;
+  path = first_of (codes "PATH") rows;
+}))
+
+abbrev pub cat_in : List Row → Option (Command Text)
+cat_in rows = image_in rows >>= λ i. first_of (codes "PATH") rows >>= λ path.
+    Some (command.Cat (record {
+      options = i.options;
+      decompress = is_given (codes "decompress") rows;
+      image = i.image;
+      path = path;
+    }))
+
+-- neither a block size nor a byte order is given
+abbrev pub info_in : List Row → Option (Command Text)
+info_in rows = first_of (codes "IMAGE") rows >>= λ image. Some (command.Info image)
+
+abbrev pub diff_in : List Row → Option (Command Text)
+diff_in rows = options_in rows >>= λ options. first_of (codes "A") rows >>= λ first.
+    first_of (codes "B") rows >>= λ second.
+    Some (command.Diff (record {
+      options = options;
+      decompress = is_given (codes "decompress") rows;
+      times = is_given (codes "times") rows;
+      first = first;
+      second = second;
+    }))
+
+abbrev pub damage_in : List Row → Option (Command Text)
+damage_in rows = image_in rows >>= λ i. Some (command.Damage (record {
+  options = i.options;
+  decompress = is_given (codes "decompress") rows;
+  image = i.image;
+}))
+
+-- a picture, where that is asked for
+abbrev pub map_in : List Row → Option (Command Text)
+map_in rows = image_in rows >>= λ i. Some (command.Map
+    (record { options = i.options; svg = is_given (codes "svg") rows; image = i.image }))
+
+-- the image that a subcommand writes
+abbrev pub target_in : List Row → Option (Target Text)
+target_in rows = options_in rows >>= λ options. number_option (codes "blocks") rows >>= λ blocks.
+    (first_of (codes "page") rows >>= page_of) >>= λ page.
+    first_of (codes "OUT") rows >>= λ output.
+    Some (record {
+      options = options;
+      blocks = blocks;
+      page = page;
+      weak = is_given (codes "weak") rows;
+      placing = placing_in rows;
+      output = output;
+    })
+
+abbrev pub build_in : List Row → Option (Command Text)
+build_in rows = target_in rows >>= λ target. first_of (codes "LISTING") rows >>= λ listing.
+    Some (command.Build (record { target = target; listing = listing }))
+
+abbrev pub append_in : List Row → Option (Command Text)
+append_in rows = target_in rows >>= λ target. first_of (codes "IMAGE") rows >>= λ image.
+    first_of (codes "LISTING") rows >>= λ listing.
+    Some (command.Append (record {
+      target = target;
+      decompress = is_given (codes "decompress") rows;
+      image = image;
+      listing = listing;
+    }))
+
+-- the number of blocks may be left out
+abbrev pub update_in : List Row → Option (Command Text)
+update_in rows = options_in rows >>= λ options.
+    if_given (first_of (codes "blocks") rows) decimal_number >>= λ blocks.
+    (first_of (codes "page") rows >>= page_of) >>= λ page.
+    first_of (codes "IMAGE") rows >>= λ image. first_of (codes "LISTING") rows >>= λ listing.
+    first_of (codes "OUT") rows >>= λ output.
+    Some (command.Update (record {
+      options = options;
+      blocks = blocks;
+      page = page;
+      plain = is_given (codes "plain") rows;
+      tail = is_given (codes "tail") rows;
+      placing = placing_in rows;
+      image = image;
+      listing = listing;
+      output = output;
+    }))
+
+-- the image that is gone on from may be left out
+abbrev pub cuts_in : List Row → Option (Command Text)
+cuts_in rows = options_in rows >>= λ options. number_option (codes "blocks") rows >>= λ blocks.
+    (first_of (codes "page") rows >>= page_of) >>= λ page.
+    first_of (codes "LISTING") rows >>= λ listing.
+    Some (command.Cuts (record {
+      options = options;
+      blocks = blocks;
+      page = page;
+      on = first_of (codes "on") rows;
+      listing = listing;
+    }))
 
 -- whether an image with findings may be written over
 abbrev pub is_forced : List Row → Bool
-is_forced rows = is_given (first_of (codes "force") rows)
+is_forced = is_given (codes "force")
 
-abbrev pub ls_in : List Row → Option InspectionParsed
-ls_in rows = image_in rows >>= λ p.
-    Some (ListParsed p.0 (is_decompressed rows) p.1 (first_of (codes "PATH") rows))
-
-abbrev pub cat_in : List Row → Option InspectionParsed
-cat_in rows = image_in rows >>= λ p. first_of (codes "PATH") rows >>= λ path.
-    Some (CatParsed p.0 (is_decompressed rows) p.1 path)
-
--- the number of blocks, the page, the listing and the output of a subcommand that writes
-abbrev pub writing_in : List Row → Option (ℕ × Page × Text × Text)
-writing_in rows = number_option (codes "blocks") rows >>= λ blocks.
-    (first_of (codes "page") rows >>= page_of) >>= λ page.
-    first_of (codes "LISTING") rows >>= λ listing. first_of (codes "OUT") rows >>= λ output.
-    Some (blocks, page, listing, output)
-
-abbrev pub build_in : List Row → Option Parsed
-build_in rows = options_in rows >>= λ options. writing_in rows >>= λ w.
-    Some (BuildParsed options w.0 w.1 w.2 w.3)
-
-abbrev pub append_in : List Row → Option Parsed
-append_in rows = image_in rows >>= λ p. writing_in rows >>= λ w.
-    Some (AppendParsed p.0 w.0 w.1 (is_decompressed rows) p.1 w.2 w.3)
-
--- what writes an image, with the notes on weak nodes where they are asked for
-abbrev pub noting_in : List Row → Parsed → TaskParsed
-noting_in rows p = if is_given (first_of (codes "weak") rows) then WeakParsed p else ImageParsed p
+-- an image, and the one that is made of it
+abbrev pub conversion_in : List Row → Option (Conversion Text)
+conversion_in rows = image_in rows >>= λ i. first_of (codes "OUT") rows >>= λ output.
+    Some (record {
+      options = i.options;
+      force = is_forced rows;
+      placing = placing_in rows;
+      image = i.image;
+      output = output;
+    })
 
 -- whether nodes that clash are left out; `higher` is the only rule
 abbrev pub is_apart : Option Text → Option Bool
 is_apart None = Some false
 is_apart (Some rule) = if bytes_eq rule (codes "higher") then Some true else None
 
-abbrev pub decompress_in : List Row → Option TaskParsed
-decompress_in rows = image_in rows >>= λ p. first_of (codes "OUT") rows >>= λ output.
+abbrev pub decompress_in : List Row → Option (Command Text)
+decompress_in rows = conversion_in rows >>= λ c.
     is_apart (first_of (codes "clashes") rows) >>= λ apart.
-    Some (if apart then ApartParsed p.0 (is_forced rows) p.1 output
-    else ImageParsed (DecompressParsed p.0 (is_forced rows) p.1 output))
+    Some (if apart then command.Apart c else command.Decompress c)
 
-abbrev pub extract_in : List Row → Option TaskParsed
-extract_in rows = image_in rows >>= λ p. first_of (codes "DIR") rows >>= λ folder.
-    Some (ExtractParsed p.0 (is_decompressed rows) (is_given (first_of (codes "owners") rows))
-    (is_given (first_of (codes "quiet") rows)) p.1 folder (first_of (codes "PATH") rows))
+-- the number of blocks may be left out
+abbrev pub compact_in : List Row → Option (Command Text)
+compact_in rows = conversion_in rows >>= λ c.
+    if_given (first_of (codes "blocks") rows) decimal_number >>= λ blocks.
+    Some (command.Compact (record { conversion = c; blocks = blocks }))
 
-abbrev pub listing_in : List Row → Option TaskParsed
-listing_in rows = if_given (all_of (codes "owner") rows) owner_of >>= λ owner.
+abbrev pub extract_in : List Row → Option (Command Text)
+extract_in rows = image_in rows >>= λ i. first_of (codes "DIR") rows >>= λ folder.
+    Some (command.Extract (record {
+      options = i.options;
+      decompress = is_given (codes "decompress") rows;
+      owners = is_given (codes "owners") rows;
+      quiet = is_given (codes "quiet") rows;
+      image = i.image;
+      folder = folder;
+      path = first_of (codes "PATH") rows;
+    }))
+
+-- a folder, and the owner and the time of all that it holds, where they are given
+abbrev pub folder_in : List Row → Option (FolderListing Text)
+folder_in rows = if_given (all_of (codes "owner") rows) owner_of >>= λ owner.
     if_given (first_of (codes "time") rows) decimal_number >>= λ time.
     first_of (codes "DIR") rows >>= λ folder.
-    Some (ListingParsed owner time (is_given (first_of (codes "quiet") rows)) folder)
-
--- neither a block size nor a byte order is given
-abbrev pub info_in : List Row → Option InspectionParsed
-info_in rows = first_of (codes "IMAGE") rows >>= λ image. Some (InfoParsed image)
-
--- the image that is gone on from may be left out
-abbrev pub cuts_in : List Row → Option TaskParsed
-cuts_in rows = options_in rows >>= λ options. number_option (codes "blocks") rows >>= λ blocks.
-    (first_of (codes "page") rows >>= page_of) >>= λ page.
-    first_of (codes "LISTING") rows >>= λ listing.
-    Some (CutsParsed options blocks page (first_of (codes "on") rows) listing)
-
-abbrev pub compress_in : List Row → Option TaskParsed
-compress_in rows = image_in rows >>= λ p. first_of (codes "OUT") rows >>= λ output.
-    Some (CompressParsed p.0 (is_forced rows) p.1 output)
-
-abbrev pub diff_in : List Row → Option InspectionParsed
-diff_in rows = options_in rows >>= λ options. first_of (codes "A") rows >>= λ first.
-    first_of (codes "B") rows >>= λ second.
-    Some (DiffParsed options (is_given (first_of (codes "times") rows)) first second)
-
-abbrev pub damage_in : List Row → Option InspectionParsed
-damage_in rows = image_in rows >>= λ p. Some (DamageParsed p.0 p.1)
-
--- the flash that is written, of which the number of blocks may be left out
-abbrev pub flash_in : List Row → Option (Options × Option ℕ × Page)
-flash_in rows = options_in rows >>= λ options.
-    if_given (first_of (codes "blocks") rows) decimal_number >>= λ blocks.
-    (first_of (codes "page") rows >>= page_of) >>= λ page. Some (options, blocks, page)
-
--- the owner and the time of all that a folder holds, where they are given
-abbrev pub settings_in : List Row → Option (Option Owner × Option ℕ)
-settings_in rows = if_given (all_of (codes "owner") rows) owner_of >>= λ owner.
-    if_given (first_of (codes "time") rows) decimal_number >>= λ time. Some (owner, time)
-
-abbrev pub pack_in : List Row → Option TaskParsed
-pack_in rows = flash_in rows >>= λ flash. settings_in rows >>= λ settings.
-    first_of (codes "DIR") rows >>= λ folder. first_of (codes "OUT") rows >>= λ output.
-    Some (PackParsed (record {
-      options = flash.0;
-      blocks = flash.1;
-      page = flash.2;
-      weak = is_given (first_of (codes "weak") rows);
-      owner = settings.0;
-      time = settings.1;
-      quiet = is_given (first_of (codes "quiet") rows);
+    Some (record {
+      owner = owner;
+      time = time;
+      quiet = is_given (codes "quiet") rows;
       folder = folder;
+    })
+
+-- the number of blocks may be left out
+abbrev pub pack_in : List Row → Option (Command Text)
+pack_in rows = folder_in rows >>= λ l. options_in rows >>= λ options.
+    if_given (first_of (codes "blocks") rows) decimal_number >>= λ blocks.
+    (first_of (codes "page") rows >>= page_of) >>= λ page.
+    first_of (codes "OUT") rows >>= λ output.
+    Some (command.Pack (record {
+      options = options;
+      blocks = blocks;
+      page = page;
+      weak = is_given (codes "weak") rows;
+      placing = placing_in rows;
+      owner = l.owner;
+      time = l.time;
+      quiet = l.quiet;
+      folder = l.folder;
       output = output;
     }))
 
 -- what the subcommand of this name asks for, with these rows; None where it is no subcommand or a
 -- value can't be read
-unfoldable pub parsed : Text → List Row → Option TaskParsed
+unfoldable pub parsed : Text → List Row → Option (Command Text)
 parsed name rows =
     if bytes_eq name (codes "check") then check_in rows
-    else if bytes_eq name (codes "ls") then option_map InspectParsed (ls_in rows)
-    else if bytes_eq name (codes "cat") then option_map InspectParsed (cat_in rows)
-    else if bytes_eq name (codes "build") then option_map (noting_in rows) (build_in rows)
-    else if bytes_eq name (codes "append") then option_map (noting_in rows) (append_in rows)
+    else if bytes_eq name (codes "ls") then ls_in rows
+    else if bytes_eq name (codes "cat") then cat_in rows
+    else if bytes_eq name (codes "build") then build_in rows
+    else if bytes_eq name (codes "append") then append_in rows
+    else if bytes_eq name (codes "update") then update_in rows
     else if bytes_eq name (codes "decompress") then decompress_in rows
     else if bytes_eq name (codes "extract") then extract_in rows
-    else if bytes_eq name (codes "listing") then listing_in rows
-    else if bytes_eq name (codes "info") then option_map InspectParsed (info_in rows)
+    else if bytes_eq name (codes "listing") then option_map command.Listing (folder_in rows)
+    else if bytes_eq name (codes "info") then info_in rows
     else if bytes_eq name (codes "cuts") then cuts_in rows
-    else if bytes_eq name (codes "compress") then compress_in rows
-    else if bytes_eq name (codes "diff") then option_map InspectParsed (diff_in rows)
-    else if bytes_eq name (codes "damage") then option_map InspectParsed (damage_in rows)
+    else if bytes_eq name (codes "compress") then option_map command.Compress (conversion_in rows)
+    else if bytes_eq name (codes "compact") then compact_in rows
+    else if bytes_eq name (codes "diff") then diff_in rows
+    else if bytes_eq name (codes "damage") then damage_in rows
+    else if bytes_eq name (codes "map") then map_in rows
     else if bytes_eq name (codes "pack") then pack_in rows
     else None
 
-abbrev pub parsed_by : Option (Text × List Row) → Option TaskParsed
+abbrev pub parsed_by : Option (Text × List Row) → Option (Command Text)
 parsed_by (Some p) = parsed p.0 p.1
 parsed_by None = None
 
 -- rule: What is printed: What the words of a command line ask for.
---   definitions: jcommand.Parsed.parsed_from, jcommand.Parsed.placing_from
+--   definitions: jcommand.Parsed.parsed_from
 --   code: jcommand::command_line::asked
 --   laws: jcommand::laws::known_requests, jcommand::laws::known_placings,
 --   jcommand::laws::known_refusals
 -- what the words ask for, by clap's matches of them
-unfoldable pub parsed_from : List Text → Option TaskParsed
+unfoldable pub parsed_from : List Text → Option (Command Text)
 parsed_from args = parsed_by (subcommand_of program args)
-
--- ---- what is done about the file that is written
-
--- it is filled up to the end of the flash, and takes its name only when all is written, where each
--- of these is asked for
-abbrev pub placing_in : List Row → Placing
-placing_in rows = record {
-  pad = is_given (first_of (codes "pad") rows);
-  atomic = is_given (first_of (codes "atomic") rows);
-}
-
--- neither
-abbrev pub unplaced : Placing
-unplaced = record { pad = false; atomic = false }
-
-abbrev pub is_unplaced : Placing → Bool
-is_unplaced placing = not placing.pad && not placing.atomic
-
-abbrev pub placing_by : Option (Text × List Row) → Placing
-placing_by (Some p) = placing_in p.1
-placing_by None = unplaced
-
--- what the words ask for of it, beside the task that `parsed_from` tells
-unfoldable pub placing_from : List Text → Placing
-placing_from args = placing_by (subcommand_of program args)
 
 -- ---- words that ask for nothing
 

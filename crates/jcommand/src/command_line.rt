@@ -1,15 +1,16 @@
 //! The request that a command line makes.
-ghost use Rattle.std.specs.Prelude.{◌≡◌, ◌≢◌, ◌⊎◌, [], true, false, map, IfOk, IfErr, IfSome, IsSome, OnOk, Some, option_map};
+ghost use Rattle.std.specs.Prelude.{◌≡◌, ◌≢◌, ◌⊎◌, [], true, false, map, IfOk, IfErr, IsSome, OnOk, Some, option_map};
 ghost use Rattle.clap.specs.Words.{HasKind, fault_of, kind_of, subcommand_of, subcommand_rows_of, takes};
 ghost use Rattle.jcommand.specs.Commands.{program};
-ghost use Rattle.jcommand.specs.Parsed.{placing_by, placing_from, task_view, parsed_by, parsed_from, are_words_taken, IsFaultless, IsHelpRequested, IsHelpKind, IsRefusedByClap, IsUnreadable};
+ghost use Rattle.jcommand.specs.Parsed.{command_view, parsed_by, parsed_from, are_words_taken, IsFaultless, IsHelpRequested, IsHelpKind, IsRefusedByClap, IsUnreadable};
 ghost use Rattle.jcommand.specs.Refused.{IsHelp, IsUsage};
 ghost use Rattle.jcommand.specs.declared.command_line.RequestFault.TheVariants.{OutOfMemory};
 
 use crate::commands::make_program;
 use crate::parsed::{
-    Asked, endian, number, owner_number, page, parsed_of, placing_at, text_at, texts_at,
+    Command, endian, number, order_at, owner_number, page, parsed_of, text_at, texts_at,
 };
+use crate::sizes::size;
 use clap::error::ErrorKind;
 use clap::{ArgMatches, Error};
 use std::alloc::{AllocError, Global};
@@ -83,18 +84,11 @@ fn matched<'a>(alloc: Global, args: &'a [&'a str]) -> Result<ArgMatches<'a>, Req
     }
 }
 
-fn parsed_in<'a>(matches: &ArgMatches<'a>) -> Option<Asked<'a>>
-    ensures task { option_map (λ a. task_view a.task) result
-        ≡ parsed_by (subcommand_rows_of matches.now) }
-    ensures placing { IfSome result
-        (λ a. a.placing ≡ placing_by (subcommand_rows_of matches.now)) }
+fn parsed_in<'a>(matches: &ArgMatches<'a>) -> Option<Command<&'a str>>
+    ensures { option_map command_view result ≡ parsed_by (subcommand_rows_of matches.now) }
 {
     let (name, found) = matches.subcommand()?;
-    let task = parsed_of(name, found)?;
-    Some(Asked {
-        task,
-        placing: placing_at(found),
-    })
+    parsed_of(name, found)
 }
 
 /// Of a subcommand that reads a folder, the first value that can't be read, its option, and what is
@@ -111,19 +105,30 @@ fn unreadable_setting<'a>(found: &ArgMatches<'a>) -> (&'a str, &'a str, &'a str)
     (time, "--time <T>", wanted)
 }
 
+/// Of byte orders that can't be read, or of several, the same.
+fn unreadable_order<'a>(found: &ArgMatches<'a>) -> (&'a str, &'a str, &'a str) {
+    match text_at(found, "endian") {
+        Some(order) if endian(order).is_none() => (order, "--endian <ORDER>", "little or big"),
+        _ => (
+            "two orders",
+            "--endian <ORDER>",
+            "one of --endian, -l and -b",
+        ),
+    }
+}
+
 /// The first value that can't be read, its option, and what is wanted there.
 fn unreadable_value<'a>(name: &str, found: &ArgMatches<'a>) -> (&'a str, &'a str, &'a str) {
     if name == "listing" {
         return unreadable_setting(found);
     }
     let block = text_at(found, "block").unwrap_or("");
-    if number(block).is_none() {
-        let wanted = "a number of bytes in decimal digits, below 4294967296";
+    if size(block).is_none() {
+        let wanted = "a number of bytes below 4294967296, as 131072, 0x20000 or 128KiB";
         return (block, "--block <N>", wanted);
     }
-    let order = text_at(found, "endian").unwrap_or("");
-    if endian(order).is_none() {
-        return (order, "--endian <ORDER>", "little or big");
+    if order_at(found).is_none() {
+        return unreadable_order(found);
     }
     if let Some(rule) = text_at(found, "clashes") {
         return (rule, "--clashes <RULE>", "higher");
@@ -153,15 +158,11 @@ fn unreadable(alloc: Global, matches: &ArgMatches<'_>) -> Result<String, AllocEr
 }
 
 /// What the words of a command line ask for. The first word is the program's own name.
-#[tactic(auto, unfolding(crate::specs::Parsed::parsed_from, crate::specs::Parsed::placing_from, crate::specs::Parsed::are_words_taken, crate::specs::Parsed::IsFaultless, crate::specs::Parsed::IsUnreadable))]
-pub fn asked<'a>(alloc: Global, args: &'a [&'a str]) -> Result<Asked<'a>, RequestFault>
+#[tactic(auto, unfolding(crate::specs::Parsed::parsed_from, crate::specs::Parsed::are_words_taken, crate::specs::Parsed::IsFaultless, crate::specs::Parsed::IsUnreadable))]
+pub fn asked<'a>(alloc: Global, args: &'a [&'a str]) -> Result<Command<&'a str>, RequestFault>
     // The subcommand and its values are clap's own function of the words.
     ensures ok { IfOk result
-        (λ a. parsed_from (map (λ w. w.now) args.entry.now) ≡ Some (task_view a.task)) }
-
-    // And so is what is done about the file that is written.
-    ensures placing { IfOk result
-        (λ a. placing_from (map (λ w. w.now) args.entry.now) ≡ a.placing) }
+        (λ c. parsed_from (map (λ w. w.now) args.entry.now) ≡ Some (command_view c)) }
 
     // Words that clap refuses, or answers by help, ask for nothing.
     ensures faultless { OnOk result (IsFaultless (map (λ w. w.now) args.entry.now)) }
@@ -182,7 +183,7 @@ pub fn asked<'a>(alloc: Global, args: &'a [&'a str]) -> Result<Asked<'a>, Reques
 {
     let matches = matched(alloc, args)?;
     match parsed_in(&matches) {
-        Some(asked) => Ok(asked),
+        Some(command) => Ok(command),
         None => Err(usage(unreadable(alloc, &matches))),
     }
 }

@@ -1,8 +1,8 @@
 //! The command line, built with clap: the program, its subcommands, and the words that each one
 //! takes.
-ghost use Rattle.std.specs.Prelude.{◌≡◌, Ok};
+ghost use Rattle.std.specs.Prelude.{◌≡◌, Ok, IfOk};
 ghost use Rattle.clap.specs.Words.{App, Rule, new_app, with_rule, with_subcommand};
-ghost use Rattle.jcommand.specs.Commands.{IsApp, IsRule, MakesApp, word, optional_word, option_or, required_option, option_of, option_of_two, flag, plain_command, writer, noting, check_app, ls_app, cat_app, build_app, append_app, decompress_app, compress_app, extract_app, listing_app, info_app, cuts_app, diff_app, damage_app, pack_app, atomic, replacing, placing, folder_settings, bare, program};
+ghost use Rattle.jcommand.specs.Commands.{IsApp, IsRule, MakesApp, word, optional_word, option_or, required_option, option_of, option_of_two, flag, lettered_flag, block_option, plain_command, writer, noting, check_app, ls_app, cat_app, build_app, append_app, update_app, decompress_app, compress_app, compact_app, extract_app, listing_app, info_app, cuts_app, diff_app, damage_app, map_app, pack_app, atomic, replacing, placing, folder_settings, bare, program};
 
 use crate::help;
 use clap::{Arg, ArgAction, Command};
@@ -87,6 +87,22 @@ fn make_flag<'a>(alloc: Global, id: &'a str, help: &'a str) -> Arg<'a>
         .help(help)
 }
 
+/// A flag that has a letter too.
+fn make_lettered_flag<'a>(alloc: Global, id: &'a str, letter: char, help: &'a str) -> Arg<'a>
+    ensures { IsRule result (lettered_flag id.now letter) }
+{
+    make_flag(alloc, id, help).short(letter)
+}
+
+/// The size of a block, by either name or by the letter.
+fn make_block<'a>(alloc: Global) -> Result<Arg<'a>, AllocError>
+    ensures { IfOk result (λ arg. IsRule arg block_option) }
+{
+    make_option(alloc, "block", "N", "65536", help::BLOCK)
+        .short('e')
+        .alias("eraseblock")
+}
+
 /// A command without words, with the texts at the top and at the end of its help.
 fn make_named<'a>(alloc: Global, name: &'a str, about: &'a str, after: &'a str) -> Command<'a>
     ensures { IsApp result (new_app name.now) }
@@ -114,10 +130,13 @@ fn add_subcommand<'a>(command: Made<'a>, subcommand: Made<'a>) -> Made<'a>
 fn make_plain<'a>(alloc: Global, name: &'a str, about: &'a str, after: &'a str) -> Made<'a>
     ensures { MakesApp result (plain_command name.now) }
 {
-    let block = make_option(alloc, "block", "N", "65536", help::BLOCK);
-    let endian = make_option(alloc, "endian", "ORDER", "little", help::ENDIAN);
+    let block = make_block(alloc)?;
+    let endian = make_optional(alloc, "endian", "ORDER", help::ENDIAN);
+    let little = make_lettered_flag(alloc, "little-endian", 'l', help::LITTLE);
+    let big = make_lettered_flag(alloc, "big-endian", 'b', help::BIG);
     let command = make_named(alloc, name, about, after);
-    add_arg(add_arg(Ok(command), block), endian)
+    let command = add_arg(add_arg(Ok(command), block), endian);
+    add_arg(add_arg(command, little), big)
 }
 
 fn make_check<'a>(alloc: Global) -> Made<'a>
@@ -125,9 +144,11 @@ fn make_check<'a>(alloc: Global) -> Made<'a>
 {
     let scan = make_flag(alloc, "scan", help::SCAN);
     let shape = make_flag(alloc, "shape", help::SHAPE);
+    let decompress = make_flag(alloc, "decompress", help::MOUNTED_DECOMPRESSED);
     let image = make_word(alloc, "IMAGE", help::IMAGE);
     let command = make_plain(alloc, "check", help::CHECK, help::CHECK_EPILOGUE);
-    add_arg(add_arg(add_arg(command, scan), shape), image)
+    let command = add_arg(add_arg(command, scan), shape);
+    add_arg(add_arg(command, decompress), image)
 }
 
 fn make_ls<'a>(alloc: Global) -> Made<'a>
@@ -213,6 +234,22 @@ fn make_append<'a>(alloc: Global) -> Made<'a>
     add_arg(add_arg(add_arg(command, image), listing), output)
 }
 
+fn make_update<'a>(alloc: Global) -> Made<'a>
+    ensures { MakesApp result update_app }
+{
+    let blocks = make_optional(alloc, "blocks", "N", help::BLOCKS);
+    let page = make_option(alloc, "page", "N", "4096", help::PAGE);
+    let plain = make_flag(alloc, "plain", help::PLAIN);
+    let tail = make_flag(alloc, "tail", help::TAIL);
+    let image = make_word(alloc, "IMAGE", help::IMAGE);
+    let listing = make_word(alloc, "LISTING", help::LISTING);
+    let output = make_word(alloc, "OUT", help::OUT);
+    let command = make_plain(alloc, "update", help::UPDATE, help::UPDATE_EPILOGUE);
+    let command = add_arg(add_arg(command, blocks), page);
+    let command = add_placing(alloc, add_arg(add_arg(command, plain), tail));
+    add_arg(add_arg(add_arg(command, image), listing), output)
+}
+
 fn make_decompress<'a>(alloc: Global) -> Made<'a>
     ensures { MakesApp result decompress_app }
 {
@@ -236,6 +273,18 @@ fn make_compress<'a>(alloc: Global) -> Made<'a>
     let output = make_word(alloc, "OUT", help::OUT);
     let command = make_plain(alloc, "compress", help::COMPRESS, help::COMPRESS_EPILOGUE);
     add_arg(add_arg(add_replacing(alloc, command), image), output)
+}
+
+fn make_compact<'a>(alloc: Global) -> Made<'a>
+    ensures { MakesApp result compact_app }
+{
+    let blocks = make_optional(alloc, "blocks", "N", help::BLOCKS);
+    let force = make_flag(alloc, "force", help::FORCE);
+    let image = make_word(alloc, "IMAGE", help::IMAGE);
+    let output = make_word(alloc, "OUT", help::OUT);
+    let command = make_plain(alloc, "compact", help::COMPACT, help::COMPACT_EPILOGUE);
+    let command = add_placing(alloc, add_arg(command, blocks));
+    add_arg(add_arg(add_arg(command, force), image), output)
 }
 
 fn make_extract<'a>(alloc: Global) -> Made<'a>
@@ -290,19 +339,31 @@ fn make_cuts<'a>(alloc: Global) -> Made<'a>
 fn make_diff<'a>(alloc: Global) -> Made<'a>
     ensures { MakesApp result diff_app }
 {
+    let decompress = make_flag(alloc, "decompress", help::BOTH_DECOMPRESSED);
     let times = make_flag(alloc, "times", help::TIMES);
     let first = make_word(alloc, "A", help::FIRST);
     let second = make_word(alloc, "B", help::SECOND);
     let command = make_plain(alloc, "diff", help::DIFF, help::DIFF_EPILOGUE);
-    add_arg(add_arg(add_arg(command, times), first), second)
+    let command = add_arg(add_arg(command, decompress), times);
+    add_arg(add_arg(command, first), second)
 }
 
 fn make_damage<'a>(alloc: Global) -> Made<'a>
     ensures { MakesApp result damage_app }
 {
+    let decompress = make_flag(alloc, "decompress", help::DECOMPRESSED);
     let image = make_word(alloc, "IMAGE", help::IMAGE);
     let command = make_plain(alloc, "damage", help::DAMAGE, help::DAMAGE_EPILOGUE);
-    add_arg(command, image)
+    add_arg(add_arg(command, decompress), image)
+}
+
+fn make_map<'a>(alloc: Global) -> Made<'a>
+    ensures { MakesApp result map_app }
+{
+    let svg = make_flag(alloc, "svg", help::SVG);
+    let image = make_word(alloc, "IMAGE", help::IMAGE);
+    let command = make_plain(alloc, "map", help::MAP, help::MAP_EPILOGUE);
+    add_arg(add_arg(command, svg), image)
 }
 
 fn make_pack<'a>(alloc: Global) -> Made<'a>
@@ -337,13 +398,16 @@ pub(crate) fn make_program<'a>(alloc: Global) -> Made<'a>
     let command = add_subcommand(command, make_cat(alloc));
     let command = add_subcommand(command, make_build(alloc));
     let command = add_subcommand(command, make_append(alloc));
+    let command = add_subcommand(command, make_update(alloc));
     let command = add_subcommand(command, make_decompress(alloc));
     let command = add_subcommand(command, make_compress(alloc));
+    let command = add_subcommand(command, make_compact(alloc));
     let command = add_subcommand(command, make_extract(alloc));
     let command = add_subcommand(command, make_listing(alloc));
     let command = add_subcommand(command, make_info(alloc));
     let command = add_subcommand(command, make_cuts(alloc));
     let command = add_subcommand(command, make_diff(alloc));
     let command = add_subcommand(command, make_damage(alloc));
+    let command = add_subcommand(command, make_map(alloc));
     add_subcommand(command, make_pack(alloc))
 }

@@ -15,9 +15,13 @@ pub(crate) const BUILD: &str = "Make an image from a listing of operations";
 
 pub(crate) const APPEND: &str = "Copy an image, and extend the copy by a listing of operations";
 
+pub(crate) const UPDATE: &str = "Copy an image, and write a listing into its blank blocks";
+
 pub(crate) const DECOMPRESS: &str = "Copy an image, and decompress the data in the copy";
 
 pub(crate) const COMPRESS: &str = "Copy an image, and compress the data in the copy";
+
+pub(crate) const COMPACT: &str = "Copy only those nodes of an image that its tree needs";
 
 pub(crate) const EXTRACT: &str = "Write the tree of an image into a new folder of this host";
 
@@ -33,6 +37,8 @@ pub(crate) const DIFF: &str = "Print the differences between the trees of two im
 
 pub(crate) const DAMAGE: &str = "Print what the damaged nodes of an image cost";
 
+pub(crate) const MAP: &str = "Print where the nodes of an image lie, block by block";
+
 pub(crate) const PACK: &str = "Make an image of a folder of this host";
 
 pub(crate) const PAD: &str = "Fill OUT with 0xFF to the end of the flash";
@@ -41,9 +47,13 @@ pub(crate) const ATOMIC: &str = "Replace an old OUT only if all goes well";
 
 pub(crate) const FORCE: &str = "Write over an IMAGE that is OUT, even if it has findings";
 
-pub(crate) const BLOCK: &str = "Erase block: 4096 to 4194304 bytes";
+pub(crate) const BLOCK: &str = "Erase block, 4 KiB to 4 MiB, as 128KiB";
 
-pub(crate) const ENDIAN: &str = "Byte order: little or big";
+pub(crate) const ENDIAN: &str = "Byte order, without it little: little or big";
+
+pub(crate) const LITTLE: &str = "The same as --endian little";
+
+pub(crate) const BIG: &str = "The same as --endian big";
 
 pub(crate) const BLOCKS: &str = "Blocks of the flash, 268435456 bytes at most";
 
@@ -66,6 +76,16 @@ pub(crate) const TIMES: &str = "Compare times of change too, and print them";
 pub(crate) const CLASHES: &str = "If nodes clash, keep one by its address: higher";
 
 pub(crate) const DECOMPRESSED: &str = "Take the image as decompress would write it";
+
+pub(crate) const BOTH_DECOMPRESSED: &str = "Take both images as decompress would write them";
+
+pub(crate) const MOUNTED_DECOMPRESSED: &str = "Mount the image with its data decompressed";
+
+pub(crate) const PLAIN: &str = "Do not compress new nodes";
+
+pub(crate) const TAIL: &str = "Write behind nodes of begun blocks too: for NOR flash";
+
+pub(crate) const SVG: &str = "Print one SVG picture instead";
 
 pub(crate) const PATH: &str = "Path from the root, as /a/b; \\x and two hex digits are one byte";
 
@@ -90,15 +110,20 @@ pub(crate) const OUT: &str = "File to make or to write over, with the bytes of t
 /// What is at the end of the program's help.
 pub(crate) const EPILOGUE: &str = "\
 --block (the size of an erase block, a multiple of 4) and --endian (the byte
-order) apply to every command except listing and info. build, append and cuts
-need --blocks too, the number of blocks; pack takes it. 'jffs2_image help build'
-says what a listing is, 'jffs2_image help check' what check prints, and the same
-for the other commands.
+order) apply to every command except listing and info. A size is in bytes, as
+131072 or 0x20000, or in K, KiB, M or MiB, as 128KiB. --eraseblock and -e are
+other names of --block, -l is --endian little and -b is --endian big, as for
+mkfs.jffs2. build, append and cuts need --blocks too, the number of blocks;
+update, compact and pack take it. 'jffs2_image help build' says what a listing
+is, 'jffs2_image help check' what check prints, and the same for the other
+commands.
 
 In an image that Linux or mkfs.jffs2 wrote, data are often compressed. ls, cat,
-append and extract read them with --decompress, and decompress makes an image
-without them. build writes no compressed data: compress makes a shorter image of
-its output.
+append, extract, diff, damage and check read them with --decompress, and
+decompress makes an image without them. build writes no compressed data:
+compress makes a shorter image of its output. compact, update and map take
+compressed data as they are: to change the image of a device, compact it, update
+it, and flash it.
 
 Examples:
   jffs2_image info flash.img
@@ -107,6 +132,7 @@ Examples:
   jffs2_image cat --endian big flash.img /etc/passwd
   jffs2_image build --blocks 64 tree.txt flash.img
   jffs2_image append --blocks 64 flash.img more.txt new.img
+  jffs2_image update dump.img more.txt new.img
   jffs2_image cuts --blocks 64 --on flash.img more.txt
   jffs2_image decompress dump.img flash.img
   jffs2_image compress flash.img small.img
@@ -114,6 +140,7 @@ Examples:
   jffs2_image listing tree > tree.txt
   jffs2_image diff old.img new.img
   jffs2_image damage flash.img
+  jffs2_image map dump.img
   jffs2_image pack tree flash.img
 
 Exit status:
@@ -123,7 +150,8 @@ Exit status:
   3  check found a problem, diff a difference, damage a loss, info no node, or
      cuts or --weak a weak node;
      extract, listing, pack or decompress --clashes left something out;
-     extract, decompress, compress, diff or damage read an image with findings
+     extract, decompress, compress, compact, diff or damage read an image with
+     findings
 
 A fault is one line, as 'jffs2_image: M6 RootKind'. Its letter names the part
 that stopped: C the report, L reading a file, M the mount, Z compressed data, I
@@ -150,8 +178,15 @@ each name without an object. With --shape and after an ok, the last line is
 'shape ok', or 'shape broken' if a directory other than the root has two names
 or if a directory lies below itself.
 
+With --decompress the verdict is that of a mount with decompressed data (RTIME,
+ZLIB, LZO, LZMA). So it says whether all of them can be decompressed, and
+'mount refused' names the first fault. Compressed nodes that can be decompressed
+are counted in the report, and are no reason for status 3. --scan mounts
+nothing, so --shape and --decompress do nothing beside it.
+
 Examples:
   jffs2_image check flash.img
+  jffs2_image check --decompress --block 131072 dump.img
   jffs2_image check --scan --endian big --block 131072 flash.img
 
 Exit status:
@@ -159,7 +194,7 @@ Exit status:
   1  a fault, which standard error names
   2  the command line is wrong
   3  a finding, an image that does not mount, a name without an object, or a
-     broken shape";
+     broken shape; with --decompress, compressed nodes are no finding here";
 
 pub(crate) const LIST_EPILOGUE: &str = "\
 The root is the first line. A directory comes before its entries, and names are
@@ -299,6 +334,46 @@ Exit status:
   2  the command line is wrong
   3  with --weak a weak node";
 
+pub(crate) const UPDATE_EPILOGUE: &str = "\
+OUT is IMAGE with new nodes in its blank blocks, wherever they lie. A block is
+blank if it is erased, or has only a clean marker or the beginning of one. All
+bytes of the other blocks stay as they are in IMAGE. append uses only the blank
+blocks at the end. IMAGE may have compressed data (RTIME, ZLIB, LZO, LZMA), and
+new nodes are compressed by ZLIB if that makes them shorter. With --plain they
+are not. 'jffs2_image help build' says what a listing is.
+
+Without --blocks the flash has as many blocks as IMAGE; if the last one is not
+whole, it counts too. OUT is as long as IMAGE, or longer if new nodes lie behind
+its end. With --pad, 0xFF follows, up to the end of the flash. 'accepted A nodes
+N bytes B' is printed: A operations, their N nodes, and the B bytes written. The
+first operation that is refused, or for which there is no room, is the last: the
+fault has the number of its line, and OUT holds the operations before it.
+
+With --tail, nodes also go into the erased rest of a block behind its nodes. Use
+it only for flash that can be programmed several times per block, as NOR. NAND
+cannot.
+
+If there is no room (S2), compact IMAGE first: it makes blank blocks. This
+changes the image of a device:
+
+  jffs2_image compact --blocks 64 --pad dump.img small.img
+  jffs2_image update small.img more.txt new.img
+
+With a wrong --block or --endian, or with damage, a part of IMAGE is not seen,
+and the new nodes may not fit it. A note on standard error reports it, as for
+ls. IMAGE and OUT may be the same file, since IMAGE is held in memory before OUT
+is made. If the power, the host or the disk fails while OUT is written, the old
+bytes are gone. With --atomic they are kept until all is written.
+
+Examples:
+  jffs2_image update dump.img more.txt new.img
+  jffs2_image update --block 131072 --blocks 64 --pad dump.img more.txt new.img
+
+Exit status:
+  0  done
+  1  a fault, which standard error names
+  2  the command line is wrong";
+
 pub(crate) const DECOMPRESS_EPILOGUE: &str = "\
 OUT has the nodes of IMAGE in the order of their addresses, from the first block
 on. Data that are compressed by RTIME, ZLIB, LZO or LZMA are written as they
@@ -324,8 +399,8 @@ made. An IMAGE with findings is written over only with --force (I2 Findings). If
 the power, the host or the disk fails while OUT is written, the old bytes are
 gone. With --atomic they are kept until all is written.
 
-Only to look, give ls, cat or extract the option --decompress: they do what they
-do for OUT, which is held in memory.
+Only to look, give ls, cat, extract, diff or damage the option --decompress:
+they mount IMAGE as it is, and take its data decompressed.
 
 Examples:
   jffs2_image decompress --block 131072 dump.img flash.img
@@ -367,6 +442,36 @@ Exit status:
   1  a fault, which standard error names
   2  the command line is wrong
   3  IMAGE has findings";
+
+pub(crate) const COMPACT_EPILOGUE: &str = "\
+OUT has those nodes of IMAGE that its tree needs, in the order of their
+addresses, from the first block on, each with the bytes that it has in IMAGE:
+names that lead to an object; of each object the newest node, and each node that
+has a byte of it; of equal nodes the highest. Compressed data (RTIME, ZLIB, LZO,
+LZMA) are copied. Each path has the same object in OUT, with the same number,
+attributes and bytes, and OUT has no findings. Everything else is left out:
+superseded, deleted, obsolete and damaged nodes, extended attributes and dirt.
+Notes on standard error count damage, dirt and extended attributes.
+
+'compacted K of N nodes bytes B' is printed: IMAGE has N sound nodes, and OUT
+has K of them and B bytes. The whole image is judged before OUT is made: as a
+mount with --decompress, then S3, S7, and S2 if OUT needs more than --blocks. If
+nodes clash (M5), give IMAGE to decompress --clashes higher first.
+
+IMAGE and OUT may be the same file, since IMAGE is held in memory before OUT is
+made. An IMAGE with findings is written over only with --force (I2 Findings). If
+the power, the host or the disk fails while OUT is written, the old bytes are
+gone. With --atomic they are kept until all is written.
+
+Examples:
+  jffs2_image compact flash.img new.img
+  jffs2_image compact --blocks 64 --pad --atomic flash.img flash.img
+
+Exit status:
+  0  done
+  1  a fault, which standard error names
+  2  the command line is wrong
+  3  IMAGE has findings or extended attributes";
 
 pub(crate) const EXTRACT_EPILOGUE: &str = "\
 DIR is made, and in it each directory, regular file and symlink of the image,
@@ -549,6 +654,34 @@ Exit status:
   1  a fault, which standard error names
   2  the command line is wrong
   3  damage was printed, or IMAGE has findings";
+
+pub(crate) const MAP_EPILOGUE: &str = "\
+The image is mounted with its data decompressed. For each block it prints a
+line: the number of the block, its address, its numbers of live, superseded,
+obsolete, damaged and free bytes, and a bar of 50 marks. The last line has the
+totals.
+
+  #  live        nodes that the tree needs, which compact keeps
+  -  superseded  all other sound nodes, padding and extended attributes
+  o  obsolete    nodes that are marked obsolete
+  !  damaged     damaged nodes, dirt, and words in the other byte order
+  .  free        erased flash and clean markers
+
+A mark stands for a fiftieth of the block, and shows the kind of its last byte.
+
+With --svg it prints a picture for a browser: a row for each block, with a
+rectangle for each node and for each run of other bytes, in the colour of its
+kind. The pointer on a rectangle shows its kind, address and length, and its
+node: of a name the directory and the inode, of data the inode and the bytes.
+
+Examples:
+  jffs2_image map --block 131072 dump.img
+  jffs2_image map --svg dump.img > dump.svg
+
+Exit status:
+  0  done
+  1  a fault, which standard error names
+  2  the command line is wrong";
 
 pub(crate) const PACK_EPILOGUE: &str = "\
 It makes the image that build makes of the listing of DIR, byte for byte, and

@@ -1,11 +1,14 @@
 //! Worked examples of the definitions that the contracts cite.
 ghost use Rattle.std.specs.Prelude.{◌≡◌, true, false, [], ◌∷◌, Some, None, codes};
 ghost use Rattle.clap.specs.Words.{fault_of};
-ghost use Rattle.clap.specs.declared.error.ErrorKind.TheVariants.{DisplayHelp, DisplayVersion, MissingSubcommand, MissingRequiredArgument, UnknownArgument, WrongNumberOfValues};
+ghost use Rattle.clap.specs.declared.error.ErrorKind.TheVariants.{ArgumentConflict, DisplayHelp, DisplayVersion, MissingSubcommand, MissingRequiredArgument, UnknownArgument, WrongNumberOfValues};
 ghost use Rattle.jnode.specs.declared.order.Endian.TheVariants.{Little, Big};
-ghost use Rattle.jcommand.specs.Parsed.{ScanParsed, CheckParsed, ListParsed, CatParsed, BuildParsed, AppendParsed, DecompressParsed, ImageParsed, InspectParsed, WeakParsed, ExtractParsed, ListingParsed, InfoParsed, CompressParsed, CutsParsed, DiffParsed, DamageParsed, ApartParsed, PackParsed, parsed_from, placing_from, endian_of, decimal_number, owner_of, page_of};
+ghost use Rattle.jcommand.specs.Worked.{b_of_a, c_of_a, cuts_of_a, folder_a, no_options, tree_of_a, two_blocks};
+ghost use Rattle.jcommand.specs.Parsed.{options_of, parsed_from, endian_of, decimal_number, owner_of, page_of};
 ghost use Rattle.jscan.specs.declared.page.Page.TheVariants.{P4096, P8192, P16384};
 ghost use Rattle.jcommand.specs.Commands.{program};
+ghost use Rattle.jcommand.specs.Sizes.{size_number};
+ghost use Rattle.jcommand.specs.declared.parsed.Command.TheVariants as command;
 
 /// The values of options.
 pub fn known_values()
@@ -14,6 +17,13 @@ pub fn known_values()
     ensures past_greatest { decimal_number (codes "4294967296") ≡ None }
     ensures signed { decimal_number (codes "+1") ≡ None }
     ensures empty { decimal_number [] ≡ None }
+    ensures kibibytes { size_number (codes "128KiB") ≡ Some 131072 }
+    ensures mebibytes { size_number (codes "4M") ≡ Some 4194304 }
+    ensures hexadecimal { size_number (codes "0x2000a") ≡ Some 131082 }
+    ensures plain_size { size_number (codes "4096") ≡ Some 4096 }
+    ensures past_greatest_size { size_number (codes "4096MiB") ≡ None }
+    ensures no_digits { size_number (codes "K") ≡ None }
+    ensures no_unit { size_number (codes "4Kb") ≡ None }
     ensures little { endian_of (codes "little") ≡ Some Little }
     ensures big { endian_of (codes "big") ≡ Some Big }
     ensures other { endian_of (codes "middle") ≡ None }
@@ -27,160 +37,290 @@ pub fn known_values()
 
 /// What words ask for.
 pub fn known_requests()
-    ensures defaults { parsed_from
-        (codes "jffs2_image" ∷ codes "check" ∷ codes "--scan" ∷ codes "a" ∷ [])
-        ≡ Some (ImageParsed
-        (ScanParsed (record { geometry = record { block = 65536 }; endian = Little })
-        (codes "a"))) }
-    ensures given { parsed_from
-        (codes "jffs2_image" ∷ codes "check" ∷ codes "--block" ∷ codes "4096" ∷ codes "--endian=big"
-        ∷ codes "a" ∷ [])
-        ≡ Some (InspectParsed
-        (CheckParsed (record { geometry = record { block = 4096 }; endian = Big }) false
-        (codes "a"))) }
-    ensures shape { parsed_from
-        (codes "jffs2_image" ∷ codes "check" ∷ codes "--shape" ∷ codes "a" ∷ [])
-        ≡ Some (InspectParsed
-        (CheckParsed (record { geometry = record { block = 65536 }; endian = Little }) true
-        (codes "a"))) }
-    ensures tree { parsed_from
-        (codes "jffs2_image" ∷ codes "ls" ∷ codes "a" ∷ codes "--block=8192" ∷ [])
-        ≡ Some (InspectParsed
-        (ListParsed (record { geometry = record { block = 8192 }; endian = Little }) false
-        (codes "a") None)) }
-    ensures decompressed_tree { parsed_from
-        (codes "jffs2_image" ∷ codes "ls" ∷ codes "--decompress" ∷ codes "a" ∷ codes "/b" ∷ [])
-        ≡ Some (InspectParsed
-        (ListParsed (record { geometry = record { block = 65536 }; endian = Little }) true
-        (codes "a") (Some (codes "/b")))) }
+    ensures defaults { parsed_from (codes "jffs2_image" ∷ codes "check" ∷ codes "--scan" ∷ codes "a"
+        ∷ [])
+        ≡ Some (command.Scan (record { options = no_options; image = codes "a" })) }
+    ensures given { parsed_from (codes "jffs2_image" ∷ codes "check" ∷ codes "--block"
+        ∷ codes "4096" ∷ codes "--endian=big" ∷ codes "a" ∷ [])
+        ≡ Some (command.Check (record {
+          options = options_of 4096 Big;
+          shape = false;
+          image = codes "a";
+        })) }
+    ensures shape { parsed_from (codes "jffs2_image" ∷ codes "check" ∷ codes "--shape" ∷ codes "a"
+        ∷ [])
+        ≡ Some (command.Check (record { options = no_options; shape = true; image = codes "a" })) }
+    ensures through { parsed_from (codes "jffs2_image" ∷ codes "check" ∷ codes "--decompress"
+        ∷ codes "--endian=big" ∷ codes "a" ∷ [])
+        ≡ Some (command.CheckThrough (record {
+          options = options_of 65536 Big;
+          shape = false;
+          image = codes "a";
+        })) }
+    ensures through_with_shape { parsed_from (codes "jffs2_image" ∷ codes "check" ∷ codes "--shape"
+        ∷ codes "a" ∷ codes "--decompress" ∷ [])
+        ≡ Some (command.CheckThrough (record {
+          options = no_options;
+          shape = true;
+          image = codes "a";
+        })) }
+    ensures scanned_alone { parsed_from (codes "jffs2_image" ∷ codes "check"
+        ∷ codes "--decompress" ∷ codes "--scan" ∷ codes "--block=8192" ∷ codes "a" ∷ [])
+        ≡ Some (command.Scan (record { options = options_of 8192 Little; image = codes "a" })) }
+    ensures tree { parsed_from (codes "jffs2_image" ∷ codes "ls" ∷ codes "a" ∷ codes "--block=8192"
+        ∷ [])
+        ≡ Some (command.List (record {
+          options = options_of 8192 Little;
+          decompress = false;
+          image = codes "a";
+          path = None;
+        })) }
+    ensures decompressed_tree { parsed_from (codes "jffs2_image" ∷ codes "ls" ∷ codes "--decompress"
+        ∷ codes "a" ∷ codes "/b" ∷ [])
+        ≡ Some (command.List (record {
+          options = no_options;
+          decompress = true;
+          image = codes "a";
+          path = Some (codes "/b");
+        })) }
     ensures content { parsed_from (codes "jffs2_image" ∷ codes "cat" ∷ codes "a" ∷ codes "/b" ∷ [])
-        ≡ Some (InspectParsed
-        (CatParsed (record { geometry = record { block = 65536 }; endian = Little }) false
-        (codes "a") (codes "/b"))) }
+        ≡ Some (command.Cat (record {
+          options = no_options;
+          decompress = false;
+          image = codes "a";
+          path = codes "/b";
+        })) }
     ensures made { parsed_from (codes "jffs2_image" ∷ codes "build" ∷ codes "--blocks" ∷ codes "2"
         ∷ codes "a" ∷ codes "b" ∷ [])
-        ≡ Some (ImageParsed
-        (BuildParsed (record { geometry = record { block = 65536 }; endian = Little }) 2
-        P4096 (codes "a") (codes "b"))) }
-    ensures extended { parsed_from
-        (codes "jffs2_image" ∷ codes "append" ∷ codes "a" ∷ codes "--block" ∷ codes "8192"
-        ∷ codes "b"
-        ∷ codes "--endian=big" ∷ codes "--page=16384" ∷ codes "c" ∷ codes "--blocks=3" ∷ [])
-        ≡ Some (ImageParsed
-        (AppendParsed (record { geometry = record { block = 8192 }; endian = Big }) 3 P16384
-        false (codes "a") (codes "b") (codes "c"))) }
+        ≡ Some (command.Build (record { target = two_blocks; listing = codes "a" })) }
+    ensures extended { parsed_from (codes "jffs2_image" ∷ codes "append" ∷ codes "a"
+        ∷ codes "--block" ∷ codes "8192" ∷ codes "b" ∷ codes "--endian=big" ∷ codes "--page=16384"
+        ∷ codes "c" ∷ codes "--blocks=3" ∷ [])
+        ≡ Some (command.Append (record {
+          target = record two_blocks {
+            options = options_of 8192 Big;
+            blocks = 3;
+            page = P16384;
+            output = codes "c";
+          };
+          decompress = false;
+          image = codes "a";
+          listing = codes "b";
+        })) }
     ensures noted { parsed_from (codes "jffs2_image" ∷ codes "build" ∷ codes "--weak"
         ∷ codes "--blocks=2" ∷ codes "a" ∷ codes "b" ∷ [])
-        ≡ Some (WeakParsed
-        (BuildParsed (record { geometry = record { block = 65536 }; endian = Little }) 2
-        P4096 (codes "a") (codes "b"))) }
+        ≡ Some (command.Build (record {
+          target = record two_blocks { weak = true };
+          listing = codes "a";
+        })) }
     ensures extended_and_noted { parsed_from (codes "jffs2_image" ∷ codes "append" ∷ codes "a"
-        ∷ codes "b" ∷ codes "--decompress" ∷ codes "c" ∷ codes "--weak" ∷ codes "--blocks=3" ∷ [])
-        ≡ Some (WeakParsed
-        (AppendParsed (record { geometry = record { block = 65536 }; endian = Little }) 3 P4096
-        true (codes "a") (codes "b") (codes "c"))) }
-    ensures decompressed { parsed_from
-        (codes "jffs2_image" ∷ codes "decompress" ∷ codes "--block=8192" ∷ codes "a" ∷ codes "b"
+        ∷ codes "b" ∷ codes "--decompress" ∷ codes "c" ∷ codes "--weak" ∷ codes "--blocks=2" ∷ [])
+        ≡ Some (command.Append (record {
+          target = record two_blocks {
+            weak = true;
+            output = codes "c";
+          };
+          decompress = true;
+          image = codes "a";
+          listing = codes "b";
+        })) }
+    ensures updated { parsed_from (codes "jffs2_image" ∷ codes "update" ∷ codes "a" ∷ codes "b"
+        ∷ codes "c" ∷ [])
+        ≡ Some (command.Update c_of_a) }
+    ensures updated_plainly { parsed_from (codes "jffs2_image" ∷ codes "update" ∷ codes "--plain"
+        ∷ codes "a" ∷ codes "--blocks=3" ∷ codes "b" ∷ codes "--block" ∷ codes "8192" ∷ codes "c"
         ∷ [])
-        ≡ Some (ImageParsed
-        (DecompressParsed (record { geometry = record { block = 8192 }; endian = Little })
-        false (codes "a") (codes "b"))) }
-    ensures apart { parsed_from
-        (codes "jffs2_image" ∷ codes "decompress" ∷ codes "a" ∷ codes "--clashes" ∷ codes "higher"
-        ∷ codes "b" ∷ [])
-        ≡ Some (ApartParsed (record { geometry = record { block = 65536 }; endian = Little })
-        false (codes "a") (codes "b")) }
-    ensures extracted { parsed_from
-        (codes "jffs2_image" ∷ codes "extract" ∷ codes "--owners" ∷ codes "a" ∷ codes "b" ∷ [])
-        ≡ Some (ExtractParsed (record { geometry = record { block = 65536 }; endian = Little })
-        false true false (codes "a") (codes "b") None) }
-    ensures extracted_part { parsed_from
-        (codes "jffs2_image" ∷ codes "extract" ∷ codes "a" ∷ codes "--quiet" ∷ codes "b"
-        ∷ codes "/c" ∷ [])
-        ≡ Some (ExtractParsed (record { geometry = record { block = 65536 }; endian = Little })
-        false false true (codes "a") (codes "b") (Some (codes "/c"))) }
-    ensures listed { parsed_from
-        (codes "jffs2_image" ∷ codes "listing" ∷ codes "--quiet" ∷ codes "a" ∷ [])
-        ≡ Some (ListingParsed None None true (codes "a")) }
-    ensures listed_for { parsed_from (codes "jffs2_image" ∷ codes "listing" ∷ codes "--owner"
-        ∷ codes "0" ∷ codes "7" ∷ codes "--time=9" ∷ codes "a" ∷ [])
-        ≡ Some (ListingParsed (Some (record { uid = 0; gid = 7 })) (Some 9) false (codes "a")) }
-    ensures told { parsed_from (codes "jffs2_image" ∷ codes "info" ∷ codes "a" ∷ [])
-        ≡ Some (InspectParsed (InfoParsed (codes "a"))) }
-    ensures cut { parsed_from (codes "jffs2_image" ∷ codes "cuts" ∷ codes "--on=b"
-        ∷ codes "--blocks" ∷ codes "2" ∷ codes "a" ∷ [])
-        ≡ Some (CutsParsed (record { geometry = record { block = 65536 }; endian = Little }) 2 P4096
-        (Some (codes "b")) (codes "a")) }
-    ensures cut_alone { parsed_from (codes "jffs2_image" ∷ codes "cuts" ∷ codes "--page=8192"
-        ∷ codes "--blocks=2" ∷ codes "a" ∷ [])
-        ≡ Some (CutsParsed (record { geometry = record { block = 65536 }; endian = Little }) 2 P8192
-        None (codes "a")) }
-    ensures compressed { parsed_from
-        (codes "jffs2_image" ∷ codes "compress" ∷ codes "a" ∷ codes "--endian=big" ∷ codes "b"
+        ≡ Some (command.Update (record c_of_a {
+          options = options_of 8192 Little;
+          blocks = Some 3;
+          plain = true;
+        })) }
+    ensures updated_in_rests { parsed_from (codes "jffs2_image" ∷ codes "update" ∷ codes "a"
+        ∷ codes "b" ∷ codes "--tail" ∷ codes "--page=16384" ∷ codes "--endian=big" ∷ codes "c"
         ∷ [])
-        ≡ Some (CompressParsed (record { geometry = record { block = 65536 }; endian = Big })
-        false (codes "a") (codes "b")) }
-    ensures compressed_over { parsed_from
-        (codes "jffs2_image" ∷ codes "compress" ∷ codes "--force" ∷ codes "a" ∷ codes "a" ∷ [])
-        ≡ Some (CompressParsed (record { geometry = record { block = 65536 }; endian = Little })
-        true (codes "a") (codes "a")) }
-    ensures compared { parsed_from
-        (codes "jffs2_image" ∷ codes "diff" ∷ codes "a" ∷ codes "--block=8192" ∷ codes "b" ∷ [])
-        ≡ Some (InspectParsed
-        (DiffParsed (record { geometry = record { block = 8192 }; endian = Little }) false
-        (codes "a") (codes "b"))) }
-    ensures compared_with_times { parsed_from
-        (codes "jffs2_image" ∷ codes "diff" ∷ codes "--times" ∷ codes "--endian=big" ∷ codes "a"
-        ∷ codes "b" ∷ [])
-        ≡ Some (InspectParsed
-        (DiffParsed (record { geometry = record { block = 65536 }; endian = Big }) true
-        (codes "a") (codes "b"))) }
-    ensures damaged { parsed_from
-        (codes "jffs2_image" ∷ codes "damage" ∷ codes "--block=8192" ∷ codes "a" ∷ [])
-        ≡ Some (InspectParsed
-        (DamageParsed (record { geometry = record { block = 8192 }; endian = Little })
-        (codes "a"))) }
-    ensures packed { parsed_from (codes "jffs2_image" ∷ codes "pack" ∷ codes "a" ∷ codes "b" ∷ [])
-        ≡ Some (PackParsed (record {
-          options = record { geometry = record { block = 65536 }; endian = Little };
-          blocks = None;
-          page = P4096;
-          weak = false;
+        ≡ Some (command.Update (record c_of_a {
+          options = options_of 65536 Big;
+          page = P16384;
+          tail = true;
+        })) }
+    ensures decompressed { parsed_from (codes "jffs2_image" ∷ codes "decompress"
+        ∷ codes "--block=8192" ∷ codes "a" ∷ codes "b" ∷ [])
+        ≡ Some (command.Decompress (record b_of_a { options = options_of 8192 Little })) }
+    ensures apart { parsed_from (codes "jffs2_image" ∷ codes "decompress" ∷ codes "a"
+        ∷ codes "--clashes" ∷ codes "higher" ∷ codes "b" ∷ [])
+        ≡ Some (command.Apart b_of_a) }
+    ensures extracted { parsed_from (codes "jffs2_image" ∷ codes "extract" ∷ codes "--owners"
+        ∷ codes "a" ∷ codes "b" ∷ [])
+        ≡ Some (command.Extract (record tree_of_a { owners = true })) }
+    ensures extracted_part { parsed_from (codes "jffs2_image" ∷ codes "extract" ∷ codes "a"
+        ∷ codes "--quiet" ∷ codes "b" ∷ codes "/c" ∷ [])
+        ≡ Some (command.Extract (record tree_of_a { quiet = true; path = Some (codes "/c") })) }
+    ensures listed { parsed_from (codes "jffs2_image" ∷ codes "listing" ∷ codes "--quiet"
+        ∷ codes "a" ∷ [])
+        ≡ Some (command.Listing (record {
           owner = None;
           time = None;
-          quiet = false;
+          quiet = true;
           folder = codes "a";
-          output = codes "b";
         })) }
-    ensures packed_for { parsed_from
-        (codes "jffs2_image" ∷ codes "pack" ∷ codes "--owner" ∷ codes "0" ∷ codes "7"
-        ∷ codes "--time=9" ∷ codes "--weak" ∷ codes "--blocks=2" ∷ codes "a" ∷ codes "b" ∷ [])
-        ≡ Some (PackParsed (record {
-          options = record { geometry = record { block = 65536 }; endian = Little };
-          blocks = Some 2;
-          page = P4096;
-          weak = true;
+    ensures listed_for { parsed_from (codes "jffs2_image" ∷ codes "listing" ∷ codes "--owner"
+        ∷ codes "0" ∷ codes "7" ∷ codes "--time=9" ∷ codes "a" ∷ [])
+        ≡ Some (command.Listing (record {
           owner = Some (record { uid = 0; gid = 7 });
           time = Some 9;
           quiet = false;
           folder = codes "a";
-          output = codes "b";
+        })) }
+    ensures told { parsed_from (codes "jffs2_image" ∷ codes "info" ∷ codes "a" ∷ [])
+        ≡ Some (command.Info (codes "a")) }
+    ensures cut { parsed_from (codes "jffs2_image" ∷ codes "cuts" ∷ codes "--on=b"
+        ∷ codes "--blocks" ∷ codes "2" ∷ codes "a" ∷ [])
+        ≡ Some (command.Cuts (record cuts_of_a { on = Some (codes "b") })) }
+    ensures cut_alone { parsed_from (codes "jffs2_image" ∷ codes "cuts" ∷ codes "--page=8192"
+        ∷ codes "--blocks=2" ∷ codes "a" ∷ [])
+        ≡ Some (command.Cuts (record cuts_of_a { page = P8192 })) }
+    ensures compressed { parsed_from (codes "jffs2_image" ∷ codes "compress" ∷ codes "a"
+        ∷ codes "--endian=big" ∷ codes "b" ∷ [])
+        ≡ Some (command.Compress (record b_of_a { options = options_of 65536 Big })) }
+    ensures compressed_over { parsed_from (codes "jffs2_image" ∷ codes "compress" ∷ codes "--force"
+        ∷ codes "a" ∷ codes "a" ∷ [])
+        ≡ Some (command.Compress (record b_of_a { force = true; output = codes "a" })) }
+    ensures compacted { parsed_from (codes "jffs2_image" ∷ codes "compact" ∷ codes "--blocks=2"
+        ∷ codes "a" ∷ codes "b" ∷ codes "--force" ∷ [])
+        ≡ Some (command.Compact (record {
+          conversion = record b_of_a { force = true };
+          blocks = Some
+              2;
+        })) }
+    ensures compared { parsed_from (codes "jffs2_image" ∷ codes "diff" ∷ codes "a"
+        ∷ codes "--block=8192" ∷ codes "b" ∷ [])
+        ≡ Some (command.Diff (record {
+          options = options_of 8192 Little;
+          decompress = false;
+          times = false;
+          first = codes "a";
+          second = codes "b";
+        })) }
+    ensures compared_with_times { parsed_from (codes "jffs2_image" ∷ codes "diff" ∷ codes "--times"
+        ∷ codes "--endian=big" ∷ codes "a" ∷ codes "b" ∷ [])
+        ≡ Some (command.Diff (record {
+          options = options_of 65536 Big;
+          decompress = false;
+          times = true;
+          first = codes "a";
+          second = codes "b";
+        })) }
+    ensures compared_decompressed { parsed_from (codes "jffs2_image" ∷ codes "diff"
+        ∷ codes "--decompress" ∷ codes "a" ∷ codes "b" ∷ [])
+        ≡ Some (command.Diff (record {
+          options = no_options;
+          decompress = true;
+          times = false;
+          first = codes "a";
+          second = codes "b";
+        })) }
+    ensures damaged { parsed_from (codes "jffs2_image" ∷ codes "damage" ∷ codes "--block=8192"
+        ∷ codes "a" ∷ [])
+        ≡ Some (command.Damage (record {
+          options = options_of 8192 Little;
+          decompress = false;
+          image = codes "a";
+        })) }
+    ensures damaged_decompressed { parsed_from (codes "jffs2_image" ∷ codes "damage" ∷ codes "a"
+        ∷ codes "--decompress" ∷ [])
+        ≡ Some (command.Damage (record {
+          options = no_options;
+          decompress = true;
+          image = codes "a";
+        })) }
+    ensures mapped { parsed_from (codes "jffs2_image" ∷ codes "map" ∷ codes "--block=8192"
+        ∷ codes "a" ∷ [])
+        ≡ Some (command.Map (record {
+          options = options_of 8192 Little;
+          svg = false;
+          image = codes "a";
+        })) }
+    ensures by_letters { parsed_from (codes "jffs2_image" ∷ codes "map" ∷ codes "-e"
+        ∷ codes "128KiB" ∷ codes "-b" ∷ codes "a" ∷ [])
+        ≡ Some (command.Map (record {
+          options = options_of 131072 Big;
+          svg = false;
+          image = codes "a";
+        })) }
+    ensures by_long_names { parsed_from (codes "jffs2_image" ∷ codes "map"
+        ∷ codes "--eraseblock=0x2000" ∷ codes "a" ∷ codes "--little-endian" ∷ [])
+        ≡ Some (command.Map (record {
+          options = options_of 8192 Little;
+          svg = false;
+          image = codes "a";
+        })) }
+    ensures drawn { parsed_from (codes "jffs2_image" ∷ codes "map" ∷ codes "a" ∷ codes "--svg"
+        ∷ codes "--endian" ∷ codes "big" ∷ [])
+        ≡ Some (command.Map (record {
+          options = options_of 65536 Big;
+          svg = true;
+          image = codes "a";
+        })) }
+    ensures packed { parsed_from (codes "jffs2_image" ∷ codes "pack" ∷ codes "a" ∷ codes "b" ∷ [])
+        ≡ Some (command.Pack folder_a) }
+    ensures packed_for { parsed_from (codes "jffs2_image" ∷ codes "pack" ∷ codes "--owner"
+        ∷ codes "0" ∷ codes "7" ∷ codes "--time=9" ∷ codes "--weak" ∷ codes "--blocks=2" ∷ codes "a"
+        ∷ codes "b" ∷ [])
+        ≡ Some (command.Pack (record folder_a {
+          blocks = Some 2;
+          weak = true;
+          owner = Some
+              (record { uid = 0; gid = 7 });
+          time = Some 9;
         })) }
 {}
 
 /// What words ask for of the file that is written.
 pub fn known_placings()
-    ensures none { placing_from (codes "jffs2_image" ∷ codes "build" ∷ codes "--blocks=2"
-        ∷ codes "a" ∷ codes "b" ∷ []) ≡ record { pad = false; atomic = false } }
-    ensures padded { placing_from (codes "jffs2_image" ∷ codes "append" ∷ codes "--blocks=2"
+    ensures padded { parsed_from (codes "jffs2_image" ∷ codes "append" ∷ codes "--blocks=2"
         ∷ codes "--pad" ∷ codes "a" ∷ codes "b" ∷ codes "c" ∷ [])
-        ≡ record { pad = true; atomic = false } }
-    ensures apart { placing_from (codes "jffs2_image" ∷ codes "decompress" ∷ codes "--atomic"
-        ∷ codes "a" ∷ codes "b" ∷ []) ≡ record { pad = false; atomic = true } }
-    ensures both { placing_from (codes "jffs2_image" ∷ codes "pack" ∷ codes "a" ∷ codes "--pad"
-        ∷ codes "b" ∷ codes "--atomic" ∷ []) ≡ record { pad = true; atomic = true } }
-    ensures of_no_output { placing_from (codes "jffs2_image" ∷ codes "ls" ∷ codes "a" ∷ [])
-        ≡ record { pad = false; atomic = false } }
+        ≡ Some (command.Append (record {
+          target = record two_blocks {
+            placing = record {
+              pad = true;
+              atomic = false;
+            };
+            output = codes "c";
+          };
+          decompress = false;
+          image = codes "a";
+          listing = codes "b";
+        })) }
+    ensures apart { parsed_from (codes "jffs2_image" ∷ codes "decompress" ∷ codes "--atomic"
+        ∷ codes "a" ∷ codes "b" ∷ [])
+        ≡ Some (command.Decompress (record b_of_a {
+          placing = record {
+            pad = false;
+            atomic = true;
+          };
+        })) }
+    ensures compacted { parsed_from (codes "jffs2_image" ∷ codes "compact" ∷ codes "a" ∷ codes "b"
+        ∷ codes "--pad" ∷ codes "--atomic" ∷ [])
+        ≡ Some (command.Compact (record {
+          conversion = record b_of_a {
+            placing = record { pad = true; atomic = true };
+          };
+          blocks = None;
+        })) }
+    ensures updated { parsed_from (codes "jffs2_image" ∷ codes "update" ∷ codes "a" ∷ codes "b"
+        ∷ codes "--pad" ∷ codes "c" ∷ [])
+        ≡ Some (command.Update (record c_of_a {
+          placing = record { pad = true; atomic = false };
+        })) }
+    ensures updated_in_place { parsed_from (codes "jffs2_image" ∷ codes "update" ∷ codes "--atomic"
+        ∷ codes "a" ∷ codes "b" ∷ codes "a" ∷ [])
+        ≡ Some (command.Update (record c_of_a {
+          placing = record { pad = false; atomic = true };
+          output = codes "a";
+        })) }
+    ensures both { parsed_from (codes "jffs2_image" ∷ codes "pack" ∷ codes "a" ∷ codes "--pad"
+        ∷ codes "b" ∷ codes "--atomic" ∷ [])
+        ≡ Some (command.Pack (record folder_a { placing = record { pad = true; atomic = true } })) }
 {}
 
 /// Words that ask for nothing.
@@ -208,7 +348,15 @@ pub fn known_refusals()
     ensures one_owner { fault_of program (codes "jffs2_image" ∷ codes "listing" ∷ codes "a"
         ∷ codes "--owner" ∷ codes "1" ∷ []) ≡ WrongNumberOfValues ∷ [] }
     ensures not_of_check { fault_of program (codes "jffs2_image" ∷ codes "check"
+        ∷ codes "--times" ∷ codes "a" ∷ []) ≡ UnknownArgument ∷ [] }
+    ensures not_of_map { fault_of program (codes "jffs2_image" ∷ codes "map"
         ∷ codes "--decompress" ∷ codes "a" ∷ []) ≡ UnknownArgument ∷ [] }
+    ensures not_mapped { fault_of program (codes "jffs2_image" ∷ codes "map" ∷ codes "--svg" ∷ [])
+        ≡ MissingRequiredArgument ∷ [] }
+    ensures not_of_update { fault_of program (codes "jffs2_image" ∷ codes "update"
+        ∷ codes "--weak" ∷ codes "a" ∷ codes "b" ∷ codes "c" ∷ []) ≡ UnknownArgument ∷ [] }
+    ensures not_updated { fault_of program (codes "jffs2_image" ∷ codes "update" ∷ codes "a"
+        ∷ codes "b" ∷ []) ≡ MissingRequiredArgument ∷ [] }
     ensures not_decompressed { fault_of program
         (codes "jffs2_image" ∷ codes "decompress" ∷ codes "a" ∷ []) ≡ MissingRequiredArgument ∷ [] }
     ensures not_compressed { fault_of program
@@ -231,6 +379,16 @@ pub fn known_refusals()
         ∷ codes "--blocks=x" ∷ codes "a" ∷ codes "b" ∷ []) ≡ None }
     ensures unreadable_time { parsed_from (codes "jffs2_image" ∷ codes "pack"
         ∷ codes "--time=x" ∷ codes "a" ∷ codes "b" ∷ []) ≡ None }
+    ensures unreadable_update { parsed_from (codes "jffs2_image" ∷ codes "update"
+        ∷ codes "--blocks=x" ∷ codes "a" ∷ codes "b" ∷ codes "c" ∷ []) ≡ None }
+    ensures unreadable_page { parsed_from (codes "jffs2_image" ∷ codes "update"
+        ∷ codes "--page=4097" ∷ codes "a" ∷ codes "b" ∷ codes "c" ∷ []) ≡ None }
+    ensures two_orders { parsed_from (codes "jffs2_image" ∷ codes "ls" ∷ codes "-l" ∷ codes "-b"
+        ∷ codes "a" ∷ []) ≡ None }
+    ensures order_and_letter { parsed_from (codes "jffs2_image" ∷ codes "ls" ∷ codes "-b"
+        ∷ codes "--endian=big" ∷ codes "a" ∷ []) ≡ None }
+    ensures two_sizes { fault_of program (codes "jffs2_image" ∷ codes "ls" ∷ codes "--block=4096"
+        ∷ codes "-e" ∷ codes "4096" ∷ codes "a" ∷ []) ≡ ArgumentConflict ∷ [] }
     ensures unreadable_clashes { parsed_from (codes "jffs2_image" ∷ codes "decompress"
         ∷ codes "--clashes=lower" ∷ codes "a" ∷ codes "b" ∷ []) ≡ None }
     ensures unreadable { parsed_from (codes "jffs2_image" ∷ codes "check" ∷ codes "--block=x"

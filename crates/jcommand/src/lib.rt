@@ -9,8 +9,8 @@
 //!   `specs/Commands.antt` has the same as clap sees it.
 //! - `help`: the texts of the help.
 //! - `parsed`: what clap's matches ask for, `specs/Parsed.antt`.
-//! - `command_line`: `asked`, which takes the words to a `Task`, with what is done about the file
-//!   that it writes, or to the text that answers them; `specs/Refused.antt`.
+//! - `command_line`: `asked`, which takes the words to a `Command`, or to the text that answers
+//!   them; `specs/Refused.antt`.
 //! - `outcome`: how the program ends, and its exit status; `specs/Status.antt`.
 //! - `laws`: worked command lines.
 #![tactic(auto)]
@@ -21,10 +21,12 @@ mod help;
 pub mod laws;
 mod outcome;
 mod parsed;
+mod sizes;
 
 pub use crate::command_line::{RequestFault, asked};
 pub use crate::outcome::{Outcome, status};
 pub use crate::parsed::{
-    Asked, Comparison, Compression, Cuts, Decompression, Examination, Extraction, FolderListing,
-    Inspection, Options, Owner, Packing, Placing, Request, Target, Task, Work,
+    Appending, Building, Check, Command, Compaction, Comparison, Conversion, Cuts, Examination,
+    Extraction, FileContent, FolderListing, Image, Mapping, Options, Owner, Packing, Placing,
+    Target, TreeListing, Updating,
 };

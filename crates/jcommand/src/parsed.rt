@@ -1,13 +1,14 @@
 //! What the matches of the program's command line ask for.
-ghost use Rattle.std.specs.Prelude.{◌≡◌, IfSome, codes, map, option_map};
+ghost use Rattle.std.specs.Prelude.{◌≡◌, codes, map, option_map};
 ghost use Rattle.clap.specs.Words.{found_of, rows_of, all_of, first_of};
-ghost use Rattle.jcommand.specs.Parsed.{decimal_number, endian_of, page_of, number_option, options_in, image_in, is_given, check_in, is_decompressed, ls_in, cat_in, writing_in, build_in, append_in, noting_in, decompress_in, extract_in, listing_in, info_in, compress_in, cuts_in, diff_in, damage_in, flash_in, settings_in, pack_in, placing_in, is_apart, owner_number, owner_of, if_given, parsed, inspection_view, options_of, task_view, view, work_view};
+ghost use Rattle.jcommand.specs.Parsed.{append_in, build_in, cat_in, check_in, command_view, compact_in, conversion_in, conversion_view, cuts_in, damage_in, decimal_number, decompress_in, diff_in, endian_of, extract_in, folder_in, folder_view, if_given, image_in, image_view, info_in, is_apart, is_given, ls_in, map_in, number_option, options_in, order_asked, order_in, order_named, owner_number, owner_of, pack_in, page_of, parsed, placing_in, target_in, target_view, update_in};
 
+use crate::sizes::size;
 use clap::ArgMatches;
 use jnode::Endian;
 use jscan::{Geometry, Page};
 
-/// What each subcommand is given.
+/// What most commands are given: how the bytes of the flash are to be read.
 #[derive(Clone, Copy)]
 pub struct Options {
     pub geometry: Geometry,
@@ -21,178 +22,6 @@ pub struct Owner {
     pub gid: u16,
 }
 
-/// The flash that is written, the page that files are cut by, and the file that holds its bytes.
-#[derive(Clone, Copy)]
-pub struct Target<'a> {
-    pub options: Options,
-    pub blocks: u32,
-    pub page: Page,
-    pub output: &'a str,
-}
-
-/// A request of an image: one that scans it, or that makes another one.
-#[derive(Clone, Copy)]
-pub enum Request<'a> {
-    /// `check --scan`: the tiles of the image and what is found in them.
-    Scan {
-        options: Options,
-        image: &'a str,
-    },
-    /// `build`: an image of what the listing makes of an empty file system.
-    Build {
-        target: Target<'a>,
-        listing: &'a str,
-    },
-    /// `append`: the image with what the listing makes of its file system; with `--decompress` in
-    /// the same way.
-    Append {
-        target: Target<'a>,
-        decompress: bool,
-        image: &'a str,
-        listing: &'a str,
-    },
-    /// `decompress`: an image of the same nodes, whose data are not compressed; with `--force` also
-    /// over its image where that has findings.
-    Decompress {
-        options: Options,
-        force: bool,
-        image: &'a str,
-        output: &'a str,
-    },
-}
-
-impl Request<'_> {
-    /// What each subcommand is given.
-    pub fn options(&self) -> Options
-        ensures { result ≡ options_of self.now }
-    {
-        match *self {
-            Request::Scan { options, .. } | Request::Decompress { options, .. } => options,
-            Request::Build { target, .. } | Request::Append { target, .. } => target.options,
-        }
-    }
-}
-
-/// The tree of an image in a new folder of the host, or the part of it that a path names; with
-/// `--owners`, its owners too, and with `--decompress` that of what `decompress` makes of the
-/// image.
-#[derive(Clone, Copy)]
-pub struct Extraction<'a> {
-    pub options: Options,
-    pub decompress: bool,
-    pub owners: bool,
-    pub quiet: bool,
-    pub image: &'a str,
-    pub folder: &'a str,
-    pub path: Option<&'a str>,
-}
-
-/// The listing that builds a folder of the host, with one owner or one time for all of it where
-/// they are given.
-#[derive(Clone, Copy)]
-pub struct FolderListing<'a> {
-    pub owner: Option<Owner>,
-    pub time: Option<u32>,
-    pub quiet: bool,
-    pub folder: &'a str,
-}
-
-/// What `build` would write of a listing, or `append` on an image.
-#[derive(Clone, Copy)]
-pub struct Cuts<'a> {
-    pub options: Options,
-    pub blocks: u32,
-    pub page: Page,
-    /// The image, if one is given.
-    pub on: Option<&'a str>,
-    pub listing: &'a str,
-}
-
-/// An image of the same nodes, of which those of regular files are compressed; with `--force` also
-/// over its image where that has findings.
-#[derive(Clone, Copy)]
-pub struct Compression<'a> {
-    pub options: Options,
-    pub force: bool,
-    pub image: &'a str,
-    pub output: &'a str,
-}
-
-/// An image of the nodes of one, whose data are not compressed, without those that one of a higher
-/// address clashes with; with `--force` also over its image where that has findings.
-#[derive(Clone, Copy)]
-pub struct Decompression<'a> {
-    pub options: Options,
-    pub force: bool,
-    pub image: &'a str,
-    pub output: &'a str,
-}
-
-/// What the trees of two images differ in; with `--times`, in times of change too.
-#[derive(Clone, Copy)]
-pub struct Comparison<'a> {
-    pub options: Options,
-    pub times: bool,
-    pub first: &'a str,
-    pub second: &'a str,
-}
-
-/// What the damage of an image costs.
-#[derive(Clone, Copy)]
-pub struct Examination<'a> {
-    pub options: Options,
-    pub image: &'a str,
-}
-
-/// What is printed of images that are read whole. Nothing is made.
-#[derive(Clone, Copy)]
-pub enum Inspection<'a> {
-    /// `check`: the tiles of the image, what is found in them, and whether it mounts; with
-    /// `--shape`, and its tree has its shape.
-    Check {
-        options: Options,
-        shape: bool,
-        image: &'a str,
-    },
-    /// `ls`: a line for each object of the tree, or of the part of it that a path names; with
-    /// `--decompress`, of what `decompress` makes of the image.
-    List {
-        options: Options,
-        decompress: bool,
-        image: &'a str,
-        path: Option<&'a str>,
-    },
-    /// `cat`: the content of a file; with `--decompress` in the same way.
-    Cat {
-        options: Options,
-        decompress: bool,
-        image: &'a str,
-        path: &'a str,
-    },
-    /// `info`: what an image tells of itself, whose block size and byte order nobody says.
-    Info {
-        image: &'a str,
-    },
-    /// `diff`.
-    Diff(Comparison<'a>),
-    /// `damage`.
-    Damage(Examination<'a>),
-}
-
-/// An image of a folder of the host: of a flash of so many blocks, where they are given.
-#[derive(Clone, Copy)]
-pub struct Packing<'a> {
-    pub options: Options,
-    pub blocks: Option<u32>,
-    pub page: Page,
-    pub weak: bool,
-    pub owner: Option<Owner>,
-    pub time: Option<u32>,
-    pub quiet: bool,
-    pub folder: &'a str,
-    pub output: &'a str,
-}
-
 /// What is done about the file that is written.
 #[derive(Clone, Copy)]
 pub struct Placing {
@@ -202,39 +31,252 @@ pub struct Placing {
     pub atomic: bool,
 }
 
-/// Any other task: it scans or makes an image, or works with a folder.
+/// An image that is read.
 #[derive(Clone, Copy)]
-pub enum Work<'a> {
-    /// A request of an image.
-    Image(Request<'a>),
-    /// `build` and `append` with `--weak`: the same, and then notes on weak nodes.
-    Weak(Request<'a>),
-    /// `extract`.
-    Extract(Extraction<'a>),
-    /// `listing`.
-    Listing(FolderListing<'a>),
-    /// `cuts`: what stands after a stop of writing.
-    Cuts(Cuts<'a>),
-    /// `compress`.
-    Compress(Compression<'a>),
-    /// `decompress --clashes higher`.
-    Apart(Decompression<'a>),
-    /// `pack`.
-    Pack(Packing<'a>),
+pub struct Image<T> {
+    pub options: Options,
+    pub image: T,
 }
 
-/// What is asked for.
+/// What the damage of an image costs; with `decompress`, of what `decompress` makes of it.
 #[derive(Clone, Copy)]
-pub enum Task<'a> {
-    Inspect(Inspection<'a>),
-    Work(Work<'a>),
+pub struct Examination<T> {
+    pub options: Options,
+    pub decompress: bool,
+    pub image: T,
 }
 
-/// A task, and what is done about the file that it writes.
+/// An image that is scanned and mounted; with `shape`, whether its tree has its shape too.
 #[derive(Clone, Copy)]
-pub struct Asked<'a> {
-    pub task: Task<'a>,
+pub struct Check<T> {
+    pub options: Options,
+    pub shape: bool,
+    pub image: T,
+}
+
+/// The tree of an image, or the part of it that a path names; with `decompress`, that of what
+/// `decompress` makes of the image.
+#[derive(Clone, Copy)]
+pub struct TreeListing<T> {
+    pub options: Options,
+    pub decompress: bool,
+    pub image: T,
+    pub path: Option<T>,
+}
+
+/// The content of a file of an image; with `decompress` in the same way.
+#[derive(Clone, Copy)]
+pub struct FileContent<T> {
+    pub options: Options,
+    pub decompress: bool,
+    pub image: T,
+    pub path: T,
+}
+
+/// What the trees of two images differ in; with `times`, in times of change too, and with
+/// `decompress` those of what `decompress` makes of the images.
+#[derive(Clone, Copy)]
+pub struct Comparison<T> {
+    pub options: Options,
+    pub decompress: bool,
+    pub times: bool,
+    pub first: T,
+    pub second: T,
+}
+
+/// What `build` would write of a listing, or `append` on an image.
+#[derive(Clone, Copy)]
+pub struct Cuts<T> {
+    pub options: Options,
+    pub blocks: u32,
+    pub page: Page,
+    /// The image, if one is given.
+    pub on: Option<T>,
+    pub listing: T,
+}
+
+/// Where the nodes of an image lie, as a text or, with `svg`, as a picture.
+#[derive(Clone, Copy)]
+pub struct Mapping<T> {
+    pub options: Options,
+    pub svg: bool,
+    pub image: T,
+}
+
+/// The flash that is written, the page that files are cut by, and the file that holds its bytes;
+/// with `weak`, weak nodes are noted when all is written.
+#[derive(Clone, Copy)]
+pub struct Target<T> {
+    pub options: Options,
+    pub blocks: u32,
+    pub page: Page,
+    pub weak: bool,
     pub placing: Placing,
+    pub output: T,
+}
+
+/// An image of what a listing makes of an empty file system.
+#[derive(Clone, Copy)]
+pub struct Building<T> {
+    pub target: Target<T>,
+    pub listing: T,
+}
+
+/// An image with what a listing makes of its file system; with `decompress`, of what `decompress`
+/// makes of the image.
+#[derive(Clone, Copy)]
+pub struct Appending<T> {
+    pub target: Target<T>,
+    pub decompress: bool,
+    pub image: T,
+    pub listing: T,
+}
+
+/// A device's image with what a listing makes of its file system, written into its blank blocks: of
+/// a flash of so many blocks, if they are given, or of as many as the image has or begins. With
+/// `plain` nodes are not compressed, with `tail` they go into the rests of begun blocks too.
+#[derive(Clone, Copy)]
+pub struct Updating<T> {
+    pub options: Options,
+    pub blocks: Option<u32>,
+    pub page: Page,
+    pub plain: bool,
+    pub tail: bool,
+    pub placing: Placing,
+    pub image: T,
+    pub listing: T,
+    pub output: T,
+}
+
+/// An image that is made of another one; with `force` also over that one where it has findings.
+#[derive(Clone, Copy)]
+pub struct Conversion<T> {
+    pub options: Options,
+    pub force: bool,
+    pub placing: Placing,
+    pub image: T,
+    pub output: T,
+}
+
+/// An image of the nodes of another one that its tree needs: of a flash of so many blocks, where
+/// they are given.
+#[derive(Clone, Copy)]
+pub struct Compaction<T> {
+    pub conversion: Conversion<T>,
+    pub blocks: Option<u32>,
+}
+
+/// The tree of an image in a new folder of the host, or the part of it that a path names; with
+/// `owners`, its owners too, and with `decompress` that of what `decompress` makes of the image.
+#[derive(Clone, Copy)]
+pub struct Extraction<T> {
+    pub options: Options,
+    pub decompress: bool,
+    pub owners: bool,
+    pub quiet: bool,
+    pub image: T,
+    pub folder: T,
+    pub path: Option<T>,
+}
+
+/// The listing that builds a folder of the host, with one owner or one time for all of it where
+/// they are given.
+#[derive(Clone, Copy)]
+pub struct FolderListing<T> {
+    pub owner: Option<Owner>,
+    pub time: Option<u32>,
+    pub quiet: bool,
+    pub folder: T,
+}
+
+/// An image of a folder of the host: of a flash of so many blocks, where they are given.
+#[derive(Clone, Copy)]
+pub struct Packing<T> {
+    pub options: Options,
+    pub blocks: Option<u32>,
+    pub page: Page,
+    pub weak: bool,
+    pub placing: Placing,
+    pub owner: Option<Owner>,
+    pub time: Option<u32>,
+    pub quiet: bool,
+    pub folder: T,
+    pub output: T,
+}
+
+/// What a command line asks for. Files, folders and paths are named by texts `T`.
+#[derive(Clone, Copy)]
+pub enum Command<T> {
+    /// `check --scan`: the tiles of the image and what is found in them.
+    Scan(Image<T>),
+    /// `check`: the same, and whether the image mounts.
+    Check(Check<T>),
+    /// `check --decompress`: the same, mounted through its compression.
+    CheckThrough(Check<T>),
+    /// `ls`: a line for each object of the tree.
+    List(TreeListing<T>),
+    /// `cat`: the bytes of a file.
+    Cat(FileContent<T>),
+    /// `info`: what an image tells of itself, whose block size and byte order nobody says.
+    Info { image: T },
+    /// `diff`.
+    Diff(Comparison<T>),
+    /// `damage`.
+    Damage(Examination<T>),
+    /// `map`.
+    Map(Mapping<T>),
+    /// `build`.
+    Build(Building<T>),
+    /// `append`.
+    Append(Appending<T>),
+    /// `update`.
+    Update(Updating<T>),
+    /// `cuts`: what stands after a stop of writing.
+    Cuts(Cuts<T>),
+    /// `decompress`: an image of the same nodes, whose data are not compressed.
+    Decompress(Conversion<T>),
+    /// `decompress --clashes higher`: the same without those that one of a higher address clashes
+    /// with.
+    Apart(Conversion<T>),
+    /// `compress`: an image of the same nodes, of which those of regular files are compressed.
+    Compress(Conversion<T>),
+    /// `compact`.
+    Compact(Compaction<T>),
+    /// `extract`.
+    Extract(Extraction<T>),
+    /// `listing`.
+    Listing(FolderListing<T>),
+    /// `pack`.
+    Pack(Packing<T>),
+}
+
+impl<T> Command<T> {
+    /// The byte order that it is given. `info` finds out its own, and `listing` reads no image.
+    pub fn endian(&self) -> Endian
+        ensures { result ≡ order_asked self.now }
+    {
+        match self {
+            Command::Scan(asked) => asked.options.endian,
+            Command::Check(asked) => asked.options.endian,
+            Command::CheckThrough(asked) => asked.options.endian,
+            Command::List(asked) => asked.options.endian,
+            Command::Cat(asked) => asked.options.endian,
+            Command::Diff(asked) => asked.options.endian,
+            Command::Damage(asked) => asked.options.endian,
+            Command::Map(asked) => asked.options.endian,
+            Command::Build(asked) => asked.target.options.endian,
+            Command::Append(asked) => asked.target.options.endian,
+            Command::Update(asked) => asked.options.endian,
+            Command::Cuts(asked) => asked.options.endian,
+            Command::Decompress(asked) | Command::Apart(asked) | Command::Compress(asked) => {
+                asked.options.endian
+            }
+            Command::Compact(asked) => asked.conversion.options.endian,
+            Command::Extract(asked) => asked.options.endian,
+            Command::Pack(asked) => asked.options.endian,
+            Command::Info { .. } | Command::Listing(_) => Endian::Little,
+        }
+    }
 }
 
 /// A number below 2^32 in decimal digits.
@@ -302,29 +344,9 @@ fn number_at(found: &ArgMatches<'_>, id: &str) -> Option<u32>
     number(text_at(found, id)?)
 }
 
-fn options_at(found: &ArgMatches<'_>) -> Option<Options>
-    ensures { result ≡ options_in (rows_of (found_of found.now)) }
-{
-    let block = number_at(found, "block")?;
-    let endian = endian(text_at(found, "endian")?)?;
-    Some(Options {
-        geometry: Geometry { block },
-        endian,
-    })
-}
-
-/// The options and the image that a subcommand reads.
-fn image_at<'a>(found: &ArgMatches<'a>) -> Option<(Options, &'a str)>
-    ensures { option_map (λ p. (p.0, p.1.now)) result ≡ image_in (rows_of (found_of found.now)) }
-{
-    let options = options_at(found)?;
-    let image = text_at(found, "IMAGE")?;
-    Some((options, image))
-}
-
 /// Whether a flag is given.
 fn is_given(found: &ArgMatches<'_>, id: &str) -> bool
-    ensures { result ≡ is_given (first_of id.now (rows_of (found_of found.now))) }
+    ensures { result ≡ is_given id.now (rows_of (found_of found.now)) }
 {
     match text_at(found, id) {
         Some(text) => text == "true",
@@ -332,102 +354,220 @@ fn is_given(found: &ArgMatches<'_>, id: &str) -> bool
     }
 }
 
-fn check_at<'a>(found: &ArgMatches<'a>) -> Option<Task<'a>>
-    ensures { option_map task_view result ≡ check_in (rows_of (found_of found.now)) }
+/// The byte order of this name, or little.
+fn order_named(name: Option<&str>) -> Option<Endian>
+    ensures { result ≡ order_named (option_map (λ n. n.now) name.entry) }
 {
-    let (options, image) = image_at(found)?;
-    if is_given(found, "scan") {
-        Some(Task::Work(Work::Image(Request::Scan { options, image })))
-    } else {
-        Some(Task::Inspect(Inspection::Check {
-            options,
-            shape: is_given(found, "shape"),
-            image,
-        }))
+    match name {
+        Some(text) => endian(text),
+        None => Some(Endian::Little),
     }
 }
 
-/// Whether what is read is decompressed.
-fn is_decompressed(found: &ArgMatches<'_>) -> bool
-    ensures { result ≡ is_decompressed (rows_of (found_of found.now)) }
+/// The byte order by one of its options, of which two say nothing.
+pub(crate) fn order_at(found: &ArgMatches<'_>) -> Option<Endian>
+    ensures { result ≡ order_in (rows_of (found_of found.now)) }
 {
-    is_given(found, "decompress")
+    let named = text_at(found, "endian");
+    let little = is_given(found, "little-endian");
+    let big = is_given(found, "big-endian");
+    match (little, big) {
+        (false, false) => order_named(named),
+        (true, false) if named.is_none() => Some(Endian::Little),
+        (false, true) if named.is_none() => Some(Endian::Big),
+        _ => None,
+    }
 }
 
-fn ls_at<'a>(found: &ArgMatches<'a>) -> Option<Inspection<'a>>
-    ensures { option_map inspection_view result ≡ ls_in (rows_of (found_of found.now)) }
+fn options_at(found: &ArgMatches<'_>) -> Option<Options>
+    ensures { result ≡ options_in (rows_of (found_of found.now)) }
 {
-    let (options, image) = image_at(found)?;
-    Some(Inspection::List {
+    let block = size(text_at(found, "block")?)?;
+    let endian = order_at(found)?;
+    Some(Options {
+        geometry: Geometry { block },
+        endian,
+    })
+}
+
+/// What is done about the file that is written.
+fn placing_at(found: &ArgMatches<'_>) -> Placing
+    ensures { result ≡ placing_in (rows_of (found_of found.now)) }
+{
+    Placing {
+        pad: is_given(found, "pad"),
+        atomic: is_given(found, "atomic"),
+    }
+}
+
+/// The options and the image that a subcommand reads.
+fn image_at<'a>(found: &ArgMatches<'a>) -> Option<Image<&'a str>>
+    ensures { option_map image_view result ≡ image_in (rows_of (found_of found.now)) }
+{
+    Some(Image {
+        options: options_at(found)?,
+        image: text_at(found, "IMAGE")?,
+    })
+}
+
+fn check_at<'a>(found: &ArgMatches<'a>) -> Option<Command<&'a str>>
+    ensures { option_map command_view result ≡ check_in (rows_of (found_of found.now)) }
+{
+    let asked = image_at(found)?;
+    if is_given(found, "scan") {
+        return Some(Command::Scan(asked));
+    }
+    let check = Check {
+        options: asked.options,
+        shape: is_given(found, "shape"),
+        image: asked.image,
+    };
+    Some(match is_given(found, "decompress") {
+        true => Command::CheckThrough(check),
+        false => Command::Check(check),
+    })
+}
+
+fn ls_at<'a>(found: &ArgMatches<'a>) -> Option<Command<&'a str>>
+    ensures { option_map command_view result ≡ ls_in (rows_of (found_of found.now)) }
+{
+    let Image { options, image } = image_at(found)?;
+    Some(Command::List(TreeListing {
         options,
-        decompress: is_decompressed(found),
+        decompress: is_given(found, "decompress"),
         image,
         path: text_at(found, "PATH"),
-    })
+    }))
 }
 
-fn cat_at<'a>(found: &ArgMatches<'a>) -> Option<Inspection<'a>>
-    ensures { option_map inspection_view result ≡ cat_in (rows_of (found_of found.now)) }
+fn cat_at<'a>(found: &ArgMatches<'a>) -> Option<Command<&'a str>>
+    ensures { option_map command_view result ≡ cat_in (rows_of (found_of found.now)) }
 {
-    let (options, image) = image_at(found)?;
-    let path = text_at(found, "PATH")?;
-    Some(Inspection::Cat {
+    let Image { options, image } = image_at(found)?;
+    Some(Command::Cat(FileContent {
         options,
-        decompress: is_decompressed(found),
+        decompress: is_given(found, "decompress"),
         image,
-        path,
+        path: text_at(found, "PATH")?,
+    }))
+}
+
+fn info_at<'a>(found: &ArgMatches<'a>) -> Option<Command<&'a str>>
+    ensures { option_map command_view result ≡ info_in (rows_of (found_of found.now)) }
+{
+    Some(Command::Info {
+        image: text_at(found, "IMAGE")?,
     })
 }
 
-/// What a subcommand with these options writes, and the listing that it reads.
-fn writing_at<'a>(found: &ArgMatches<'a>, options: Options) -> Option<(Target<'a>, &'a str)>
-    ensures values { option_map (λ w. (w.0.blocks, w.0.page, w.1.now, w.0.output.now)) result
-        ≡ writing_in (rows_of (found_of found.now)) }
-    ensures options { IfSome result (λ w. w.0.options ≡ options) }
+fn diff_at<'a>(found: &ArgMatches<'a>) -> Option<Command<&'a str>>
+    ensures { option_map command_view result ≡ diff_in (rows_of (found_of found.now)) }
 {
-    let blocks = number_at(found, "blocks")?;
-    let page = page(text_at(found, "page")?)?;
-    let listing = text_at(found, "LISTING")?;
-    let output = text_at(found, "OUT")?;
-    let target = Target {
+    Some(Command::Diff(Comparison {
+        options: options_at(found)?,
+        decompress: is_given(found, "decompress"),
+        times: is_given(found, "times"),
+        first: text_at(found, "A")?,
+        second: text_at(found, "B")?,
+    }))
+}
+
+fn damage_at<'a>(found: &ArgMatches<'a>) -> Option<Command<&'a str>>
+    ensures { option_map command_view result ≡ damage_in (rows_of (found_of found.now)) }
+{
+    let Image { options, image } = image_at(found)?;
+    Some(Command::Damage(Examination {
         options,
-        blocks,
-        page,
-        output,
-    };
-    Some((target, listing))
-}
-
-fn build_at<'a>(found: &ArgMatches<'a>) -> Option<Request<'a>>
-    ensures { option_map view result ≡ build_in (rows_of (found_of found.now)) }
-{
-    let options = options_at(found)?;
-    let (target, listing) = writing_at(found, options)?;
-    Some(Request::Build { target, listing })
-}
-
-fn append_at<'a>(found: &ArgMatches<'a>) -> Option<Request<'a>>
-    ensures { option_map view result ≡ append_in (rows_of (found_of found.now)) }
-{
-    let (options, image) = image_at(found)?;
-    let (target, listing) = writing_at(found, options)?;
-    Some(Request::Append {
-        target,
-        decompress: is_decompressed(found),
+        decompress: is_given(found, "decompress"),
         image,
-        listing,
+    }))
+}
+
+fn map_at<'a>(found: &ArgMatches<'a>) -> Option<Command<&'a str>>
+    ensures { option_map command_view result ≡ map_in (rows_of (found_of found.now)) }
+{
+    let Image { options, image } = image_at(found)?;
+    Some(Command::Map(Mapping {
+        options,
+        svg: is_given(found, "svg"),
+        image,
+    }))
+}
+
+/// The image that a subcommand writes.
+fn target_at<'a>(found: &ArgMatches<'a>) -> Option<Target<&'a str>>
+    ensures { option_map target_view result ≡ target_in (rows_of (found_of found.now)) }
+{
+    Some(Target {
+        options: options_at(found)?,
+        blocks: number_at(found, "blocks")?,
+        page: page(text_at(found, "page")?)?,
+        weak: is_given(found, "weak"),
+        placing: placing_at(found),
+        output: text_at(found, "OUT")?,
     })
 }
 
-/// What writes an image, with the notes on weak nodes where they are asked for.
-fn noting<'a>(found: &ArgMatches<'a>, request: Request<'a>) -> Work<'a>
-    ensures { work_view result ≡ noting_in (rows_of (found_of found.now)) (view request.entry) }
+fn build_at<'a>(found: &ArgMatches<'a>) -> Option<Command<&'a str>>
+    ensures { option_map command_view result ≡ build_in (rows_of (found_of found.now)) }
 {
-    if is_given(found, "weak") {
-        Work::Weak(request)
-    } else {
-        Work::Image(request)
-    }
+    Some(Command::Build(Building {
+        target: target_at(found)?,
+        listing: text_at(found, "LISTING")?,
+    }))
+}
+
+fn append_at<'a>(found: &ArgMatches<'a>) -> Option<Command<&'a str>>
+    ensures { option_map command_view result ≡ append_in (rows_of (found_of found.now)) }
+{
+    Some(Command::Append(Appending {
+        target: target_at(found)?,
+        decompress: is_given(found, "decompress"),
+        image: text_at(found, "IMAGE")?,
+        listing: text_at(found, "LISTING")?,
+    }))
+}
+
+fn update_at<'a>(found: &ArgMatches<'a>) -> Option<Command<&'a str>>
+    ensures { option_map command_view result ≡ update_in (rows_of (found_of found.now)) }
+{
+    Some(Command::Update(Updating {
+        options: options_at(found)?,
+        blocks: number_if_given(found, "blocks")?,
+        page: page(text_at(found, "page")?)?,
+        plain: is_given(found, "plain"),
+        tail: is_given(found, "tail"),
+        placing: placing_at(found),
+        image: text_at(found, "IMAGE")?,
+        listing: text_at(found, "LISTING")?,
+        output: text_at(found, "OUT")?,
+    }))
+}
+
+fn cuts_at<'a>(found: &ArgMatches<'a>) -> Option<Command<&'a str>>
+    ensures { option_map command_view result ≡ cuts_in (rows_of (found_of found.now)) }
+{
+    Some(Command::Cuts(Cuts {
+        options: options_at(found)?,
+        blocks: number_at(found, "blocks")?,
+        page: page(text_at(found, "page")?)?,
+        on: text_at(found, "on"),
+        listing: text_at(found, "LISTING")?,
+    }))
+}
+
+/// An image, and the one that is made of it.
+fn conversion_at<'a>(found: &ArgMatches<'a>) -> Option<Conversion<&'a str>>
+    ensures { option_map conversion_view result ≡ conversion_in (rows_of (found_of found.now)) }
+{
+    let Image { options, image } = image_at(found)?;
+    Some(Conversion {
+        options,
+        force: is_given(found, "force"),
+        placing: placing_at(found),
+        image,
+        output: text_at(found, "OUT")?,
+    })
 }
 
 /// Whether nodes that clash are left out, by the rule that is given.
@@ -441,40 +581,36 @@ pub(crate) fn apart(rule: Option<&str>) -> Option<bool>
     }
 }
 
-fn decompress_at<'a>(found: &ArgMatches<'a>) -> Option<Work<'a>>
-    ensures { option_map work_view result ≡ decompress_in (rows_of (found_of found.now)) }
+fn decompress_at<'a>(found: &ArgMatches<'a>) -> Option<Command<&'a str>>
+    ensures { option_map command_view result ≡ decompress_in (rows_of (found_of found.now)) }
 {
-    let (options, image) = image_at(found)?;
-    let output = text_at(found, "OUT")?;
-    let force = is_given(found, "force");
+    let asked = conversion_at(found)?;
     match apart(text_at(found, "clashes"))? {
-        true => Some(Work::Apart(Decompression {
-            options,
-            force,
-            image,
-            output,
-        })),
-        false => Some(Work::Image(Request::Decompress {
-            options,
-            force,
-            image,
-            output,
-        })),
+        true => Some(Command::Apart(asked)),
+        false => Some(Command::Decompress(asked)),
     }
 }
 
-fn extract_at<'a>(found: &ArgMatches<'a>) -> Option<Work<'a>>
-    ensures { option_map work_view result ≡ extract_in (rows_of (found_of found.now)) }
+fn compact_at<'a>(found: &ArgMatches<'a>) -> Option<Command<&'a str>>
+    ensures { option_map command_view result ≡ compact_in (rows_of (found_of found.now)) }
 {
-    let (options, image) = image_at(found)?;
-    let folder = text_at(found, "DIR")?;
-    Some(Work::Extract(Extraction {
+    Some(Command::Compact(Compaction {
+        conversion: conversion_at(found)?,
+        blocks: number_if_given(found, "blocks")?,
+    }))
+}
+
+fn extract_at<'a>(found: &ArgMatches<'a>) -> Option<Command<&'a str>>
+    ensures { option_map command_view result ≡ extract_in (rows_of (found_of found.now)) }
+{
+    let Image { options, image } = image_at(found)?;
+    Some(Command::Extract(Extraction {
         options,
-        decompress: is_decompressed(found),
+        decompress: is_given(found, "decompress"),
         owners: is_given(found, "owners"),
         quiet: is_given(found, "quiet"),
         image,
-        folder,
+        folder: text_at(found, "DIR")?,
         path: text_at(found, "PATH"),
     }))
 }
@@ -520,155 +656,59 @@ fn number_if_given(found: &ArgMatches<'_>, id: &str) -> Option<Option<u32>>
     }
 }
 
-/// The time, where one is given.
-fn time_at(found: &ArgMatches<'_>) -> Option<Option<u32>>
-    ensures { result
-        ≡ if_given (first_of (codes "time") (rows_of (found_of found.now))) decimal_number }
+/// A folder, and the owner and the time of all that it holds, where they are given.
+fn folder_at<'a>(found: &ArgMatches<'a>) -> Option<FolderListing<&'a str>>
+    ensures { option_map folder_view result ≡ folder_in (rows_of (found_of found.now)) }
 {
-    number_if_given(found, "time")
-}
-
-fn listing_at<'a>(found: &ArgMatches<'a>) -> Option<Work<'a>>
-    ensures { option_map work_view result ≡ listing_in (rows_of (found_of found.now)) }
-{
-    let owner = owner_at(found)?;
-    let time = time_at(found)?;
-    let folder = text_at(found, "DIR")?;
-    Some(Work::Listing(FolderListing {
-        owner,
-        time,
+    Some(FolderListing {
+        owner: owner_at(found)?,
+        time: number_if_given(found, "time")?,
         quiet: is_given(found, "quiet"),
-        folder,
-    }))
+        folder: text_at(found, "DIR")?,
+    })
 }
 
-fn info_at<'a>(found: &ArgMatches<'a>) -> Option<Inspection<'a>>
-    ensures { option_map inspection_view result ≡ info_in (rows_of (found_of found.now)) }
+fn pack_at<'a>(found: &ArgMatches<'a>) -> Option<Command<&'a str>>
+    ensures { option_map command_view result ≡ pack_in (rows_of (found_of found.now)) }
 {
-    let image = text_at(found, "IMAGE")?;
-    Some(Inspection::Info { image })
-}
-
-fn cuts_at<'a>(found: &ArgMatches<'a>) -> Option<Work<'a>>
-    ensures { option_map work_view result ≡ cuts_in (rows_of (found_of found.now)) }
-{
-    let options = options_at(found)?;
-    let blocks = number_at(found, "blocks")?;
-    let page = page(text_at(found, "page")?)?;
-    Some(Work::Cuts(Cuts {
-        options,
-        blocks,
-        page,
-        on: text_at(found, "on"),
-        listing: text_at(found, "LISTING")?,
-    }))
-}
-
-fn compress_at<'a>(found: &ArgMatches<'a>) -> Option<Work<'a>>
-    ensures { option_map work_view result ≡ compress_in (rows_of (found_of found.now)) }
-{
-    let (options, image) = image_at(found)?;
-    match text_at(found, "OUT") {
-        Some(output) => Some(Work::Compress(Compression {
-            options,
-            force: is_given(found, "force"),
-            image,
-            output,
-        })),
-        None => None,
-    }
-}
-
-fn diff_at<'a>(found: &ArgMatches<'a>) -> Option<Inspection<'a>>
-    ensures { option_map inspection_view result ≡ diff_in (rows_of (found_of found.now)) }
-{
-    let options = options_at(found)?;
-    let first = text_at(found, "A")?;
-    let second = text_at(found, "B")?;
-    Some(Inspection::Diff(Comparison {
-        options,
-        times: is_given(found, "times"),
-        first,
-        second,
-    }))
-}
-
-fn damage_at<'a>(found: &ArgMatches<'a>) -> Option<Inspection<'a>>
-    ensures { option_map inspection_view result ≡ damage_in (rows_of (found_of found.now)) }
-{
-    let (options, image) = image_at(found)?;
-    Some(Inspection::Damage(Examination { options, image }))
-}
-
-/// The flash that is written, of which the number of blocks may be left out.
-fn flash_at(found: &ArgMatches<'_>) -> Option<(Options, Option<u32>, Page)>
-    ensures { result ≡ flash_in (rows_of (found_of found.now)) }
-{
-    let options = options_at(found)?;
-    let blocks = number_if_given(found, "blocks")?;
-    let page = page(text_at(found, "page")?)?;
-    Some((options, blocks, page))
-}
-
-/// The owner and the time of all that a folder holds, where they are given.
-fn settings_at(found: &ArgMatches<'_>) -> Option<(Option<Owner>, Option<u32>)>
-    ensures { result ≡ settings_in (rows_of (found_of found.now)) }
-{
-    let owner = owner_at(found)?;
-    let time = time_at(found)?;
-    Some((owner, time))
-}
-
-fn pack_at<'a>(found: &ArgMatches<'a>) -> Option<Work<'a>>
-    ensures { option_map work_view result ≡ pack_in (rows_of (found_of found.now)) }
-{
-    let (options, blocks, page) = flash_at(found)?;
-    let (owner, time) = settings_at(found)?;
-    let folder = text_at(found, "DIR")?;
-    let output = text_at(found, "OUT")?;
-    Some(Work::Pack(Packing {
-        options,
-        blocks,
-        page,
+    let folder = folder_at(found)?;
+    Some(Command::Pack(Packing {
+        options: options_at(found)?,
+        blocks: number_if_given(found, "blocks")?,
+        page: page(text_at(found, "page")?)?,
         weak: is_given(found, "weak"),
-        owner,
-        time,
-        quiet: is_given(found, "quiet"),
-        folder,
-        output,
+        placing: placing_at(found),
+        owner: folder.owner,
+        time: folder.time,
+        quiet: folder.quiet,
+        folder: folder.folder,
+        output: text_at(found, "OUT")?,
     }))
-}
-
-/// What is done about the file that is written.
-pub(crate) fn placing_at(found: &ArgMatches<'_>) -> Placing
-    ensures { result ≡ placing_in (rows_of (found_of found.now)) }
-{
-    Placing {
-        pad: is_given(found, "pad"),
-        atomic: is_given(found, "atomic"),
-    }
 }
 
 /// What the subcommand asks for, or nothing where a value can't be read.
 #[tactic(auto, unfolding(crate::specs::Parsed::parsed))]
-pub(crate) fn parsed_of<'a>(name: &str, found: &ArgMatches<'a>) -> Option<Task<'a>>
-    ensures { option_map task_view result ≡ parsed name.now (rows_of (found_of found.now)) }
+pub(crate) fn parsed_of<'a>(name: &str, found: &ArgMatches<'a>) -> Option<Command<&'a str>>
+    ensures { option_map command_view result ≡ parsed name.now (rows_of (found_of found.now)) }
 {
     match name {
         "check" => check_at(found),
-        "ls" => Some(Task::Inspect(ls_at(found)?)),
-        "cat" => Some(Task::Inspect(cat_at(found)?)),
-        "build" => Some(Task::Work(noting(found, build_at(found)?))),
-        "append" => Some(Task::Work(noting(found, append_at(found)?))),
-        "decompress" => Some(Task::Work(decompress_at(found)?)),
-        "extract" => Some(Task::Work(extract_at(found)?)),
-        "listing" => Some(Task::Work(listing_at(found)?)),
-        "info" => Some(Task::Inspect(info_at(found)?)),
-        "cuts" => Some(Task::Work(cuts_at(found)?)),
-        "compress" => Some(Task::Work(compress_at(found)?)),
-        "diff" => Some(Task::Inspect(diff_at(found)?)),
-        "damage" => Some(Task::Inspect(damage_at(found)?)),
-        "pack" => Some(Task::Work(pack_at(found)?)),
+        "ls" => ls_at(found),
+        "cat" => cat_at(found),
+        "build" => build_at(found),
+        "append" => append_at(found),
+        "update" => update_at(found),
+        "decompress" => decompress_at(found),
+        "extract" => extract_at(found),
+        "listing" => Some(Command::Listing(folder_at(found)?)),
+        "info" => info_at(found),
+        "cuts" => cuts_at(found),
+        "compress" => Some(Command::Compress(conversion_at(found)?)),
+        "compact" => compact_at(found),
+        "diff" => diff_at(found),
+        "damage" => damage_at(found),
+        "map" => map_at(found),
+        "pack" => pack_at(found),
         _ => None,
     }
 }

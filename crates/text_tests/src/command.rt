@@ -6,3 +6,5 @@ mod decompressing;
 mod folders;
 mod growth;
 mod packing;
+mod sizes;
+mod updating;

@@ -3,18 +3,15 @@
 
 use crate::checks::{equal, equal_at, expect, expect_at};
 use crate::command::packing::shown_packing;
+use crate::command::updating::{shown_mapping, shown_updating};
 use jcommand::{
-    Asked, Comparison, Cuts, Examination, Extraction, FolderListing, Inspection, Options, Outcome,
-    Owner, Placing, Request, RequestFault, Target, Task, Work, asked, status,
+    Appending, Building, Check, Command, Compaction, Comparison, Conversion, Cuts, Examination,
+    Extraction, FileContent, FolderListing, Image, Options, Outcome, Owner, Placing, RequestFault,
+    Target, TreeListing, asked, status,
 };
 use jnode::Endian;
 use std::alloc::{AllocError, Global};
 use std::test::Fail;
-
-/// The number of blocks, the size of a page, and the file of what is written.
-fn written(target: Target<'_>) -> (u32, u32, &str) {
-    (target.blocks, target.page.size(), target.output)
-}
 
 pub(crate) fn order_name(endian: Endian) -> &'static str {
     match endian {
@@ -23,99 +20,122 @@ pub(crate) fn order_name(endian: Endian) -> &'static str {
     }
 }
 
+/// What is done about the file that is written.
+pub(crate) fn placing_mark(placing: Placing) -> &'static str {
+    match (placing.pad, placing.atomic) {
+        (false, false) => "",
+        (false, true) => " atomic",
+        (true, false) => " padded",
+        (true, true) => " padded atomic",
+    }
+}
+
 /// What follows the values where the image is to be decompressed.
 fn mark(decompress: bool) -> &'static str {
     if decompress { " decompressed" } else { "" }
 }
 
-/// A request as the name of its kind, the size of a block, the byte order, and its other values in
-/// the order of the command's help.
-fn shown(alloc: Global, request: Request<'_>) -> Result<String, AllocError> {
-    let Options { geometry, endian } = request.options();
-    let block = geometry.block;
-    let order = order_name(endian);
-    match request {
-        Request::Scan { image, .. } => format!(in alloc; "scan {block} {order} {image}"),
-        Request::Decompress {
-            options,
-            force,
-            image,
-            output,
-        } => shown_copy(alloc, "decompress", options, force, image, output),
-        Request::Build { target, listing } => {
-            let (blocks, page, output) = written(target);
-            format!(in alloc; "build {block} {order} {blocks} {page} {listing} {output}")
-        }
-        Request::Append {
-            target,
-            decompress,
-            image,
-            listing,
-        } => {
-            let (blocks, page, output) = written(target);
-            let mark = mark(decompress);
-            format!(in alloc;
-                "append {block} {order} {blocks} {page} {image} {listing} {output}{mark}"
-            )
-        }
-    }
-}
-
-/// An image that is looked at, in the same way; `name` is that of the command.
-fn shown_image(
+/// The name of a command, the size of a block and the byte order.
+pub(crate) fn shown_options(
     alloc: Global,
     name: &str,
     options: Options,
-    image: &str,
 ) -> Result<String, AllocError> {
     let block = options.geometry.block;
     let order = order_name(options.endian);
-    format!(in alloc; "{name} {block} {order} {image}")
+    format!(in alloc; "{name} {block} {order}")
 }
 
-/// What is printed of images, in the same way.
-fn shown_inspection(alloc: Global, asked: Inspection<'_>) -> Result<String, AllocError> {
-    match asked {
-        Inspection::Check {
-            options,
-            shape,
-            image,
-        } => {
-            let shape = if shape { " shape" } else { "" };
-            let image = shown_image(alloc, "check", options, image)?;
-            format!(in alloc; "{image}{shape}")
-        }
-        Inspection::List {
-            options,
-            decompress,
-            image,
-            path,
-        } => {
-            let mark = mark(decompress);
-            let path = path.unwrap_or("all");
-            let image = shown_image(alloc, "ls", options, image)?;
-            format!(in alloc; "{image} {path}{mark}")
-        }
-        Inspection::Cat {
-            options,
-            decompress,
-            image,
-            path,
-        } => {
-            let mark = mark(decompress);
-            let image = shown_image(alloc, "cat", options, image)?;
-            format!(in alloc; "{image} {path}{mark}")
-        }
-        Inspection::Info { image } => format!(in alloc; "info {image}"),
-        Inspection::Diff(asked) => shown_comparison(alloc, asked),
-        Inspection::Damage(Examination { options, image }) => {
-            shown_image(alloc, "damage", options, image)
-        }
-    }
+/// The image that is written: the number of blocks, the size of a page, the words between, and the
+/// file.
+fn shown_target(
+    alloc: Global,
+    name: &str,
+    target: Target<&str>,
+    between: &str,
+    decompress: bool,
+) -> Result<String, AllocError> {
+    let weak = if target.weak { "weak " } else { "" };
+    let command = shown_options(alloc, name, target.options)?;
+    let page = target.page.size();
+    let mark = mark(decompress);
+    let placing = placing_mark(target.placing);
+    let Target { blocks, output, .. } = target;
+    let flash = format!(in alloc; "{weak}{command} {blocks} {page}")?;
+    format!(in alloc; "{flash} {between} {output}{mark}{placing}")
+}
+
+fn shown_building(alloc: Global, asked: Building<&str>) -> Result<String, AllocError> {
+    shown_target(alloc, "build", asked.target, asked.listing, false)
+}
+
+fn shown_appending(alloc: Global, asked: Appending<&str>) -> Result<String, AllocError> {
+    let Appending {
+        target,
+        decompress,
+        image,
+        listing,
+    } = asked;
+    let between = format!(in alloc; "{image} {listing}")?;
+    shown_target(alloc, "append", target, between.as_str(), decompress)
+}
+
+fn shown_scan(alloc: Global, asked: Image<&str>) -> Result<String, AllocError> {
+    let Image { options, image } = asked;
+    let command = shown_options(alloc, "scan", options)?;
+    format!(in alloc; "{command} {image}")
+}
+
+fn shown_check(alloc: Global, asked: Check<&str>, decompress: bool) -> Result<String, AllocError> {
+    let Check {
+        options,
+        shape,
+        image,
+    } = asked;
+    let command = shown_options(alloc, "check", options)?;
+    let shape = if shape { " shape" } else { "" };
+    let mark = mark(decompress);
+    format!(in alloc; "{command} {image}{shape}{mark}")
+}
+
+fn shown_tree(alloc: Global, asked: TreeListing<&str>) -> Result<String, AllocError> {
+    let TreeListing {
+        options,
+        decompress,
+        image,
+        path,
+    } = asked;
+    let command = shown_options(alloc, "ls", options)?;
+    let path = path.unwrap_or("all");
+    let mark = mark(decompress);
+    format!(in alloc; "{command} {image} {path}{mark}")
+}
+
+fn shown_content(alloc: Global, asked: FileContent<&str>) -> Result<String, AllocError> {
+    let FileContent {
+        options,
+        decompress,
+        image,
+        path,
+    } = asked;
+    let command = shown_options(alloc, "cat", options)?;
+    let mark = mark(decompress);
+    format!(in alloc; "{command} {image} {path}{mark}")
+}
+
+fn shown_examination(alloc: Global, asked: Examination<&str>) -> Result<String, AllocError> {
+    let Examination {
+        options,
+        decompress,
+        image,
+    } = asked;
+    let command = shown_options(alloc, "damage", options)?;
+    let mark = mark(decompress);
+    format!(in alloc; "{command} {image}{mark}")
 }
 
 /// What is to be told of a stop in the same way; `-` where no image is gone on from.
-fn shown_cuts(alloc: Global, asked: Cuts<'_>) -> Result<String, AllocError> {
+fn shown_cuts(alloc: Global, asked: Cuts<&str>) -> Result<String, AllocError> {
     let Cuts {
         options,
         blocks,
@@ -130,19 +150,21 @@ fn shown_cuts(alloc: Global, asked: Cuts<'_>) -> Result<String, AllocError> {
     format!(in alloc; "cuts {block} {is_big} {blocks} {page} {on} {listing}")
 }
 
-fn shown_comparison(alloc: Global, asked: Comparison<'_>) -> Result<String, AllocError> {
+fn shown_comparison(alloc: Global, asked: Comparison<&str>) -> Result<String, AllocError> {
     let Comparison {
         options,
+        decompress,
         times,
         first,
         second,
     } = asked;
     let block = options.geometry.block;
     let is_big = options.endian == Endian::Big;
-    format!(in alloc; "diff {block} {is_big} {times} {first} {second}")
+    let mark = mark(decompress);
+    format!(in alloc; "diff {block} {is_big} {times} {first} {second}{mark}")
 }
 
-fn shown_extraction(alloc: Global, asked: Extraction<'_>) -> Result<String, AllocError> {
+fn shown_extraction(alloc: Global, asked: Extraction<&str>) -> Result<String, AllocError> {
     let Extraction {
         options,
         decompress,
@@ -160,7 +182,7 @@ fn shown_extraction(alloc: Global, asked: Extraction<'_>) -> Result<String, Allo
     format!(in alloc; "extract {block} {flags} {image} {folder}{path}{mark}")
 }
 
-fn shown_listing(alloc: Global, asked: FolderListing<'_>) -> Result<String, AllocError> {
+fn shown_listing(alloc: Global, asked: FolderListing<&str>) -> Result<String, AllocError> {
     let FolderListing {
         owner,
         time,
@@ -173,63 +195,60 @@ fn shown_listing(alloc: Global, asked: FolderListing<'_>) -> Result<String, Allo
 }
 
 /// A copy of an image, by the name of the command that makes it.
-fn shown_copy(
-    alloc: Global,
-    name: &str,
-    options: Options,
-    force: bool,
-    image: &str,
-    output: &str,
-) -> Result<String, AllocError> {
-    let block = options.geometry.block;
-    let order = order_name(options.endian);
+fn shown_copy(alloc: Global, name: &str, asked: Conversion<&str>) -> Result<String, AllocError> {
+    let Conversion {
+        options,
+        force,
+        placing,
+        image,
+        output,
+    } = asked;
+    let command = shown_options(alloc, name, options)?;
     let force = if force { " forced" } else { "" };
-    format!(in alloc; "{name} {block} {order} {image} {output}{force}")
+    let placing = placing_mark(placing);
+    format!(in alloc; "{command} {image} {output}{force}{placing}")
 }
 
-fn shown_weak(alloc: Global, request: Request<'_>) -> Result<String, AllocError> {
-    let request = shown(alloc, request)?;
-    format!(in alloc; "weak {request}")
-}
-
-/// Any other task in the same way.
-fn shown_work(alloc: Global, work: Work<'_>) -> Result<String, AllocError> {
-    match work {
-        Work::Image(request) => shown(alloc, request),
-        Work::Weak(request) => shown_weak(alloc, request),
-        Work::Extract(asked) => shown_extraction(alloc, asked),
-        Work::Listing(asked) => shown_listing(alloc, asked),
-        Work::Cuts(asked) => shown_cuts(alloc, asked),
-        Work::Compress(it) => {
-            shown_copy(alloc, "compress", it.options, it.force, it.image, it.output)
-        }
-        Work::Apart(it) => { shown_copy(alloc, "apart", it.options, it.force, it.image, it.output) }
-        Work::Pack(asked) => shown_packing(alloc, asked),
+/// The same with the number of blocks; `-` where it is not given.
+fn shown_compaction(alloc: Global, asked: Compaction<&str>) -> Result<String, AllocError> {
+    let copy = shown_copy(alloc, "compact", asked.conversion)?;
+    match asked.blocks {
+        Some(blocks) => format!(in alloc; "{copy} {blocks}"),
+        None => format!(in alloc; "{copy} -"),
     }
 }
 
-/// A task in the same way.
-fn shown_task(alloc: Global, task: Task<'_>) -> Result<String, AllocError> {
-    match task {
-        Task::Inspect(asked) => shown_inspection(alloc, asked),
-        Task::Work(work) => shown_work(alloc, work),
+/// A command as its name, the size of a block, the byte order, its other values in the order of the
+/// command's help, and its marks.
+fn shown(alloc: Global, command: Command<&str>) -> Result<String, AllocError> {
+    match command {
+        Command::Scan(asked) => shown_scan(alloc, asked),
+        Command::Check(asked) => shown_check(alloc, asked, false),
+        Command::CheckThrough(asked) => shown_check(alloc, asked, true),
+        Command::List(asked) => shown_tree(alloc, asked),
+        Command::Cat(asked) => shown_content(alloc, asked),
+        Command::Info { image } => format!(in alloc; "info {image}"),
+        Command::Diff(asked) => shown_comparison(alloc, asked),
+        Command::Damage(asked) => shown_examination(alloc, asked),
+        Command::Map(asked) => shown_mapping(alloc, asked),
+        Command::Build(asked) => shown_building(alloc, asked),
+        Command::Append(asked) => shown_appending(alloc, asked),
+        Command::Update(asked) => shown_updating(alloc, asked),
+        Command::Cuts(asked) => shown_cuts(alloc, asked),
+        Command::Decompress(asked) => shown_copy(alloc, "decompress", asked),
+        Command::Apart(asked) => shown_copy(alloc, "apart", asked),
+        Command::Compress(asked) => shown_copy(alloc, "compress", asked),
+        Command::Compact(asked) => shown_compaction(alloc, asked),
+        Command::Extract(asked) => shown_extraction(alloc, asked),
+        Command::Listing(asked) => shown_listing(alloc, asked),
+        Command::Pack(asked) => shown_packing(alloc, asked),
     }
-}
-
-/// The task with marks for what is done about the file that it writes.
-fn shown_asked(alloc: Global, asked: Asked<'_>) -> Result<String, AllocError> {
-    let Asked { task, placing } = asked;
-    let task = shown_task(alloc, task)?;
-    let Placing { pad, atomic } = placing;
-    let pad = if pad { " padded" } else { "" };
-    let atomic = if atomic { " atomic" } else { "" };
-    format!(in alloc; "{task}{pad}{atomic}")
 }
 
 /// What the words ask for, or `help` or `wrong` and the text that answers them.
 fn answer(alloc: Global, args: &[&str]) -> Result<String, AllocError> {
     match asked(alloc, args) {
-        Ok(asked) => shown_asked(alloc, asked),
+        Ok(command) => shown(alloc, command),
         Err(RequestFault::Help { text }) => format!(in alloc; "help {text}"),
         Err(RequestFault::Usage { text }) => format!(in alloc; "wrong {text}"),
         Err(RequestFault::OutOfMemory) => String::from_str(alloc, "no memory"),
@@ -256,7 +275,7 @@ pub(crate) fn is_wrong(text: &str, part: &str) -> bool {
 }
 
 /// Lines that ask to read, and what they ask for.
-const READING: [(&str, &str); 22] = [
+const READING: [(&str, &str); 24] = [
     ("t check --scan a.img", "scan 65536 little a.img"),
     ("t check a.img", "check 65536 little a.img"),
     ("t check --shape a.img", "check 65536 little a.img shape"),
@@ -296,6 +315,14 @@ const READING: [(&str, &str); 22] = [
     (
         "t diff b.img --times --block 8192 --endian=big a.img",
         "diff 8192 true true b.img a.img",
+    ),
+    (
+        "t diff a.img --decompress b.img",
+        "diff 65536 false false a.img b.img decompressed",
+    ),
+    (
+        "t damage --decompress a.img",
+        "damage 65536 little a.img decompressed",
     ),
 ];
 
@@ -391,7 +418,7 @@ fn args_that_ask_to_write(rt: HostRuntime) -> Result<(), Fail> {
 }
 
 /// Lines that ask for nothing, and a part of the text that says why.
-const WRONG: [(&str, &str); 40] = [
+const WRONG: [(&str, &str); 38] = [
     ("", "requires a subcommand"),
     ("t", "requires a subcommand"),
     ("t paint", "unrecognized subcommand 'paint'"),
@@ -407,11 +434,9 @@ const WRONG: [(&str, &str); 40] = [
     ("t info a.img b.img", "'b.img'"),
     ("t damage", "<IMAGE>"),
     ("t damage a.img b.img", "'b.img'"),
-    ("t damage --decompress a.img", "--decompress"),
     ("t diff", "<A>"),
     ("t diff a.img", "<B>"),
     ("t diff a.img b.img c.img", "'c.img'"),
-    ("t diff --decompress a.img b.img", "--decompress"),
     ("t diff --block=x a.img b.img", "'x' for '--block <N>'"),
     ("t cat", "<IMAGE>"),
     ("t cat a.img", "<PATH>"),

@@ -5,7 +5,20 @@ use crate::command::command_lines::{answer_to, is_text, is_wrong};
 use std::test::Fail;
 
 /// Lines, and what they ask for.
-const ASKED: [(&str, &str); 15] = [
+const ASKED: [(&str, &str); 19] = [
+    (
+        "t check --decompress a.img",
+        "check 65536 little a.img decompressed",
+    ),
+    (
+        "t check a.img --shape --endian=big --decompress",
+        "check 65536 big a.img shape decompressed",
+    ),
+    (
+        "t check --scan --block=8192 --decompress a.img",
+        "scan 8192 little a.img",
+    ),
+    ("t check -- --decompress", "check 65536 little --decompress"),
     (
         "t decompress --clashes higher a.img b.img",
         "apart 65536 little a.img b.img",
@@ -82,7 +95,7 @@ fn args_that_decompress(rt: HostRuntime) -> Result<(), Fail> {
 }
 
 /// Lines that ask for nothing, and a part of the text that says why.
-const WRONG: [(&str, &str); 19] = [
+const WRONG: [(&str, &str); 20] = [
     ("t decompress --clashes higher a.img", "<OUT>"),
     (
         "t decompress --clashes lower a b",
@@ -102,7 +115,8 @@ const WRONG: [(&str, &str); 19] = [
         "t decompress --block=x a.img b.img",
         "'x' for '--block <N>'",
     ),
-    ("t check --decompress a.img", "--decompress"),
+    ("t check --decompress", "<IMAGE>"),
+    ("t check --decompress --decompress a.img", "--decompress"),
     ("t compress --force --force a.img b.img", "--force"),
     ("t append --force --blocks 8 a.img b.txt c.img", "--force"),
     (
@@ -127,12 +141,17 @@ fn args_that_decompress_wrongly(rt: HostRuntime) -> Result<(), Fail> {
 }
 
 /// Lines that ask for help, and a part of it.
-const HELP: [(&str, &str); 6] = [
+const HELP: [(&str, &str); 8] = [
     (
         "t decompress --help",
         "Usage: t decompress [OPTIONS] <IMAGE> <OUT>",
     ),
     ("t help decompress", "decompressed C nodes N bytes B"),
+    ("t check --help", "--decompress"),
+    (
+        "t help check",
+        "are counted in the report, and are no reason for",
+    ),
     ("t ls --help", "--decompress"),
     ("t cat --help", "--decompress"),
     ("t append --help", "--decompress"),

@@ -1,13 +1,14 @@
 //! A growth that is refused is told as such.
 
 use crate::checks::equal;
-use jcommand::{Asked, Inspection, Request, RequestFault, Task, Work, asked};
+use jcommand::{Command, RequestFault, asked};
 use std::alloc::Global;
 
 /// Words, and what they ask for.
-const LINES: [(&[&str], &str); 18] = [
+const LINES: [(&[&str], &str); 22] = [
     (&["t", "check", "--scan", "--block=4096", "a.img"], "scan"),
     (&["t", "check", "--endian", "big", "a.img"], "check"),
+    (&["t", "check", "--decompress", "a.img"], "through"),
     (&["t", "ls", "a.img"], "ls"),
     (&["t", "cat", "a.img", "/b"], "cat"),
     (
@@ -16,7 +17,11 @@ const LINES: [(&[&str], &str); 18] = [
     ),
     (
         &["t", "build", "--weak", "a.txt", "b.img", "--blocks=8"],
-        "weak",
+        "build",
+    ),
+    (
+        &["t", "update", "--blocks=8", "a.img", "b.txt", "c.img"],
+        "update",
     ),
     (&["t", "decompress", "a.img", "b.img"], "decompress"),
     (&["t", "extract", "--owners", "a.img", "b"], "extract"),
@@ -27,8 +32,10 @@ const LINES: [(&[&str], &str); 18] = [
     (&["t", "info", "a.img"], "info"),
     (&["t", "cuts", "--blocks=8", "--on", "a.img", "b"], "cuts"),
     (&["t", "compress", "a.img", "b.img"], "compress"),
+    (&["t", "compact", "--blocks=8", "a.img", "b.img"], "compact"),
     (&["t", "diff", "--times", "a.img", "b.img"], "diff"),
     (&["t", "damage", "a.img"], "damage"),
+    (&["t", "map", "--svg", "a.img"], "map"),
     (
         &["t", "decompress", "--clashes", "higher", "a.img", "b.img"],
         "apart",
@@ -45,50 +52,35 @@ fn lines() -> &'static [(&'static [&'static str], &'static str)] {
     &LINES
 }
 
-fn inspection_name(asked: &Inspection<'_>) -> &'static str {
-    match asked {
-        Inspection::Check { .. } => "check",
-        Inspection::List { .. } => "ls",
-        Inspection::Cat { .. } => "cat",
-        Inspection::Info { .. } => "info",
-        Inspection::Diff(_) => "diff",
-        Inspection::Damage(_) => "damage",
-    }
-}
-
-fn request_name(request: &Request<'_>) -> &'static str {
-    match request {
-        Request::Scan { .. } => "scan",
-        Request::Build { .. } => "build",
-        Request::Append { .. } => "append",
-        Request::Decompress { .. } => "decompress",
-    }
-}
-
-fn work_name(work: &Work<'_>) -> &'static str {
-    match work {
-        Work::Image(request) => request_name(request),
-        Work::Weak(_) => "weak",
-        Work::Apart(_) => "apart",
-        Work::Extract(_) => "extract",
-        Work::Listing(_) => "listing",
-        Work::Cuts(_) => "cuts",
-        Work::Compress(_) => "compress",
-        Work::Pack(_) => "pack",
-    }
-}
-
-fn task_name(task: &Task<'_>) -> &'static str {
-    match task {
-        Task::Inspect(asked) => inspection_name(asked),
-        Task::Work(work) => work_name(work),
+fn name_of(command: &Command<&str>) -> &'static str {
+    match command {
+        Command::Scan(_) => "scan",
+        Command::Check(_) => "check",
+        Command::CheckThrough(_) => "through",
+        Command::List(_) => "ls",
+        Command::Cat(_) => "cat",
+        Command::Info { .. } => "info",
+        Command::Diff(_) => "diff",
+        Command::Damage(_) => "damage",
+        Command::Map(_) => "map",
+        Command::Build(_) => "build",
+        Command::Append(_) => "append",
+        Command::Update(_) => "update",
+        Command::Cuts(_) => "cuts",
+        Command::Decompress(_) => "decompress",
+        Command::Apart(_) => "apart",
+        Command::Compress(_) => "compress",
+        Command::Compact(_) => "compact",
+        Command::Extract(_) => "extract",
+        Command::Listing(_) => "listing",
+        Command::Pack(_) => "pack",
     }
 }
 
 /// What the words ask for.
 fn asked_name(alloc: Global, words: &[&str]) -> &'static str {
     match asked(alloc, words) {
-        Ok(Asked { task, .. }) => task_name(&task),
+        Ok(command) => name_of(&command),
         Err(RequestFault::Help { .. }) => "help",
         Err(RequestFault::Usage { .. }) => "wrong",
         Err(RequestFault::OutOfMemory) => "no memory",

@@ -2,14 +2,14 @@
 //! written.
 
 use crate::checks::{equal_at, expect_at};
-use crate::command::command_lines::{answer_to, is_text, is_wrong, order_name};
+use crate::command::command_lines::{answer_to, is_text, is_wrong, order_name, placing_mark};
 use jcommand::{Options, Owner, Packing};
 use std::alloc::{AllocError, Global};
 use std::test::Fail;
 
 /// What is to be packed, as the values in the order of the command's help; `-` for one that may be
 /// left out and is.
-pub(crate) fn shown_packing(alloc: Global, asked: Packing<'_>) -> Result<String, AllocError> {
+pub(crate) fn shown_packing(alloc: Global, asked: Packing<&str>) -> Result<String, AllocError> {
     let Options { geometry, endian } = asked.options;
     let block = geometry.block;
     let order = order_name(endian);
@@ -31,7 +31,8 @@ pub(crate) fn shown_packing(alloc: Global, asked: Packing<'_>) -> Result<String,
     let folder = asked.folder;
     let output = asked.output;
     let flash = format!(in alloc; "{block} {order} {blocks} {page}")?;
-    format!(in alloc; "pack {flash} {owner} {time} {folder} {output}{weak}{quiet}")
+    let placing = placing_mark(asked.placing);
+    format!(in alloc; "pack {flash} {owner} {time} {folder} {output}{weak}{quiet}{placing}")
 }
 
 /// Lines that ask for an image of a folder, and what they ask for.
@@ -82,7 +83,7 @@ fn args_that_pack(rt: HostRuntime) -> Result<(), Fail> {
 }
 
 /// Lines of other commands that say what is done about the file that is written.
-const PLACED: [(&str, &str); 8] = [
+const PLACED: [(&str, &str); 11] = [
     (
         "t build --blocks 8 --pad a.txt b.img",
         "build 65536 little 8 4096 a.txt b.img padded",
@@ -115,6 +116,18 @@ const PLACED: [(&str, &str); 8] = [
         "t compress a.img --atomic b.img",
         "compress 65536 little a.img b.img atomic",
     ),
+    (
+        "t compact a.img b.img",
+        "compact 65536 little a.img b.img -",
+    ),
+    (
+        "t compact --blocks 8 --pad a.img b.img",
+        "compact 65536 little a.img b.img padded 8",
+    ),
+    (
+        "t compact a.img --force --atomic --pad --endian=big --block 8192 a.img --blocks=0",
+        "compact 8192 big a.img a.img forced padded atomic 0",
+    ),
 ];
 
 fn placed() -> &'static [(&'static str, &'static str)] {
@@ -131,7 +144,7 @@ fn args_that_place(rt: HostRuntime) -> Result<(), Fail> {
 }
 
 /// Lines that ask for nothing, and a part of the text that says why.
-const WRONG: [(&str, &str); 21] = [
+const WRONG: [(&str, &str); 26] = [
     ("t pack", "<DIR>"),
     ("t pack a", "<OUT>"),
     ("t pack a b c", "'c'"),
@@ -166,6 +179,11 @@ const WRONG: [(&str, &str); 21] = [
         "'4294967296' for '--time <T>'",
     ),
     ("t decompress --pad a.img b.img", "--pad"),
+    ("t compact a.img", "<OUT>"),
+    ("t compact --weak a.img b.img", "--weak"),
+    ("t compact --page 4096 a.img b.img", "--page"),
+    ("t compact --clashes higher a.img b.img", "--clashes"),
+    ("t compact --blocks=x a.img b.img", "'x' for '--blocks <N>'"),
     ("t extract --atomic a.img b", "--atomic"),
     ("t cuts --atomic --blocks 8 a", "--atomic"),
 ];

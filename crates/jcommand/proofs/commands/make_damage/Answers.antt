@@ -1,4 +1,6 @@
 use Rattle.jcommand.proofs.commands.make_damage.Goals as goal
 
 pub returns : goal.returns
-returns c = c.add_arg.ensures _ _ c.make_plain-command.ensures c.make_word-image.ensures
+returns c =
+    let first = c.add_arg.ensures _ _ c.make_plain-command.ensures c.make_flag-decompress.ensures in
+    c.add_arg-2.ensures _ _ first c.make_word-image.ensures

@@ -99,3 +99,39 @@ returns-clause-not_padded c = refl
 pub returns-clause-unreadable_time : goal.returns-clause-unreadable_time
 unfolding clap_on_literals program parsed parsed_from
 returns-clause-unreadable_time c = refl
+
+pub returns-clause-not_of_map : goal.returns-clause-not_of_map
+unfolding clap_on_literals program parsed parsed_from
+returns-clause-not_of_map c = refl
+
+pub returns-clause-not_mapped : goal.returns-clause-not_mapped
+unfolding clap_on_literals program parsed parsed_from
+returns-clause-not_mapped c = refl
+
+pub returns-clause-not_of_update : goal.returns-clause-not_of_update
+unfolding clap_on_literals program parsed parsed_from
+returns-clause-not_of_update c = refl
+
+pub returns-clause-not_updated : goal.returns-clause-not_updated
+unfolding clap_on_literals program parsed parsed_from
+returns-clause-not_updated c = refl
+
+pub returns-clause-unreadable_update : goal.returns-clause-unreadable_update
+unfolding clap_on_literals program parsed parsed_from
+returns-clause-unreadable_update c = refl
+
+pub returns-clause-unreadable_page : goal.returns-clause-unreadable_page
+unfolding clap_on_literals program parsed parsed_from
+returns-clause-unreadable_page c = refl
+
+pub returns-clause-two_orders : goal.returns-clause-two_orders
+unfolding clap_on_literals program parsed parsed_from
+returns-clause-two_orders c = refl
+
+pub returns-clause-order_and_letter : goal.returns-clause-order_and_letter
+unfolding clap_on_literals program parsed parsed_from
+returns-clause-order_and_letter c = refl
+
+pub returns-clause-two_sizes : goal.returns-clause-two_sizes
+unfolding clap_on_literals program parsed parsed_from
+returns-clause-two_sizes c = refl

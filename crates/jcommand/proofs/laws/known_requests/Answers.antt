@@ -107,3 +107,55 @@ returns-clause-packed c = refl
 pub returns-clause-packed_for : goal.returns-clause-packed_for
 unfolding clap_on_literals program parsed parsed_from
 returns-clause-packed_for c = refl
+
+pub returns-clause-compared_decompressed : goal.returns-clause-compared_decompressed
+unfolding clap_on_literals program parsed parsed_from
+returns-clause-compared_decompressed c = refl
+
+pub returns-clause-damaged_decompressed : goal.returns-clause-damaged_decompressed
+unfolding clap_on_literals program parsed parsed_from
+returns-clause-damaged_decompressed c = refl
+
+pub returns-clause-compacted : goal.returns-clause-compacted
+unfolding clap_on_literals program parsed parsed_from
+returns-clause-compacted c = refl
+
+pub returns-clause-through : goal.returns-clause-through
+unfolding clap_on_literals program parsed parsed_from
+returns-clause-through c = refl
+
+pub returns-clause-through_with_shape : goal.returns-clause-through_with_shape
+unfolding clap_on_literals program parsed parsed_from
+returns-clause-through_with_shape c = refl
+
+pub returns-clause-scanned_alone : goal.returns-clause-scanned_alone
+unfolding clap_on_literals program parsed parsed_from
+returns-clause-scanned_alone c = refl
+
+pub returns-clause-updated : goal.returns-clause-updated
+unfolding clap_on_literals program parsed parsed_from
+returns-clause-updated c = refl
+
+pub returns-clause-updated_plainly : goal.returns-clause-updated_plainly
+unfolding clap_on_literals program parsed parsed_from
+returns-clause-updated_plainly c = refl
+
+pub returns-clause-updated_in_rests : goal.returns-clause-updated_in_rests
+unfolding clap_on_literals program parsed parsed_from
+returns-clause-updated_in_rests c = refl
+
+pub returns-clause-mapped : goal.returns-clause-mapped
+unfolding clap_on_literals program parsed parsed_from
+returns-clause-mapped c = refl
+
+pub returns-clause-drawn : goal.returns-clause-drawn
+unfolding clap_on_literals program parsed parsed_from
+returns-clause-drawn c = refl
+
+pub returns-clause-by_letters : goal.returns-clause-by_letters
+unfolding clap_on_literals program parsed parsed_from
+returns-clause-by_letters c = refl
+
+pub returns-clause-by_long_names : goal.returns-clause-by_long_names
+unfolding clap_on_literals program parsed parsed_from
+returns-clause-by_long_names c = refl
