@@ -98,7 +98,7 @@ pub fn report_and_scan<'a, E: Order, T: Sink>(
 
 /// Puts the report of `check --scan` line after line, and answers the number of findings. It takes
 /// no memory.
-fn put_report<E: Order, T: Sink>(
+pub fn put_report<E: Order, T: Sink>(
     image: &[u8],
     geometry: Geometry,
     sink: &mut T,

@@ -127,7 +127,9 @@ fn is_wrong(dangles: bool, shape: Option<bool>) -> bool
 
 /// Puts what a mount says, and answers whether an entry dangles or the shape, where it is asked
 /// for, is broken.
-fn put_mounted<T: Sink>(
+///
+/// `OutOfMemory`: for the list of the dangling entries. Nothing was put then.
+pub fn put_mounted<T: Sink>(
     alloc: Global,
     mounted: &Mounted<'_>,
     asked: bool,

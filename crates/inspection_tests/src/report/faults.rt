@@ -272,16 +272,16 @@ fn texts_of_a_listing(rt: HostRuntime) {
 }
 
 const RTIME_NOTE: &str = "the image is compressed (rtime); decompress writes one that is not, \
-    without damaged nodes; ls, cat, extract and append take --decompress";
+    without damaged nodes; ls, cat, extract, diff, damage and append take --decompress";
 
 const ZLIB_NOTE: &str = "the image is compressed (zlib); decompress writes one that is not, \
-    without damaged nodes; ls, cat, extract and append take --decompress";
+    without damaged nodes; ls, cat, extract, diff, damage and append take --decompress";
 
 const LZO_NOTE: &str = "the image is compressed (lzo); decompress writes one that is not, \
-    without damaged nodes; ls, cat, extract and append take --decompress";
+    without damaged nodes; ls, cat, extract, diff, damage and append take --decompress";
 
 const LZMA_NOTE: &str = "the image is compressed (lzma); decompress writes one that is not, \
-    without damaged nodes; ls, cat, extract and append take --decompress";
+    without damaged nodes; ls, cat, extract, diff, damage and append take --decompress";
 
 /// The numbers of methods of compression, and what is noted of an image that has data of one.
 fn methods() -> &'static [(u8, &'static str)] {
@@ -325,7 +325,7 @@ fn is_note(line: &[u8], note: &str) -> bool {
     }
     let rest = line.strip_suffix(b"\n".as_slice());
     let rest = rest.and_then(|rest| rest.strip_prefix(b"jffs2_image: note: ".as_slice()));
-    line.len() <= 160 && rest == Some(note.as_bytes())
+    line.len() <= 180 && rest == Some(note.as_bytes())
 }
 
 /// Whether after the line of a fault comes this note, or none where it is empty.
