@@ -1,5 +1,6 @@
 -- A fault is an event.
-use Rattle.std.proofs.Common.{◌≡◌, ℕ, Bool, List, [], ◌∷◌, ◌++◌, Option, None, Some, Result, Ok, Err, arith, sym, ap, subst, inl, inr, ◌∙◌, refl}
+use Rattle.std.proofs.Common.{◌≡◌, ℕ, Bool, true, false, List, [], ◌∷◌, ◌++◌, Option, None, Some, Result, Ok, Err, arith, sym, ap, subst, inl, inr, ◌∙◌, refl}
+use Rattle.jcommand.specs.declared.parsed.Comparison.{Comparison}
 use Rattle.jcommand.specs.declared.parsed.Options.{Options}
 use Rattle.jnode.specs.declared.order.Endian.{Endian}
 use Rattle.flashbase.specs.Device.{next_count}
@@ -18,9 +19,11 @@ use Rattle.jreport.specs.declared.faults.ProgramFault.TheVariants as program
 use Rattle.jscan.specs.Image.{nodes}
 use Rattle.jedge.specs.Acts.{Act, CountsOutput, Then, Ends, GoesOn, IsPrintedInPart, IsUnfinished, Saying, Whole, and_closed, answers, closes, loads, opens, prints, reads_whole}
 use Rattle.jedge.specs.Calls.{Event, Answers, Failed, Open, Print, ReadPart, printed}
-use Rattle.jedge.specs.Commands.{Cat, Check, Damage, Diff, Info, Ls, cat_act, check_act, compares, damage_act, diff_act, info_act, list_act, shown_told}
+use Rattle.jthrough.specs.declared.fault.ViewFault.{ViewFault}
+use Rattle.jthrough.specs.declared.fault.ViewFault.TheVariants as view
+use Rattle.jedge.specs.Commands.{Cat, Check, Damage, Diff, Info, Ls, cat_act, check_act, compares, damage_act, diff_act, info_act, list_act, shown_told, shows_mount}
 use Rattle.jedge.specs.Comparing.{Compares, compared}
-use Rattle.jedge.specs.Images.{HasNodes, MountsOrRefuses}
+use Rattle.jedge.specs.Images.{HasNodes, MountsBoth, MountsOrRefuses, MountsWith, NotesNone, view_refusal}
 use Rattle.jedge.specs.Showing.{Checks, Contains, Lists, NamesNothing}
 use Rattle.jedge.specs.Told.{Told}
 use Rattle.jedge.specs.Views.{HasBlockSize, IsViewed, NamesPart, NamesPath, Viewed, conversion_refusal, views}
@@ -228,6 +231,43 @@ mounts_blame e size image events (fault.Refused why) is = refused_of (nodes e si
 mounts_blame e size image events fault.Output is = absurd is.1
 mounts_blame e size image events fault.OutOfMemory is = absurd is.1
 
+-- no sink is blamed for an image that does not mount through its compression
+pub view_of : (refused : ViewFault) → IsOfBytes (view_refusal refused)
+view_of view.BlockSize = tt
+view_of view.TooLarge = tt
+view_of (view.Incompatible addr nodetype) = tt
+view_of (view.Compressed addr compr) = tt
+view_of (view.Data addr) = tt
+view_of (view.TooLong addr) = tt
+view_of (view.Clash addr) = tt
+view_of view.RootKind = tt
+view_of view.OutOfMemory = tt
+
+pub mounts_as_blame : (decompress : Bool) (e : Endian) (size : ℕ) (image : List ℕ) → BlamesFailed (answers (MountsWith decompress e size image))
+mounts_as_blame false e size image events f is = mounts_blame e size image events f is
+mounts_as_blame true e size image events (fault.File file) is = absurd is.1
+mounts_as_blame true e size image events (fault.NotRead file) is = absurd is.1
+mounts_as_blame true e size image events (fault.NoNodes of others) is = absurd is.1
+mounts_as_blame true e size image events (fault.NoSpace folder) is = absurd is.1
+mounts_as_blame true e size image events (fault.Findings of findings) is = absurd is.1
+mounts_as_blame true e size image events (fault.Refused why) is = of_bytes why is.1.1 (view_of is.1.0)
+mounts_as_blame true e size image events fault.Output is = absurd is.1
+mounts_as_blame true e size image events fault.OutOfMemory is = absurd is.1
+
+pub both_blame : (decompress : Bool) (e : Endian) (size : ℕ) (image other : List ℕ) → BlamesFailed (answers (MountsBoth decompress e size image other))
+both_blame decompress e size image other events f is = elim is.1 [
+  | inl first ↦ mounts_as_blame decompress e size image events f (is.0, first)
+  | inr second ↦ mounts_as_blame decompress e size other events f (is.0, second.2)
+]
+
+pub notes_blame : (e : Endian) (size : ℕ) (image : List ℕ) → BlamesFailed (answers (NotesNone e size image))
+notes_blame e size image events f is = absurd is.1
+
+pub shows_blames : (decompress : Bool) (e : Endian) (size : ℕ) (says : Option ℕ → Mount → Saying Told) → ((others : Option ℕ) (m : Mount) → Unnamed (says others m))
+    → (image : List ℕ) → BlamesFailed (shows_mount decompress e size says image)
+shows_blames decompress e size says unnamed image = then_blames _ _ (notes_blame e size image) (λ (others : Option ℕ).
+    then_blames _ _ (mounts_as_blame decompress e size image) (λ (m : Mount). prints_blames _ (unnamed others m)))
+
 pub loads_blames : (name : List ℕ) → BlamesFailed (loads name)
 loads_blames name = then_blames (opens name) reads_whole (opens_blames name) reads_blames
 
@@ -291,23 +331,21 @@ check_blames options shape name = then_blames (opens name) _ (opens_blames name)
 
 pub list_blames : (options : Options) (decompress : Bool) (name : List ℕ) (word : Option (List ℕ)) → BlamesFailed (list_act options decompress name word)
 list_blames options decompress name word = then_blames _ _ (part_blames word) (λ (part : Option (List ℕ)).
-    then_blames _ _ (views_blames options.endian options.geometry.block decompress name) (λ (view : Viewed).
-    then_blames _ _ (mounts_blame options.endian options.geometry.block view.image) (λ (m : Mount).
-    prints_blames _ (lists_unnamed m.state part (shown_told view m)))))
+    then_blames (loads name) _ (loads_blames name) (shows_blames decompress options.endian options.geometry.block _
+    (λ (others : Option ℕ) (m : Mount). lists_unnamed m.state part (shown_told others m))))
 
 pub cat_blames : (options : Options) (decompress : Bool) (name word : List ℕ) → BlamesFailed (cat_act options decompress name word)
 cat_blames options decompress name word = then_blames _ _ (path_blames word) (λ (path : List ℕ).
-    then_blames _ _ (views_blames options.endian options.geometry.block decompress name) (λ (view : Viewed).
-    then_blames _ _ (mounts_blame options.endian options.geometry.block view.image) (λ (m : Mount).
-    prints_blames _ (contains_unnamed (content_of m.state path) (shown_told view m)))))
+    then_blames (loads name) _ (loads_blames name) (shows_blames decompress options.endian options.geometry.block _
+    (λ (others : Option ℕ) (m : Mount). contains_unnamed (content_of m.state path) (shown_told others m))))
 
 pub info_blames : (name : List ℕ) → BlamesFailed (info_act name)
 info_blames name = then_blames (loads name) _ (loads_blames name) (λ (image : List ℕ). whole_blames _ _)
 
-pub damage_blames : (options : Options) (name : List ℕ) → BlamesFailed (damage_act options name)
-damage_blames options name = then_blames (loads name) _ (loads_blames name)
+pub damage_blames : (options : Options) (decompress : Bool) (name : List ℕ) → BlamesFailed (damage_act options decompress name)
+damage_blames options decompress name = then_blames (loads name) _ (loads_blames name)
     (λ (image : List ℕ). then_blames _ _ (nodes_blame options.endian options.geometry.block None image)
-    (λ _. then_blames _ _ (mounts_blame options.endian options.geometry.block image) (λ _. whole_blames _ _)))
+    (λ _. then_blames _ _ (mounts_as_blame decompress options.endian options.geometry.block image) (λ _. whole_blames _ _)))
 
 pub differs_unnamed : (times : Bool) (left right : Mount) (answer : ℕ → Told) → Unnamed (Compares times left right answer)
 differs_unnamed times left right answer text (fault.File file) is = absurd is
@@ -319,22 +357,20 @@ differs_unnamed times left right answer text (fault.Refused why) is = absurd is
 differs_unnamed times left right answer text fault.Output is = tt
 differs_unnamed times left right answer text fault.OutOfMemory is = tt
 
-pub compare_blames : (e : Endian) (size : ℕ) (times : Bool) (first second image other : List ℕ) → BlamesFailed (compares e size times first second image other)
-compare_blames e size times first second image other = then_blames _ _ (nodes_blame e size (Some first) image) (λ _.
-    then_blames _ _ (nodes_blame e size (Some second) other) (λ _.
-    then_blames _ _ (mounts_blame e size image) (λ (left : Mount).
-    then_blames _ _ (mounts_blame e size other) (λ (right : Mount).
-    prints_blames _ (differs_unnamed times left right (compared first second left right))))))
+pub compare_blames : (x : Comparison (List ℕ)) (image other : List ℕ) → BlamesFailed (compares x image other)
+compare_blames x image other = then_blames _ _ (nodes_blame x.options.endian x.options.geometry.block (Some x.first) image) (λ _.
+    then_blames _ _ (nodes_blame x.options.endian x.options.geometry.block (Some x.second) other) (λ _.
+    then_blames _ _ (both_blame x.decompress x.options.endian x.options.geometry.block image other) (λ (both : Mount × Mount).
+    prints_blames _ (differs_unnamed x.times both.0 both.1 (compared x.first x.second both.0 both.1)))))
 
-pub diff_blames : (options : Options) (times : Bool) (first second : List ℕ) → BlamesFailed (diff_act options times first second)
-diff_blames options times first second = then_blames (loads first) _ (loads_blames first) (λ (image : List ℕ).
-    then_blames (loads second) _ (loads_blames second) (λ (other : List ℕ).
-    compare_blames options.endian options.geometry.block times first second image other))
+pub diff_blames : (x : Comparison (List ℕ)) → BlamesFailed (diff_act x)
+diff_blames x = then_blames (loads x.first) _ (loads_blames x.first) (λ (image : List ℕ).
+    then_blames (loads x.second) _ (loads_blames x.second) (λ (other : List ℕ). compare_blames x image other))
 
 pub blamed_is_failed : BlamedIsFailed
 blamed_is_failed (Check options shape name) = check_blames options shape name
 blamed_is_failed (Ls options decompress name word) = list_blames options decompress name word
 blamed_is_failed (Cat options decompress name word) = cat_blames options decompress name word
 blamed_is_failed (Info name) = info_blames name
-blamed_is_failed (Damage options name) = damage_blames options name
-blamed_is_failed (Diff options times first second) = diff_blames options times first second
+blamed_is_failed (Damage options decompress name) = damage_blames options decompress name
+blamed_is_failed (Diff asked) = diff_blames asked

@@ -1,5 +1,6 @@
 -- What is refused is refused before anything is printed.
 use Rattle.std.proofs.Common.{◌≡◌, ◌⊎◌, ℕ, Bool, Option, List, [], ◌∷◌, ◌++◌, Result, Ok, Err, sym, ap, subst, inl, inr, ◌∙◌, refl}
+use Rattle.jcommand.specs.declared.parsed.Comparison.{Comparison}
 use Rattle.jcommand.specs.declared.parsed.Options.{Options}
 use Rattle.jnode.specs.declared.order.Endian.{Endian}
 use Rattle.jmount.specs.Mount.{Mount}
@@ -15,7 +16,7 @@ use Rattle.jedge.specs.Comparing.{Compares, compared}
 use Rattle.jedge.specs.Laws.{ComesFirst, JudgedFirst, JudgesFirst, JudgesFirstBut, NonePrinted}
 use Rattle.jedge.specs.Showing.{Checks, Contains, Lists}
 use Rattle.jedge.specs.Told.{Told}
-use Rattle.jedge.specs.Views.{Viewed, views}
+use Rattle.jedge.specs.Views.{views}
 use Rattle.jedge.specs.declared.fault.Fault.{Fault}
 use Rattle.jedge.specs.declared.fault.Fault.TheVariants as fault
 
@@ -217,14 +218,14 @@ views_silent e size decompress name = then_silent (loads name) _ (loads_silent n
 
 pub cat_first : (options : Options) (decompress : Bool) (name word : List ℕ) → JudgesFirst (cat_act options decompress name word)
 cat_first options decompress name word = then_first _ _ (answers_silent _) (λ (path : List ℕ).
-    then_first _ _ (views_silent options.endian options.geometry.block decompress name) (λ (view : Viewed).
+    then_first (loads name) _ (loads_silent name) (λ (image : List ℕ). then_first _ _ (answers_silent _) (λ (others : Option ℕ).
     then_first _ _ (answers_silent _) (λ (m : Mount).
-    prints_first _ (contains_unput (content_of m.state path) (shown_told view m)))))
+    prints_first _ (contains_unput (content_of m.state path) (shown_told others m))))))
 
 pub list_first : (options : Options) (decompress : Bool) (name : List ℕ) (word : Option (List ℕ)) → JudgesFirstBut (λ f. f ≡ fault.OutOfMemory) (list_act options decompress name word)
 list_first options decompress name word = then_first_but _ _ _ (answers_silent _) (λ (part : Option (List ℕ)).
-    then_first_but _ _ _ (views_silent options.endian options.geometry.block decompress name) (λ (view : Viewed).
-    then_first_but _ _ _ (answers_silent _) (λ (m : Mount). prints_first_but _ _ (lists_unput m.state part (shown_told view m)))))
+    then_first_but _ (loads name) _ (loads_silent name) (λ (image : List ℕ). then_first_but _ _ _ (answers_silent _) (λ (others : Option ℕ).
+    then_first_but _ _ _ (answers_silent _) (λ (m : Mount). prints_first_but _ _ (lists_unput m.state part (shown_told others m))))))
 
 pub differs_unput : (times : Bool) (left right : Mount) (answer : ℕ → Told) (text : List ℕ) (f : Fault) → (f ≡ fault.OutOfMemory → ⊥) → Compares times left right answer text (Err f) → IsUnput f text
 differs_unput times left right answer text (fault.File file) not is = absurd is
@@ -236,12 +237,12 @@ differs_unput times left right answer text (fault.Refused why) not is = absurd i
 differs_unput times left right answer text fault.Output not is = tt
 differs_unput times left right answer text fault.OutOfMemory not is = absurd (not refl)
 
-pub diff_first : (options : Options) (times : Bool) (first second : List ℕ) → JudgesFirstBut (λ f. f ≡ fault.OutOfMemory) (diff_act options times first second)
-diff_first options times first second = then_first_but _ (loads first) _ (loads_silent first) (λ (image : List ℕ).
-    then_first_but _ (loads second) _ (loads_silent second) (λ (other : List ℕ).
+pub diff_first : (x : Comparison (List ℕ)) → JudgesFirstBut (λ f. f ≡ fault.OutOfMemory) (diff_act x)
+diff_first x = then_first_but _ (loads x.first) _ (loads_silent x.first) (λ (image : List ℕ).
+    then_first_but _ (loads x.second) _ (loads_silent x.second) (λ (other : List ℕ).
     then_first_but _ _ _ (answers_silent _) (λ _. then_first_but _ _ _ (answers_silent _) (λ _.
-    then_first_but _ _ _ (answers_silent _) (λ (left : Mount). then_first_but _ _ _ (answers_silent _) (λ (right : Mount).
-    prints_first_but _ _ (differs_unput times left right (compared first second left right))))))))
+    then_first_but _ _ _ (answers_silent _) (λ (both : Mount × Mount).
+    prints_first_but _ _ (differs_unput x.times both.0 both.1 (compared x.first x.second both.0 both.1)))))))
 
 pub check_first : (options : Options) (shape : Bool) (name : List ℕ) → JudgesFirstBut IsWanting (check_act options shape name)
 check_first options shape name = then_first_but _ (opens name) _ (opens_silent name) (λ (opened : List ℕ).
@@ -252,8 +253,8 @@ check_first options shape name = then_first_but _ (opens name) _ (opens_silent n
 pub info_first : (name : List ℕ) → JudgesFirst (info_act name)
 info_first name = then_first (loads name) _ (loads_silent name) (λ (image : List ℕ). whole_first _ _)
 
-pub damage_first : (options : Options) (name : List ℕ) → JudgesFirst (damage_act options name)
-damage_first options name = then_first (loads name) _ (loads_silent name)
+pub damage_first : (options : Options) (decompress : Bool) (name : List ℕ) → JudgesFirst (damage_act options decompress name)
+damage_first options decompress name = then_first (loads name) _ (loads_silent name)
     (λ (image : List ℕ). then_first _ _ (answers_silent _) (λ _. then_first _ _ (answers_silent _) (λ _. whole_first _ _)))
 
 pub judged_first : JudgedFirst
@@ -261,5 +262,5 @@ judged_first (Check options shape name) = check_first options shape name
 judged_first (Ls options decompress name word) = list_first options decompress name word
 judged_first (Cat options decompress name word) = λ events f not did. cat_first options decompress name word events f did
 judged_first (Info name) = λ events f not did. info_first name events f did
-judged_first (Damage options name) = λ events f not did. damage_first options name events f did
-judged_first (Diff options times first second) = diff_first options times first second
+judged_first (Damage options decompress name) = λ events f not did. damage_first options decompress name events f did
+judged_first (Diff asked) = diff_first asked

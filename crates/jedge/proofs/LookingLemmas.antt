@@ -1,12 +1,13 @@
 -- What makes nothing.
 use Rattle.std.proofs.Common.{◌≡◌, ℕ, Bool, List, [], ◌∷◌, ◌++◌, Option, None, Some, Result, Ok, Err, sym, subst, inl, inr}
+use Rattle.jcommand.specs.declared.parsed.Comparison.{Comparison}
 use Rattle.jcommand.specs.declared.parsed.Options.{Options}
 use Rattle.jedge.specs.Acts.{Act, Then, Ends, GoesOn, IsPrintedInPart, IsSaidBy, Saying, answers, closes, loads, opens, prints, reads_whole}
 use Rattle.jedge.specs.Calls.{Event, Stream, Answers, Errors, Failed, Print, printed}
 use Rattle.jnode.specs.declared.order.Endian.{Endian}
 use Rattle.jmount.specs.Mount.{Mount}
 use Rattle.jedge.specs.Commands.{Cat, Check, Damage, Diff, Info, Ls, cat_act, check_act, damage_act, diff_act, info_act, list_act, reported}
-use Rattle.jedge.specs.Views.{Viewed, views}
+use Rattle.jedge.specs.Views.{views}
 use Rattle.jedge.specs.Told.{Told}
 use Rattle.jedge.specs.Laws.{LooksOnly, MakesNothing, ReadsOnly}
 use Rattle.jedge.specs.declared.fault.Fault.{Fault}
@@ -90,31 +91,31 @@ check_looks options shape name = then_looks (opens name) _ (opens_looks name) (�
 
 pub list_looks : (options : Options) (decompress : Bool) (name : List ℕ) (word : Option (List ℕ)) → MakesNothing (list_act options decompress name word)
 list_looks options decompress name word = then_looks _ _ (answers_looks _) (λ (part : Option (List ℕ)).
-    then_looks _ _ (views_looks options.endian options.geometry.block decompress name) (λ (view : Viewed).
-    then_looks _ _ (answers_looks _) (λ (m : Mount). prints_looks _)))
+    then_looks (loads name) _ (loads_looks name) (λ (image : List ℕ). then_looks _ _ (answers_looks _) (λ (others : Option ℕ).
+    then_looks _ _ (answers_looks _) (λ (m : Mount). prints_looks _))))
 
 pub cat_looks : (options : Options) (decompress : Bool) (name word : List ℕ) → MakesNothing (cat_act options decompress name word)
 cat_looks options decompress name word = then_looks _ _ (answers_looks _) (λ (path : List ℕ).
-    then_looks _ _ (views_looks options.endian options.geometry.block decompress name) (λ (view : Viewed).
-    then_looks _ _ (answers_looks _) (λ (m : Mount). prints_looks _)))
+    then_looks (loads name) _ (loads_looks name) (λ (image : List ℕ). then_looks _ _ (answers_looks _) (λ (others : Option ℕ).
+    then_looks _ _ (answers_looks _) (λ (m : Mount). prints_looks _))))
 
 pub info_looks : (name : List ℕ) → MakesNothing (info_act name)
 info_looks name = then_looks (loads name) _ (loads_looks name) (λ (image : List ℕ). prints_looks _)
 
-pub damage_looks : (options : Options) (name : List ℕ) → MakesNothing (damage_act options name)
-damage_looks options name = then_looks (loads name) _ (loads_looks name)
+pub damage_looks : (options : Options) (decompress : Bool) (name : List ℕ) → MakesNothing (damage_act options decompress name)
+damage_looks options decompress name = then_looks (loads name) _ (loads_looks name)
     (λ (image : List ℕ). then_looks _ _ (answers_looks _) (λ _. then_looks _ _ (answers_looks _) (λ _. prints_looks _)))
 
-pub diff_looks : (options : Options) (times : Bool) (first second : List ℕ) → MakesNothing (diff_act options times first second)
-diff_looks options times first second = then_looks (loads first) _ (loads_looks first) (λ (image : List ℕ).
-    then_looks (loads second) _ (loads_looks second) (λ (other : List ℕ).
+pub diff_looks : (x : Comparison (List ℕ)) → MakesNothing (diff_act x)
+diff_looks x = then_looks (loads x.first) _ (loads_looks x.first) (λ (image : List ℕ).
+    then_looks (loads x.second) _ (loads_looks x.second) (λ (other : List ℕ).
     then_looks _ _ (answers_looks _) (λ _. then_looks _ _ (answers_looks _) (λ _.
-    then_looks _ _ (answers_looks _) (λ (left : Mount). then_looks _ _ (answers_looks _) (λ (right : Mount). prints_looks _))))))
+    then_looks _ _ (answers_looks _) (λ (both : Mount × Mount). prints_looks _)))))
 
 pub reads_only : ReadsOnly
 reads_only (Check options shape name) = reported_looks _ (check_looks options shape name)
 reads_only (Ls options decompress name word) = reported_looks _ (list_looks options decompress name word)
 reads_only (Cat options decompress name word) = reported_looks _ (cat_looks options decompress name word)
 reads_only (Info name) = reported_looks _ (info_looks name)
-reads_only (Damage options name) = reported_looks _ (damage_looks options name)
-reads_only (Diff options times first second) = reported_looks _ (diff_looks options times first second)
+reads_only (Damage options decompress name) = reported_looks _ (damage_looks options decompress name)
+reads_only (Diff asked) = reported_looks _ (diff_looks asked)

@@ -3,6 +3,7 @@ use Rattle.std.specs.Prelude.{◌≡◌, ◌++◌, ◌==◌, ◌+◌, ◌-◌, �
 use Rattle.jcommand.specs.Status.{outcome_of}
 use Rattle.jcommand.specs.declared.outcome.Outcome.{Outcome}
 use Rattle.jcommand.specs.declared.outcome.Outcome.TheVariants as outcome
+use Rattle.jcommand.specs.declared.parsed.Comparison.{Comparison}
 use Rattle.jcommand.specs.declared.parsed.Options.{Options}
 use Rattle.jdamage.specs.Damage.{damage_text, damage_totals}
 use Rattle.jdamage.specs.declared.fault.DamageFault.{DamageFault}
@@ -20,10 +21,10 @@ use Rattle.jedge.specs.Acts.{Act, IsSaidBy, Saying, Then, Whole, answers, loads,
 use Rattle.jedge.specs.Calls.{Event}
 use Rattle.jedge.specs.Comparing.{Compares, compared}
 use Rattle.jedge.specs.Faults.{TellsFault}
-use Rattle.jedge.specs.Images.{HasNodes, MountsOrRefuses}
+use Rattle.jedge.specs.Images.{HasNodes, MountsBoth, MountsWith, NotesNone}
 use Rattle.jedge.specs.Showing.{Checks, Contains, Lists}
 use Rattle.jedge.specs.Told.{Told, either}
-use Rattle.jedge.specs.Views.{HasBlockSize, NamesPart, NamesPath, Viewed, views}
+use Rattle.jedge.specs.Views.{HasBlockSize, NamesPart, NamesPath}
 use Rattle.jedge.specs.declared.fault.Fault.{Fault}
 use Rattle.jedge.specs.declared.fault.Fault.TheVariants as fault
 
@@ -93,16 +94,17 @@ costs_found m (Err cost.OutOfMemory) = Err fault.OutOfMemory
 abbrev pub Costs : Endian → ℕ → Mount → Saying Told
 Costs e size m = Whole (damage_text e size m) (examined (damage_totals e size m) m)
 
--- an image in which a node is found is mounted, and what its damage costs is printed
-abbrev pub examines : Options → List ℕ → Act Told
-examines options image =
+-- an image in which a node is found is mounted, with `--decompress` through its compression, and
+-- what its damage costs is printed
+abbrev pub examines : Options → Bool → List ℕ → Act Told
+examines options decompress image =
     Then (answers (HasNodes options.endian options.geometry.block None image)) (λ _.
-    Then (answers (MountsOrRefuses options.endian options.geometry.block image)) (λ m.
+    Then (answers (MountsWith decompress options.endian options.geometry.block image)) (λ m.
     prints (Costs options.endian options.geometry.block m)))
 
 -- the file is read, and its image examined
-abbrev pub damage_act : Options → List ℕ → Act Told
-damage_act options name = Then (loads name) (examines options)
+abbrev pub damage_act : Options → Bool → List ℕ → Act Told
+damage_act options decompress name = Then (loads name) (examines options decompress)
 
 -- ---- `check`
 
@@ -126,26 +128,25 @@ abbrev pub shown_noted : ℕ → Option ℕ → Option (List ℕ)
 shown_noted n None = findings_noted n
 shown_noted n (Some others) = Some (none_notes_of n others)
 
--- how many findings those are: those of the image that was read
-abbrev pub findings_shown : Option ℕ → ℕ → ℕ
-findings_shown None n = n
-findings_shown (Some read) n = read
-
 -- nothing of an image that is shown is found
-abbrev pub shown_told : Viewed → Mount → Told
-shown_told view m = record {
-  counted = 0;
-  noted = shown_noted (findings_shown view.findings (findings m)) view.others;
-}
+abbrev pub shown_told : Option ℕ → Mount → Told
+shown_told others m = record { counted = 0; noted = shown_noted (findings m) others }
 
--- The word of a path is judged, where one is given; the file is read, and with `--decompress` its
--- image decompressed; the image is mounted, and the lines of its tree are printed.
+-- an image is mounted, with `--decompress` through its compression, and what there is to tell of it
+-- is printed
+abbrev pub shows_mount : Bool → Endian → ℕ → (Option ℕ → Mount → Saying Told) → List ℕ → Act Told
+shows_mount decompress e size says image =
+    Then (answers (NotesNone e size image)) (λ others.
+    Then (answers (MountsWith decompress e size image)) (λ m.
+    prints (says others m)))
+
+-- The word of a path is judged, where one is given; the file is read and its image mounted, and the
+-- lines of its tree are printed.
 abbrev pub lists : Endian → ℕ → Bool → List ℕ → Option (List ℕ) → Act Told
 lists e size decompress name word =
     Then (answers (NamesPart word)) (λ part.
-    Then (views e size decompress name) (λ view.
-    Then (answers (MountsOrRefuses e size view.image)) (λ m.
-    prints (Lists m.state part (shown_told view m)))))
+    Then (loads name)
+    (shows_mount decompress e size (λ others m. Lists m.state part (shown_told others m))))
 
 abbrev pub list_act : Options → Bool → List ℕ → Option (List ℕ) → Act Told
 list_act options = lists options.endian options.geometry.block
@@ -154,9 +155,8 @@ list_act options = lists options.endian options.geometry.block
 abbrev pub cats : Endian → ℕ → Bool → List ℕ → List ℕ → Act Told
 cats e size decompress name word =
     Then (answers (NamesPath word)) (λ path.
-    Then (views e size decompress name) (λ view.
-    Then (answers (MountsOrRefuses e size view.image)) (λ m.
-    prints (Contains (content_of m.state path) (shown_told view m)))))
+    Then (loads name) (shows_mount decompress e size (λ others m.
+    Contains (content_of m.state path) (shown_told others m))))
 
 abbrev pub cat_act : Options → Bool → List ℕ → List ℕ → Act Told
 cat_act options = cats options.endian options.geometry.block
@@ -164,23 +164,19 @@ cat_act options = cats options.endian options.geometry.block
 -- ---- `diff`
 
 -- of two images in which nodes are found both are mounted, and the lines on their trees are printed
-abbrev pub compares : Endian → ℕ → Bool → List ℕ → List ℕ → List ℕ → List ℕ → Act Told
-compares e size times first second image other =
-    Then (answers (HasNodes e size (Some first) image)) (λ _.
-    Then (answers (HasNodes e size (Some second) other)) (λ _.
-    Then (answers (MountsOrRefuses e size image)) (λ left.
-    Then (answers (MountsOrRefuses e size other)) (λ right.
-    prints (Compares times left right (compared first second left right))))))
+abbrev pub compares : Comparison (List ℕ) → List ℕ → List ℕ → Act Told
+compares x image other =
+    Then (answers (HasNodes x.options.endian x.options.geometry.block (Some x.first) image)) (λ _.
+    Then (answers (HasNodes x.options.endian x.options.geometry.block (Some x.second) other)) (λ _.
+    Then (answers (MountsBoth x.decompress x.options.endian x.options.geometry.block image other))
+    (λ both. prints (Compares x.times both.0 both.1 (compared x.first x.second both.0 both.1)))))
 
 -- the files of two names are read, and their images compared
-abbrev pub diffs : Endian → ℕ → Bool → List ℕ → List ℕ → Act Told
-diffs e size times first second =
-    Then (loads first) (λ image.
-    Then (loads second) (λ other.
-    compares e size times first second image other))
-
-abbrev pub diff_act : Options → Bool → List ℕ → List ℕ → Act Told
-diff_act options = diffs options.endian options.geometry.block
+abbrev pub diff_act : Comparison (List ℕ) → Act Told
+diff_act x =
+    Then (loads x.first) (λ image.
+    Then (loads x.second) (λ other.
+    compares x image other))
 
 -- ---- all commands
 
@@ -190,13 +186,13 @@ pub data Command : Type 0 where
   Ls : Options → Bool → List ℕ → Option (List ℕ) → Command
   Cat : Options → Bool → List ℕ → List ℕ → Command
   Info : List ℕ → Command
-  Damage : Options → List ℕ → Command
-  Diff : Options → Bool → List ℕ → List ℕ → Command
+  Damage : Options → Bool → List ℕ → Command
+  Diff : Comparison (List ℕ) → Command
 
 abbrev pub act_of : Command → Act Told
 act_of (Check options shape name) = check_act options shape name
 act_of (Ls options decompress name word) = list_act options decompress name word
 act_of (Cat options decompress name word) = cat_act options decompress name word
 act_of (Info name) = info_act name
-act_of (Damage options name) = damage_act options name
-act_of (Diff options times first second) = diff_act options times first second
+act_of (Damage options decompress name) = damage_act options decompress name
+act_of (Diff asked) = diff_act asked

@@ -1,10 +1,16 @@
 -- Images that a command goes on with.
-use Rattle.std.specs.Prelude.{◌≡◌, ℕ, IsSome, List, Option, option_map, string_bytes, Result, Ok, Err}
+use Rattle.std.specs.Prelude.{◌≡◌, ◌⊎◌, ℕ, Bool, true, false, IsSome, List, Option, option_map, string_bytes, Result, Ok, Err}
 use Rattle.jnode.specs.declared.order.Endian.{Endian}
 use Rattle.jmount.specs.Mount.{Mount}
 use Rattle.jmount.specs.Mounts.{Answers}
-use Rattle.jreport.specs.NoNodes.{HasNoNode, node_count, other_order}
+use Rattle.jmount.specs.declared.fault.MountFault.TheVariants as mount
+use Rattle.jthrough.specs.MountsThrough.{AnswersThrough}
+use Rattle.jthrough.specs.declared.fault.ViewFault.{ViewFault}
+use Rattle.jthrough.specs.declared.fault.ViewFault.TheVariants as view
+use Rattle.jreport.specs.NoNodes.{HasNoNode, TellsNone, node_count, other_order}
 use Rattle.jreport.specs.Refusal.{IsRefusalTold}
+use Rattle.jreport.specs.declared.faults.ProgramFault.{ProgramFault}
+use Rattle.jreport.specs.declared.faults.ProgramFault.TheVariants as program
 use Rattle.jedge.specs.declared.fault.Fault.{Fault}
 use Rattle.jedge.specs.declared.fault.Fault.TheVariants as fault
 
@@ -45,3 +51,45 @@ MountsOrRefuses e size image (Err (fault.Findings told findings)) = ⊥
 MountsOrRefuses e size image (Err (fault.Refused why)) = IsRefusalTold e size image why
 MountsOrRefuses e size image (Err fault.Output) = ⊥
 MountsOrRefuses e size image (Err fault.OutOfMemory) = ⊥
+
+-- why an image does not mount through its compression, as the program tells it
+abbrev pub view_refusal : ViewFault → ProgramFault
+view_refusal view.BlockSize = program.Mount mount.BlockSize
+view_refusal view.TooLarge = program.Mount mount.TooLarge
+view_refusal (view.Incompatible addr nodetype) = program.Mount (mount.Incompatible addr nodetype)
+view_refusal (view.Compressed addr compr) = program.Mount (mount.Compressed addr compr)
+view_refusal (view.Data addr) = program.Data addr
+view_refusal (view.TooLong addr) = program.TooLong addr
+view_refusal (view.Clash addr) = program.Mount (mount.Clash addr)
+view_refusal view.RootKind = program.Mount mount.RootKind
+view_refusal view.OutOfMemory = program.Mount mount.OutOfMemory
+
+abbrev pub IsViewRefused : Endian → ℕ → List ℕ → ProgramFault → Type 0
+IsViewRefused e size image why = (refused : ViewFault) × (why ≡ view_refusal refused)
+    × AnswersThrough e size image (Err refused)
+
+-- An image mounts, through its compression where that is asked for; or this says why not.
+abbrev pub MountsWith : Bool → Endian → ℕ → List ℕ → Result Mount Fault → Type 0
+MountsWith false e size image answer = MountsOrRefuses e size image answer
+MountsWith true e size image (Ok mount) = AnswersThrough e size image (Ok mount)
+MountsWith true e size image (Err (fault.File file)) = ⊥
+MountsWith true e size image (Err (fault.NotRead file)) = ⊥
+MountsWith true e size image (Err (fault.NoNodes told others)) = ⊥
+MountsWith true e size image (Err (fault.NoSpace folder)) = ⊥
+MountsWith true e size image (Err (fault.Findings told findings)) = ⊥
+MountsWith true e size image (Err (fault.Refused why)) = IsViewRefused e size image why
+MountsWith true e size image (Err fault.Output) = ⊥
+MountsWith true e size image (Err fault.OutOfMemory) = ⊥
+
+-- two images mount, or this says why not: the first, or the second behind it
+abbrev pub MountsBoth : Bool → Endian → ℕ → List ℕ → List ℕ → Result (Mount × Mount) Fault → Type 0
+MountsBoth decompress e size image other (Ok both) =
+    MountsWith decompress e size image (Ok both.0) × MountsWith decompress e size other (Ok both.1)
+MountsBoth decompress e size image other (Err f) = MountsWith decompress e size image (Err f)
+    ⊎ ((left : Mount) × MountsWith decompress e size image (Ok left)
+    × MountsWith decompress e size other (Err f))
+
+-- It is told of an image in which no node is found how many the other byte order has.
+abbrev pub NotesNone : Endian → ℕ → List ℕ → Result (Option ℕ) Fault → Type 0
+NotesNone e size image (Ok others) = TellsNone e size image others
+NotesNone e size image (Err f) = ⊥

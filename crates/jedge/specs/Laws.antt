@@ -170,8 +170,8 @@ IsLate (Check options shape name) f =
 IsLate (Ls options decompress name word) f = f ≡ fault.OutOfMemory
 IsLate (Cat options decompress name word) f = ⊥
 IsLate (Info name) f = ⊥
-IsLate (Damage options name) f = ⊥
-IsLate (Diff options times first second) f = f ≡ fault.OutOfMemory
+IsLate (Damage options decompress name) f = ⊥
+IsLate (Diff asked) f = f ≡ fault.OutOfMemory
 
 abbrev pub JudgedFirst : Type 0
 JudgedFirst = (command : Command) → JudgesFirstBut (IsLate command) (act_of command)

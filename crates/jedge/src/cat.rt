@@ -10,12 +10,13 @@ use crate::fault::Fault;
 use crate::found::{Found, finished};
 use crate::host::Host;
 use crate::list::put_found;
-use crate::mounting::mounted;
-use crate::subject::{path_named, view};
+use crate::mounting::mounted_as;
+use crate::reading::load;
+use crate::subject::{path_named, shown};
 use jcommand::Options;
 use jmount::Mounted;
 use jnode::Order;
-use jreport::content;
+use jreport::{content, others_if_none};
 
 /// Prints the bytes of the file that a path names.
 fn print_bytes<H: Host>(
@@ -53,12 +54,16 @@ pub fn cat<E: Order, H: Host>(
         Ok(path) => path,
         Err(fault) => return Err(fault),
     };
-    let subject = match view::<E, H>(host, options.geometry, decompress, image) {
-        Ok(subject) => subject,
+    let image = match load(host, image) {
+        Ok(image) => image,
         Err(fault) => return Err(fault),
     };
-    match mounted::<E>(host.alloc(), subject.image.as_slice(), options.geometry) {
-        Ok(mounted) => print_bytes(host, &mounted, path.as_slice(), subject.found(&mounted)),
+    let bytes = image.as_slice();
+    let geometry = options.geometry;
+    let others = others_if_none::<E>(bytes, geometry);
+    let mut contents = Vec::new(host.alloc());
+    match mounted_as::<E>(host.alloc(), bytes, geometry, decompress, &mut contents) {
+        Ok(mounted) => print_bytes(host, &mounted, path.as_slice(), shown(&mounted, others)),
         Err(fault) => Err(fault),
     }
 }

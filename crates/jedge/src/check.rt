@@ -5,26 +5,15 @@ ghost use Rattle.jedge.specs.Acts.{DoesFrom, prints, seen_as};
 ghost use Rattle.jedge.specs.Commands.{check_act};
 ghost use Rattle.jedge.specs.Showing.{Checks, check_found, found_checked};
 ghost use Rattle.jedge.specs.Told.{found_told};
-ghost use Rattle.jedge.specs.Views.{HasBlockSize};
 
 use crate::fault::Fault;
 use crate::found::{Found, finished};
 use crate::host::Host;
+use crate::mounting::judge_block_size;
 use jcommand::Options;
 use jnode::Order;
 use jreport::{ProgramFault, image_check};
-use jscan::{Geometry, ScanFault};
-
-/// Whether blocks have this size.
-fn judge_block_size(geometry: Geometry) -> Result<(), Fault>
-    ensures { HasBlockSize geometry.block result }
-{
-    if geometry.is_readable() {
-        Ok(())
-    } else {
-        Err(Fault::Refused(ProgramFault::Scan(ScanFault::BlockSize)))
-    }
-}
+use jscan::Geometry;
 
 /// What a check comes to.
 fn found_checked(found: bool) -> Found<'static>

@@ -8,7 +8,7 @@ ghost use Rattle.jedge.specs.Told.{either, found_told, note_text};
 use crate::fault::Fault;
 use crate::found::{Found, Note, finished};
 use crate::host::Host;
-use crate::mounting::{judge_nodes, mounted};
+use crate::mounting::{judge_nodes, mounted_as};
 use crate::reading::load;
 use jcommand::Examination;
 use jdamage::{DamageFault, Totals, put_damage};
@@ -86,11 +86,12 @@ fn print_costs<E: Order, H: Host>(
 /// `damage`.
 pub fn damage<E: Order, H: Host>(
     host: &mut H,
-    asked: Examination<'_>,
+    asked: Examination<&str>,
 ) -> Result<Found<'static>, Fault>
     requires { asked.options.endian ≡ E.order }
     ensures { DoesFrom (H.history host.old) (H.history host.new)
-        (damage_act asked.entry.options asked.entry.image.now) (seen_as found_told result) }
+        (damage_act asked.entry.options asked.entry.decompress asked.entry.image.now)
+        (seen_as found_told result) }
 {
     let geometry = asked.options.geometry;
     let image = match load(host, asked.image) {
@@ -102,7 +103,14 @@ pub fn damage<E: Order, H: Host>(
         Ok(()) => {}
         Err(fault) => return Err(fault),
     }
-    match mounted::<E>(host.alloc(), bytes, geometry) {
+    let mut contents = Vec::new(host.alloc());
+    match mounted_as::<E>(
+        host.alloc(),
+        bytes,
+        geometry,
+        asked.decompress,
+        &mut contents,
+    ) {
         Ok(mounted) => print_costs::<E, H>(host, &mounted, geometry),
         Err(fault) => Err(fault),
     }

@@ -10,13 +10,14 @@ ghost use Rattle.jedge.specs.Told.{found_told};
 use crate::fault::Fault;
 use crate::found::{Found, finished};
 use crate::host::Host;
-use crate::mounting::mounted;
-use crate::subject::{part_named, view};
+use crate::mounting::mounted_as;
+use crate::reading::load;
+use crate::subject::{part_named, shown};
 use flashbase::Sink;
 use jcommand::Options;
 use jmount::Mounted;
 use jnode::Order;
-use jreport::{ProgramFault, put_subtree, tree_lines};
+use jreport::{ProgramFault, others_if_none, put_subtree, tree_lines};
 use std::alloc::Global;
 
 /// Puts the lines of a tree, or of the part of it that a path names.
@@ -85,12 +86,16 @@ pub fn list<E: Order, H: Host>(
         Ok(part) => part,
         Err(fault) => return Err(fault),
     };
-    let subject = match view::<E, H>(host, options.geometry, decompress, image) {
-        Ok(subject) => subject,
+    let image = match load(host, image) {
+        Ok(image) => image,
         Err(fault) => return Err(fault),
     };
-    match mounted::<E>(host.alloc(), subject.image.as_slice(), options.geometry) {
-        Ok(mounted) => print_lines(host, &mounted, &part, subject.found(&mounted)),
+    let bytes = image.as_slice();
+    let geometry = options.geometry;
+    let others = others_if_none::<E>(bytes, geometry);
+    let mut contents = Vec::new(host.alloc());
+    match mounted_as::<E>(host.alloc(), bytes, geometry, decompress, &mut contents) {
+        Ok(mounted) => print_lines(host, &mounted, &part, shown(&mounted, others)),
         Err(fault) => Err(fault),
     }
 }

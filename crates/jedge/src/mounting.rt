@@ -1,12 +1,14 @@
 //! Images that a command goes on with, and their mounts.
-ghost use Rattle.std.specs.Prelude.{◌≡◌, IfErr, IfOk, IsSome, option_map, string_bytes};
-ghost use Rattle.jedge.specs.Images.{HasNodes, IsNoNodesOf, MountsOrRefuses};
+ghost use Rattle.std.specs.Prelude.{◌≡◌, true, IfErr, IfOk, IsSome, option_map, string_bytes};
+ghost use Rattle.jedge.specs.Views.{HasBlockSize};
+ghost use Rattle.jedge.specs.Images.{HasNodes, IsNoNodesOf, MountsWith, MountsOrRefuses, view_refusal};
 
 use crate::fault::Fault;
-use jmount::Mounted;
+use jmount::{MountFault, Mounted};
 use jnode::Order;
-use jreport::{mount_or_tell, others_if_none};
-use jscan::Geometry;
+use jreport::{ProgramFault, mount_or_tell, others_if_none};
+use jscan::{Geometry, ScanFault};
+use jthrough::{ViewFault, mount_through};
 use std::alloc::{AllocError, Global};
 
 /// A name that a fault owns.
@@ -31,6 +33,17 @@ fn no_nodes(alloc: Global, name: Option<&str>, others: u64) -> Fault
     match kept(alloc, name) {
         Ok(name) => Fault::NoNodes { name, others },
         Err(_) => Fault::OutOfMemory,
+    }
+}
+
+/// Whether blocks have this size.
+pub fn judge_block_size(geometry: Geometry) -> Result<(), Fault>
+    ensures { HasBlockSize geometry.block result }
+{
+    if geometry.is_readable() {
+        Ok(())
+    } else {
+        Err(Fault::Refused(ProgramFault::Scan(ScanFault::BlockSize)))
     }
 }
 
@@ -61,5 +74,59 @@ pub fn mounted<'a, E: Order>(
     match mount_or_tell::<E>(alloc, image, geometry) {
         Ok(mounted) => Ok(mounted),
         Err(fault) => Err(Fault::Refused(fault)),
+    }
+}
+
+/// Why an image does not mount through its compression, as the program tells it.
+pub fn view_refusal(fault: ViewFault) -> ProgramFault<'static>
+    ensures { result ≡ view_refusal fault }
+{
+    match fault {
+        ViewFault::BlockSize => ProgramFault::Mount(MountFault::BlockSize),
+        ViewFault::TooLarge => ProgramFault::Mount(MountFault::TooLarge),
+        ViewFault::Incompatible { addr, nodetype } => {
+            ProgramFault::Mount(MountFault::Incompatible { addr, nodetype })
+        }
+        ViewFault::Compressed { addr, compr } => {
+            ProgramFault::Mount(MountFault::Compressed { addr, compr })
+        }
+        ViewFault::Data { addr } => ProgramFault::Data { addr },
+        ViewFault::TooLong { addr } => ProgramFault::TooLong { addr },
+        ViewFault::Clash { addr } => ProgramFault::Mount(MountFault::Clash { addr }),
+        ViewFault::RootKind => ProgramFault::Mount(MountFault::RootKind),
+        ViewFault::OutOfMemory => ProgramFault::Mount(MountFault::OutOfMemory),
+    }
+}
+
+/// Mounts an image through its compression.
+fn mounted_through<'a, E: Order>(
+    alloc: Global,
+    image: &'a [u8],
+    geometry: Geometry,
+    contents: &'a mut Vec<u8>,
+) -> Result<Mounted<'a>, Fault>
+    ensures { MountsWith true E.order geometry.block image.now result }
+{
+    match mount_through::<E>(alloc, image, geometry, contents) {
+        Ok(mounted) => Ok(mounted),
+        Err(fault) => Err(Fault::Refused(view_refusal(fault))),
+    }
+}
+
+/// Mounts an image, through its compression if that is asked for. Then the contents of its
+/// compressed nodes take the place of the bytes in `contents`, which the mount borrows.
+pub fn mounted_as<'a, E: Order>(
+    alloc: Global,
+    image: &'a [u8],
+    geometry: Geometry,
+    decompress: bool,
+    contents: &'a mut Vec<u8>,
+) -> Result<Mounted<'a>, Fault>
+    ensures { MountsWith decompress E.order geometry.block image.now result }
+{
+    if decompress {
+        mounted_through::<E>(alloc, image, geometry, contents)
+    } else {
+        mounted::<E>(alloc, image, geometry)
     }
 }

@@ -1,10 +1,9 @@
-//! What a command goes on with that shows an image: a path that a word names, and the image, or
-//! what `decompress` makes of it.
+//! What a command goes on with: a path that a word names, and an image, or what `decompress` makes
+//! of it; and what one comes to that shows an image.
 ghost use Rattle.std.specs.Prelude.{◌≡◌, true, option_map};
 ghost use Rattle.jreport.specs.NoNodes.{TellsNone};
-ghost use Rattle.jreport.specs.Notes.{noted};
 ghost use Rattle.jedge.specs.Acts.{DoesFrom, seen_as};
-ghost use Rattle.jedge.specs.Commands.{findings_shown, shown_noted, shown_told};
+ghost use Rattle.jedge.specs.Commands.{shown_noted, shown_told};
 ghost use Rattle.jedge.specs.Told.{found_told, note_text};
 ghost use Rattle.jedge.specs.Views.{IsViewed, NamesPart, NamesPath, conversion_refusal, viewed, views};
 
@@ -141,17 +140,7 @@ pub fn view<E: Order, H: Host>(
     }
 }
 
-/// How many findings are noted of an image that is shown.
-fn findings_shown(read: Option<u64>, mounted: &Mounted<'_>) -> u64
-    ensures { result ≡ findings_shown read (noted mounted.now) }
-{
-    match read {
-        Some(findings) => findings,
-        None => noted(mounted),
-    }
-}
-
-/// The note on it.
+/// The note on an image that is shown.
 fn shown_noted(findings: u64, others: Option<u64>) -> Option<Note<'static>>
     ensures { option_map note_text result ≡ shown_noted findings others }
 {
@@ -161,14 +150,13 @@ fn shown_noted(findings: u64, others: Option<u64>) -> Option<Note<'static>>
     }
 }
 
-impl Subject {
-    /// What a command comes to that shows it.
-    pub fn found(&self, mounted: &Mounted<'_>) -> Found<'static>
-        ensures { found_told result ≡ shown_told (viewed self.now) mounted.now }
-    {
-        Found {
-            counted: 0,
-            note: shown_noted(findings_shown(self.findings, mounted), self.others),
-        }
+/// What a command comes to that shows a mount. If no node is found in its image, `others` is how
+/// many the other byte order has.
+pub fn shown(mounted: &Mounted<'_>, others: Option<u64>) -> Found<'static>
+    ensures { found_told result ≡ shown_told others mounted.now }
+{
+    Found {
+        counted: 0,
+        note: shown_noted(noted(mounted), others),
     }
 }

@@ -19,22 +19,22 @@ use Rattle.jfolder.specs.declared.fault.ReadFault.TheVariants as read
 use Rattle.jfolder.specs.declared.found.Options.{Options}
 use Rattle.jfolder.specs.declared.reading.FolderTree.{FolderTree}
 use Rattle.jreport.specs.declared.reason.Reason.{Reason}
+use Rattle.jcommand.specs.declared.parsed.Extraction.{Extraction}
 use Rattle.jedge.specs.Acts.{Act, Then, Ends, GoesOn, Whole, answers, closes_errors, loads, prints}
 use Rattle.jedge.specs.Calls.{Answers, Errors, Event, Did, Failed, Fill, Keep, LookThrough, Open, Print, printed}
-use Rattle.jedge.specs.Images.{HasNodes, MountsOrRefuses}
+use Rattle.jedge.specs.Images.{HasNodes, MountsWith}
 use Rattle.jedge.specs.Views.{NamesPart}
-use Rattle.jedge.specs.Laws.{BlamesEvent, BlamesFailed, Happened, IsOfBytes}
+use Rattle.jedge.specs.Laws.{BlamesEvent, BlamesFailed, Happened}
 use Rattle.jedge.specs.declared.fault.Fault.{Fault}
 use Rattle.jedge.specs.declared.fault.Fault.TheVariants as fault
-use Rattle.jedge.proofs.BlamingLemmas.{after_more, before_more, conversion_of, loads_blames, mounts_blame, nodes_blame, one_not_none, part_blames, whole_blames}
-use Rattle.jfolders.specs.Commands.{ExtractionAsked, extract_act, listing_told, listing_act}
-use Rattle.jfolders.specs.Extracting.{HasPart, IsSource, sources}
+use Rattle.jedge.proofs.BlamingLemmas.{after_more, before_more, loads_blames, mounts_as_blame, nodes_blame, one_not_none, part_blames, whole_blames}
+use Rattle.jfolders.specs.Commands.{extract_act, listing_told, listing_act}
+use Rattle.jfolders.specs.Extracting.{HasPart}
 use Rattle.jfolders.specs.Filling.{IsFilled, IsOfFolder, asks_to_fill, closes_filled, fillings, fills_asked, none_failed, stop_of, the_folder}
 use Rattle.jfolders.specs.Keeping.{IsKeptAs, closes_whole, keeps_through}
 use Rattle.jfolders.specs.Laws.{BlamesCall, BlamesOnlyFailed, FoldersBlamed}
 use Rattle.jfolders.specs.Reading.{IsReadAs, IsFolderReadFault, asks_to_read, closes_read, looked_through, looks_through}
 use Rattle.jfolders.specs.declared.host.Closed.{Closed}
-use Rattle.jfolders.specs.declared.source.Source.{Source}
 use Rattle.jfolders.proofs.EndLemmas.{Ended, ended, filled_never, read_never, whole_never}
 
 same : (f : Fault) {events other : List Event} → events ≡ other → BlamesCall f other → BlamesCall f events
@@ -229,15 +229,6 @@ fills_blamed name owners s events f did = fills_blamed_as name s owners
 
 -- ---- the commands
 
-source_blamed : (decompress : Bool) (e : Endian) (size : ℕ) (image : List ℕ) → BlamesOnlyFailed (answers (IsSource decompress e size image))
-source_blamed decompress e size image events f is =
-    let it = is.1 in
-    alike events it.1 (subst IsOfBytes (sym it.3.1) (conversion_of e size image it.3.0 it.3.2))
-
-sources_blamed : (x : ExtractionAsked) → BlamesOnlyFailed (sources x.endian x.size x.decompress x.image)
-sources_blamed x = then_blamed _ _ (of_act (loads x.image) (loads_blames x.image)) (λ (image : List ℕ).
-    then_blamed _ _ (of_act (answers (HasNodes x.endian x.size None image)) (nodes_blame x.endian x.size None image)) (λ _. source_blamed x.decompress x.endian x.size image))
-
 part_blamed : (s : State) (part : Option (List ℕ)) → BlamesOnlyFailed (answers (HasPart s part))
 part_blamed s part events f is = elim is.1 [
   | inl w ↦ alike events w.3 tt
@@ -247,12 +238,13 @@ part_blamed s part events f is = elim is.1 [
 gives_blamed : {A : Type 0} (told : A) → BlamesOnlyFailed (answers (λ (result : Result A Fault). result ≡ Ok told))
 gives_blamed told events f is = let no : ⊥ = cc in absurd no
 
-extract_blamed : (x : ExtractionAsked) → BlamesOnlyFailed (extract_act x)
-extract_blamed x = then_blamed _ _ (of_act (answers (NamesPart x.word)) (part_blames x.word)) (λ (part : Option (List ℕ)).
-    then_blamed _ _ (sources_blamed x) (λ (source : Source).
-    then_blamed _ _ (of_act (answers (MountsOrRefuses x.endian x.size source.image.items)) (mounts_blame x.endian x.size source.image.items)) (λ (m : Mount).
+extract_blamed : (x : Extraction (List ℕ)) → BlamesOnlyFailed (extract_act x)
+extract_blamed x = then_blamed _ _ (of_act (answers (NamesPart x.path)) (part_blames x.path)) (λ (part : Option (List ℕ)).
+    then_blamed _ _ (of_act (loads x.image) (loads_blames x.image)) (λ (image : List ℕ).
+    then_blamed _ _ (of_act (answers (HasNodes x.options.endian x.options.geometry.block None image)) (nodes_blame x.options.endian x.options.geometry.block None image)) (λ _.
+    then_blamed _ _ (of_act (answers (MountsWith x.decompress x.options.endian x.options.geometry.block image)) (mounts_as_blame x.decompress x.options.endian x.options.geometry.block image)) (λ (m : Mount).
     then_blamed _ _ (part_blamed m.state part) (λ (s : State).
-    then_blamed _ _ (then_blamed _ _ (asks_fill_blamed x.folder x.quiet) (λ _. fills_blamed x.folder x.owners s)) (λ (totals : Totals). gives_blamed _)))))
+    then_blamed _ _ (then_blamed _ _ (asks_fill_blamed x.folder x.quiet) (λ _. fills_blamed x.folder x.owners s)) (λ (totals : Totals). gives_blamed _))))))
 
 listing_blamed : (options : Options) (quiet : Bool) (name : List ℕ) → BlamesOnlyFailed (listing_act options quiet name)
 listing_blamed options quiet name = then_blamed _ _ (then_blamed _ _ (asks_blamed name quiet) (λ (known : Known). looks_blamed name options known)) (λ (tree : FolderTree).

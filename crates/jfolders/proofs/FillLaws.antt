@@ -15,11 +15,8 @@ use Rattle.jedge.specs.Calls.{Event, Errors, Did, Failed, Fill, Print, printed}
 use Rattle.jedge.specs.Laws.{Happened}
 use Rattle.jedge.specs.declared.fault.Fault.{Fault}
 use Rattle.jedge.specs.declared.fault.Fault.TheVariants as fault
-use Rattle.jfolders.specs.Commands.{ExtractionAsked}
-use Rattle.jfolders.specs.Extracting.{sources}
 use Rattle.jfolders.specs.Filling.{IsFilled, IsFillingFault, asks_to_fill, closes_filled, fillings, fills_asked, none_failed, stop_of}
 use Rattle.jfolders.specs.Laws.{EndsUnfilled, FilledLast, IsFilledLast, NoneFilled}
-use Rattle.jfolders.specs.declared.source.Source.{Source}
 use Rattle.jfolders.proofs.EndLemmas.{Ended, ended, filled_never}
 
 -- nothing is made in a folder, whatever it answers
@@ -160,9 +157,6 @@ loads_unfilled name = then_unfilled (opens name) reads_whole (opens_unfilled nam
 answers_last : {A : Type 0} (Is : Result A Fault → Type 0) → EndsUnfilled (answers Is)
 answers_last Is events f is = none_last f events (answers_unfilled Is events (Err f) is)
 
-sources_unfilled : (x : ExtractionAsked) → Unfilled (sources x.endian x.size x.decompress x.image)
-sources_unfilled x = then_unfilled _ _ (loads_unfilled x.image) (λ (image : List ℕ). then_unfilled _ _ (answers_unfilled _) (λ _. answers_unfilled _))
-
 -- what is told of the totals comes to no fault
 answered_never : {A : Type 0} (told : A) (events : List Event) (f : Fault) → answers (λ (result : Result A Fault). result ≡ Ok told) events (Err f) → ⊥
 answered_never told events f is = cc
@@ -173,7 +167,7 @@ filled_then_last first told one events f (GoesOn a before after did more is) = a
 
 pub filled_last : FilledLast
 filled_last x = then_last _ _ (answers_unfilled _) (λ (part : Option (List ℕ)).
-    then_last _ _ (sources_unfilled x) (λ (source : Source).
+    then_last _ _ (loads_unfilled x.image) (λ (image : List ℕ). then_last _ _ (answers_unfilled _) (λ _.
     then_last _ _ (answers_unfilled _) (λ (m : Mount).
     then_last _ _ (answers_unfilled _) (λ (s : State).
-    filled_then_last _ _ (then_last _ _ (asks_unfilled x.folder x.quiet) (λ _. fills_last x.folder x.owners s))))))
+    filled_then_last _ _ (then_last _ _ (asks_unfilled x.folder x.quiet) (λ _. fills_last x.folder x.owners s)))))))

@@ -1,17 +1,15 @@
 -- What each command does: read it as the manual page. The order is that of the steps.
-use Rattle.std.specs.Prelude.{◌≡◌, ℕ, Bool, List, Option, None, option_map, Ok}
-use Rattle.jnode.specs.declared.order.Endian.{Endian}
+use Rattle.std.specs.Prelude.{◌≡◌, ℕ, Bool, List, Option, None, Ok}
 use Rattle.jmount.specs.Mount.{Mount}
 use Rattle.jfolder.specs.Text.{listing_text}
 use Rattle.jfolder.specs.declared.found.Options.{Options}
 use Rattle.jfolder.specs.declared.reading.FolderTree.{FolderTree}
 use Rattle.jcommand.specs.declared.parsed.Extraction.{Extraction}
-use Rattle.jreport.specs.declared.findings.Found.{Found}
-use Rattle.jedge.specs.Acts.{Act, Then, Whole, answers, prints}
-use Rattle.jedge.specs.Images.{MountsOrRefuses}
+use Rattle.jedge.specs.Acts.{Act, Then, Whole, answers, loads, prints}
+use Rattle.jedge.specs.Images.{HasNodes, MountsWith}
 use Rattle.jedge.specs.Told.{Told}
 use Rattle.jedge.specs.Views.{NamesPart}
-use Rattle.jfolders.specs.Extracting.{HasPart, extracted_told, found_shown, sources}
+use Rattle.jfolders.specs.Extracting.{HasPart, extracted_told, found_mounted}
 use Rattle.jfolders.specs.Filling.{fills_folder}
 use Rattle.jfolders.specs.Reading.{reads_tree}
 
@@ -32,45 +30,27 @@ listing_act options quiet name = Then (reads_tree name quiet options) (λ tree.
 
 -- ---- `extract`
 
--- What is asked of an extraction: an image with blocks of this size in this byte order, with its
--- owners or without, into the folder of this name, all of its tree or the part that a word names.
-pub record ExtractionAsked : Type 0 where
-  pub endian : Endian
-  pub size : ℕ
-  pub decompress : Bool
-  pub owners : Bool
-  pub quiet : Bool
-  pub image : List ℕ
-  pub folder : List ℕ
-  pub word : Option (List ℕ)
-
-abbrev pub extraction_asked : Endian → Extraction → ExtractionAsked
-extraction_asked e asked = record {
-  endian = e;
-  size = asked.options.geometry.block;
-  decompress = asked.decompress;
-  owners = asked.owners;
-  quiet = asked.quiet;
-  image = asked.image.now;
-  folder = asked.folder.now;
-  word = option_map (λ w. w.now) asked.path;
-}
-
 -- the part of a mounted image's tree that is asked for is made in the folder
-abbrev pub extracts_part : ExtractionAsked → Option (List ℕ) → Found → Mount → Act Told
-extracts_part x part found m = Then (answers (HasPart m.state part)) (λ s.
+abbrev pub extracts_part : Extraction (List ℕ) → Option (List ℕ) → Mount → Act Told
+extracts_part x part m = Then (answers (HasPart m.state part)) (λ s.
     Then (fills_folder x.folder x.quiet x.owners s) (λ totals.
-    answers (λ result. result ≡ Ok (extracted_told found totals))))
+    answers (λ result. result ≡ Ok (extracted_told (found_mounted m) totals))))
+
+-- an image in which a node is found is mounted, with `--decompress` through its compression, and
+-- the part of its tree that is asked for is made in the folder
+abbrev pub extracts_image : Extraction (List ℕ) → Option (List ℕ) → List ℕ → Act Told
+extracts_image x part image =
+    Then (answers (HasNodes x.options.endian x.options.geometry.block None image)) (λ _.
+    Then (answers (MountsWith x.decompress x.options.endian x.options.geometry.block image))
+    (extracts_part x part))
 
 -- rule: Listings: What `extract` does as a command.
 --   definitions: jfolders.Commands.extract_act, jfolders.Filling.fills_folder
 --   code: jfolders::extracting::extract
 --   laws: jfolders::laws::filled_last
--- The word of a path is judged, where one is given; the file is read, and a node is found in its
--- image; with `--decompress` that is decompressed; it is mounted, and the path is found in its
--- tree. Only then the folder is asked for, and filled; and standard error is told what is left out.
-abbrev pub extract_act : ExtractionAsked → Act Told
-extract_act x = Then (answers (NamesPart x.word)) (λ part.
-    Then (sources x.endian x.size x.decompress x.image) (λ source.
-    Then (answers (MountsOrRefuses x.endian x.size source.image.items)) (λ m.
-    extracts_part x part (found_shown source.found m) m)))
+-- The word of a path is judged, where one is given; the file is read, its image mounted, and the
+-- path found in its tree. Only then the folder is asked for, and filled; and standard error is told
+-- what is left out.
+abbrev pub extract_act : Extraction (List ℕ) → Act Told
+extract_act x = Then (answers (NamesPart x.path)) (λ part.
+    Then (loads x.image) (extracts_image x part))

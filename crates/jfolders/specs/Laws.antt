@@ -9,7 +9,8 @@ use Rattle.jedge.specs.Commands.{reported}
 use Rattle.jedge.specs.Laws.{BlamesEvent, Happened, JudgesFirst, MakesNothing}
 use Rattle.jedge.specs.declared.fault.Fault.{Fault}
 use Rattle.jedge.specs.declared.fault.Fault.TheVariants as fault
-use Rattle.jfolders.specs.Commands.{ExtractionAsked, extract_act, listing_act}
+use Rattle.jcommand.specs.declared.parsed.Extraction.{Extraction}
+use Rattle.jfolders.specs.Commands.{extract_act, listing_act}
 use Rattle.jfolders.specs.Filling.{the_folder}
 use Rattle.jfolders.specs.Keeping.{reads_folder}
 
@@ -43,7 +44,7 @@ abbrev pub EndsUnfilled : {A : Type 0} → Act A → Type 0
 EndsUnfilled act = (events : List Event) (f : Fault) → act events (Err f) → IsFilledLast f events
 
 abbrev pub FilledLast : Type 0
-FilledLast = (x : ExtractionAsked) → EndsUnfilled (extract_act x)
+FilledLast = (x : Extraction (List ℕ)) → EndsUnfilled (extract_act x)
 
 -- ---- a fault is an event
 
@@ -74,7 +75,7 @@ abbrev pub FoldersBlamed : Type 0
 FoldersBlamed = ((options : Options) (quiet : Bool) (name : List ℕ)
     → BlamesOnlyFailed (listing_act options quiet name)
     × BlamesOnlyFailed (reads_folder name quiet options))
-    × ((x : ExtractionAsked) → BlamesOnlyFailed (extract_act x))
+    × ((x : Extraction (List ℕ)) → BlamesOnlyFailed (extract_act x))
 
 -- ---- all that is refused is refused before anything is printed
 

@@ -1,8 +1,9 @@
 //! The commands as the program runs them: each is gone through, and its answer told.
 ghost use Rattle.std.specs.Prelude.{◌≡◌, Ok};
+ghost use Rattle.jcommand.specs.Parsed.{extraction_view};
 ghost use Rattle.jedge.specs.Acts.{DoesFrom};
 ghost use Rattle.jedge.specs.Commands.{reported};
-ghost use Rattle.jfolders.specs.Commands.{extract_act, extraction_asked, listing_act};
+ghost use Rattle.jfolders.specs.Commands.{extract_act, listing_act};
 ghost use Rattle.jfolders.specs.Reading.{listing_settings};
 
 use crate::extracting::extract;
@@ -13,7 +14,7 @@ use jedge::reporting::report;
 use jnode::Order;
 
 /// `listing`.
-pub fn run_listing<H: FolderHost>(host: &mut H, asked: FolderListing<'_>) -> Outcome
+pub fn run_listing<H: FolderHost>(host: &mut H, asked: FolderListing<&str>) -> Outcome
     ensures { DoesFrom (H.history host.old) (H.history host.new)
         (reported (listing_act (listing_settings asked.entry.owner asked.entry.time)
         asked.entry.quiet asked.entry.folder.now)) (Ok result) }
@@ -23,10 +24,10 @@ pub fn run_listing<H: FolderHost>(host: &mut H, asked: FolderListing<'_>) -> Out
 }
 
 /// `extract`.
-pub fn run_extract<E: Order, H: FolderHost>(host: &mut H, asked: Extraction<'_>) -> Outcome
+pub fn run_extract<E: Order, H: FolderHost>(host: &mut H, asked: Extraction<&str>) -> Outcome
     requires { asked.options.endian ≡ E.order }
     ensures { DoesFrom (H.history host.old) (H.history host.new)
-        (reported (extract_act (extraction_asked asked.entry.options.endian asked.entry)))
+        (reported (extract_act (extraction_view asked.entry)))
         (Ok result) }
 {
     let answer = extract::<E, H>(host, asked);

@@ -1,24 +1,25 @@
 //! `extract`: the tree of an image, or a part of it, in a folder.
 ghost use Rattle.std.specs.Prelude.{◌≡◌, IfOk, IfSome, option_map};
 ghost use Rattle.jextract.specs.PartsOf.{IsPart};
+ghost use Rattle.jcommand.specs.Parsed.{extraction_view};
 ghost use Rattle.jedge.specs.Acts.{DoesFrom, seen_as};
 ghost use Rattle.jedge.specs.Told.{found_told, note_text};
-ghost use Rattle.jfolders.specs.Commands.{extract_act, extraction_asked, extracts_part};
-ghost use Rattle.jfolders.specs.Extracting.{HasPart, extracted_told, extraction_noted, state_of_part};
+ghost use Rattle.jfolders.specs.Commands.{extract_act, extracts_part};
+ghost use Rattle.jfolders.specs.Extracting.{HasPart, extracted_told, extraction_noted, found_mounted, state_of_part};
 
 use crate::filling::fill;
 use crate::host::FolderHost;
-use crate::source::read_source;
 use jcommand::Extraction;
 use jedge::damage::either;
 use jedge::fault::Fault;
 use jedge::found::{Extracted, Found, Note};
-use jedge::mounting::mounted;
+use jedge::mounting::{judge_nodes, mounted_as};
+use jedge::reading::load;
 use jedge::subject::part_named;
 use jextract::{Part, PartFault, Totals, part_at};
 use jmount::Mounted;
 use jnode::Order;
-use jreport::ProgramFault;
+use jreport::{ProgramFault, attribute_count, noted};
 use std::alloc::Global;
 
 /// The part of a tree that a path names, if one is given.
@@ -56,6 +57,16 @@ fn extraction_noted(found: jreport::Found, totals: Totals) -> Option<Note<'stati
     }
 }
 
+/// What was found in a mounted image.
+fn found_mounted(mounted: &Mounted<'_>) -> jreport::Found
+    ensures { result ≡ found_mounted mounted.now }
+{
+    jreport::Found {
+        noted: noted(mounted),
+        attributes: attribute_count(mounted),
+    }
+}
+
 /// What an extraction comes to.
 fn extracted(found: jreport::Found, totals: Totals) -> Found<'static>
     ensures { found_told result ≡ extracted_told found totals }
@@ -71,12 +82,11 @@ fn extract_mounted<H: FolderHost>(
     host: &mut H,
     mounted: &Mounted<'_>,
     path: &Option<Vec<u8>>,
-    asked: Extraction<'_>,
-    found: jreport::Found,
+    asked: Extraction<&str>,
 ) -> Result<Found<'static>, Fault>
     ensures { DoesFrom (H.history host.old) (H.history host.new)
-        (extracts_part (extraction_asked asked.entry.options.endian asked.entry)
-        (option_map (λ path. path.items) path.now) found mounted.now)
+        (extracts_part (extraction_view asked.entry)
+        (option_map (λ path. path.items) path.now) mounted.now)
         (seen_as found_told result) }
 {
     let part = match part_asked(host.alloc(), mounted, path) {
@@ -84,7 +94,7 @@ fn extract_mounted<H: FolderHost>(
         Err(fault) => return Err(fault),
     };
     match fill(host, mounted, &part, asked) {
-        Ok(totals) => Ok(extracted(found, totals)),
+        Ok(totals) => Ok(extracted(found_mounted(mounted), totals)),
         Err(fault) => Err(fault),
     }
 }
@@ -92,30 +102,36 @@ fn extract_mounted<H: FolderHost>(
 /// `extract`.
 pub fn extract<E: Order, H: FolderHost>(
     host: &mut H,
-    asked: Extraction<'_>,
+    asked: Extraction<&str>,
 ) -> Result<Found<'static>, Fault>
     requires { asked.options.endian ≡ E.order }
     ensures { DoesFrom (H.history host.old) (H.history host.new)
-        (extract_act (extraction_asked asked.entry.options.endian asked.entry))
+        (extract_act (extraction_view asked.entry))
         (seen_as found_told result) }
 {
     let path = match part_named(host.alloc(), asked.path) {
         Ok(path) => path,
         Err(fault) => return Err(fault),
     };
-    let source = match read_source::<E, H>(host, asked) {
-        Ok(source) => source,
+    let image = match load(host, asked.image) {
+        Ok(image) => image,
         Err(fault) => return Err(fault),
     };
-    match mounted::<E>(
+    let bytes = image.as_slice();
+    let geometry = asked.options.geometry;
+    match judge_nodes::<E>(host.alloc(), bytes, geometry, None) {
+        Ok(()) => {}
+        Err(fault) => return Err(fault),
+    }
+    let mut contents = Vec::new(host.alloc());
+    match mounted_as::<E>(
         host.alloc(),
-        source.image.as_slice(),
-        asked.options.geometry,
+        bytes,
+        geometry,
+        asked.decompress,
+        &mut contents,
     ) {
-        Ok(mounted) => {
-            let found = source.found(&mounted);
-            extract_mounted(host, &mounted, &path, asked, found)
-        }
+        Ok(mounted) => extract_mounted(host, &mounted, &path, asked),
         Err(fault) => Err(fault),
     }
 }

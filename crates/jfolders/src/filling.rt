@@ -84,7 +84,7 @@ fn fill_asked<H: FolderHost>(
     host: &mut H,
     mounted: &Mounted<'_>,
     part: &Option<Part<'_>>,
-    asked: Extraction<'_>,
+    asked: Extraction<&str>,
     folder: H::Filled,
 ) -> Result<Totals, Fault>
     requires part { IfSome part.now (IsPart mounted.now.state) }
@@ -108,7 +108,7 @@ pub(crate) fn fill<H: FolderHost>(
     host: &mut H,
     mounted: &Mounted<'_>,
     part: &Option<Part<'_>>,
-    asked: Extraction<'_>,
+    asked: Extraction<&str>,
 ) -> Result<Totals, Fault>
     requires { IfSome part.now (IsPart mounted.now.state) }
     ensures { DoesFrom (H.history host.old) (H.history host.new)

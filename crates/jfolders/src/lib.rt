@@ -21,4 +21,3 @@ pub mod kept;
 pub mod laws;
 pub mod listing;
 pub mod reading;
-pub mod source;

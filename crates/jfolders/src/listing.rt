@@ -54,7 +54,7 @@ fn print_tree<H: FolderHost>(host: &mut H, tree: &FolderTree) -> Result<Found<'s
 /// `listing`.
 pub fn listing<H: FolderHost>(
     host: &mut H,
-    asked: FolderListing<'_>,
+    asked: FolderListing<&str>,
 ) -> Result<Found<'static>, Fault>
     ensures { DoesFrom (H.history host.old) (H.history host.new)
         (listing_act (listing_settings asked.entry.owner asked.entry.time) asked.entry.quiet

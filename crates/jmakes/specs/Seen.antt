@@ -1,55 +1,22 @@
 -- What is asked for and what comes of it, as acts see them.
-use Rattle.std.specs.Prelude.{◌*◌, ℕ, if◌then◌else◌, List, Option, Some, None, Result, Ok, Err}
+use Rattle.std.specs.Prelude.{ℕ, List, Option, Some, None, Result, Ok, Err}
 use Rattle.jnode.specs.declared.order.Endian.{Endian}
-use Rattle.jlog.specs.declared.start.Flash.{Flash}
 use Rattle.jbuild.specs.declared.emitting.EmitFault.{EmitFault}
 use Rattle.jbuild.specs.declared.emitting.Emitted.{Emitted}
 use Rattle.jedge.specs.Commands.{shown_noted}
 use Rattle.jedge.specs.Told.{Told}
-use Rattle.jmakes.specs.Making.{FileMade, WantedFile, wanted_file}
+use Rattle.jmakes.specs.Making.{FileMade, wanted_file}
 use Rattle.jmakes.specs.Notes.{WeakNotes, written_told}
 use Rattle.jmakes.specs.Writing.{Done, Emission, ImageWanted, NotRun, Numbered, Ran, Run}
 use Rattle.jmakes.specs.declared.asked.ImageToWrite.{ImageToWrite}
-use Rattle.jmakes.specs.declared.asked.Writing.{Writing}
 use Rattle.jmakes.specs.declared.base_note.BaseNote.{BaseNote}
 use Rattle.jmakes.specs.declared.emitting.ImageMade.{ImageMade}
 use Rattle.jmakes.specs.declared.ending.DoneOps.{DoneOps}
 use Rattle.jmakes.specs.declared.notes.Notes.{Notes}
 use Rattle.jmakes.specs.declared.numbered.NumberedOps.{NumberedOps}
-use Rattle.jmakes.specs.declared.wanted.Filling.{Filling}
-use Rattle.jmakes.specs.declared.wanted.Filling.TheVariants as filling
 use Rattle.jmakes.specs.declared.written.Written.{Written}
 
 -- ---- what is asked for
-
-abbrev pub flash_of_asked : Writing → Flash
-flash_of_asked asked = record {
-  geometry = asked.target.options.geometry;
-  blocks = asked.target.blocks;
-  page = asked.target.page;
-}
-
--- up to the end of the flash
-abbrev pub filling_asked : Writing → Option Filling
-filling_asked asked =
-    if asked.placing.pad
-    then Some (filling.Length (asked.target.blocks * asked.target.options.geometry.block))
-    else None
-
-abbrev pub file_asked : Writing → WantedFile
-file_asked asked = record {
-  name = asked.target.output.now;
-  atomic = asked.placing.atomic;
-  filling = filling_asked asked;
-}
-
-abbrev pub image_asked : Endian → Writing → ImageWanted
-image_asked e asked = record {
-  order = e;
-  flash = flash_of_asked asked;
-  file = file_asked asked;
-  weak = asked.weak;
-}
 
 abbrev pub image_to_write : Endian → ImageToWrite → ImageWanted
 image_to_write e image = record {

@@ -23,7 +23,9 @@ use Rattle.jbuild.specs.Emitting.{IsEmitted, IsNotRun, session_fault}
 use Rattle.jbuild.specs.Operations.{ops_in}
 use Rattle.jbuild.specs.declared.emitting.EmitFault.{EmitFault}
 use Rattle.jbuild.specs.declared.emitting.EmitFault.TheVariants as emit
+use Rattle.jcommand.specs.declared.parsed.Target.{Target}
 use Rattle.jreport.specs.Causes.{cause_of}
+use Rattle.jreport.specs.Notes.{noted as findings}
 use Rattle.jreport.specs.declared.cause.Cause.TheVariants as causes
 use Rattle.jreport.specs.declared.cause.Plan.{Plan}
 use Rattle.jreport.specs.declared.faults.ProgramFault.{ProgramFault}
@@ -31,7 +33,7 @@ use Rattle.jreport.specs.declared.faults.ProgramFault.TheVariants as program
 use Rattle.jreport.specs.declared.reason.Reason.{Reason}
 use Rattle.jreport.specs.declared.reason.Reason.TheVariants as because
 use Rattle.jedge.specs.Acts.{Act, Saying, Then, answers, prints_put}
-use Rattle.jedge.specs.Commands.{shown_told}
+use Rattle.jedge.specs.Commands.{shown_noted}
 use Rattle.jedge.specs.Images.{MountsOrRefuses}
 use Rattle.jedge.specs.Told.{Told}
 use Rattle.jedge.specs.Views.{Viewed}
@@ -42,6 +44,7 @@ use Rattle.jmakes.specs.Making.{FileMade, FileSaying, WantedFile, makes}
 use Rattle.jmakes.specs.Notes.{WeakNotes, TakesNotes, written_told}
 use Rattle.jmakes.specs.declared.wanted.CloseFault.{CloseFault}
 use Rattle.jmakes.specs.declared.wanted.CloseFault.TheVariants as close
+use Rattle.jmakes.specs.declared.wanted.Filling.{Filling}
 use Rattle.jmakes.specs.declared.wanted.Filling.TheVariants as filling
 
 -- ---- what is asked for
@@ -52,6 +55,32 @@ pub record ImageWanted : Type 0 where
   pub flash : Flash
   pub file : WantedFile
   pub weak : Bool
+
+abbrev pub flash_of_asked : Target (List ℕ) → Flash
+flash_of_asked target =
+    record { geometry = target.options.geometry; blocks = target.blocks; page = target.page }
+
+-- with `--pad`, up to the end of the flash
+abbrev pub filling_asked : Target (List ℕ) → Option Filling
+filling_asked target =
+    if target.placing.pad
+    then Some (filling.Length (target.blocks * target.options.geometry.block))
+    else None
+
+abbrev pub file_asked : Target (List ℕ) → WantedFile
+file_asked target = record {
+  name = target.output;
+  atomic = target.placing.atomic;
+  filling = filling_asked target;
+}
+
+abbrev pub image_asked : Endian → Target (List ℕ) → ImageWanted
+image_asked e target = record {
+  order = e;
+  flash = flash_of_asked target;
+  file = file_asked target;
+  weak = target.weak;
+}
 
 -- ---- what is judged before a file is made
 
@@ -213,10 +242,15 @@ EndsAs name (Nameless reason) result = (file : FailedFile) × (result ≡ Err (f
 
 -- ---- acts
 
+-- how many findings are noted of a base: those of the image that was read
+abbrev pub findings_shown : Option ℕ → ℕ → ℕ
+findings_shown None n = n
+findings_shown (Some read) n = read
+
 -- the note on a base that was read, if it was
 abbrev pub note_on : Option Viewed → Mount → Option (List ℕ)
 note_on None m = None
-note_on (Some view) m = (shown_told view m).noted
+note_on (Some view) m = shown_noted (findings_shown view.findings (findings m)) view.others
 
 abbrev pub base_image : Option Viewed → List ℕ
 base_image None = []

@@ -1,18 +1,20 @@
 //! `build` and `append`.
 ghost use Rattle.std.specs.Prelude.{◌≡◌, None, Ok, Some, option_map};
+ghost use Rattle.jcommand.specs.Parsed.{target_view};
 ghost use Rattle.jedge.specs.Acts.{DoesFrom, seen_as};
 ghost use Rattle.jedge.specs.Commands.{reported};
 ghost use Rattle.jedge.specs.Views.{viewed};
 ghost use Rattle.jmakes.specs.Commands.{append_act, build_act, writes_listing};
-ghost use Rattle.jmakes.specs.Seen.{image_asked, image_to_write, told_seen};
+ghost use Rattle.jmakes.specs.Seen.{image_to_write, told_seen};
+ghost use Rattle.jmakes.specs.Writing.{image_asked};
 
-use crate::asked::{ImageToWrite, Writing};
+use crate::asked::{ImageToWrite, image_of};
 use crate::host::FileHost;
 use crate::reporting::report_written;
 use crate::texts::write_text;
 use crate::written::Written;
 use jbuild::HostFiles;
-use jcommand::Outcome;
+use jcommand::{Appending, Building, Outcome, Target};
 use jedge::fault::Fault;
 use jedge::reading::load;
 use jedge::subject::{Subject, view};
@@ -38,14 +40,15 @@ fn write_listing<E: Order, H: FileHost + FilesHost>(
 /// `build`.
 pub fn build<E: Order, H: FileHost + FilesHost>(
     host: &mut H,
-    asked: Writing<'_>,
+    target: Target<&str>,
     listing: &str,
 ) -> Result<Written, Fault>
     ensures { DoesFrom (H.history host.old) (H.history host.new)
-        (build_act (image_asked E.order asked.entry) listing.now) (seen_as told_seen result) }
+        (build_act (image_asked E.order (target_view target.entry)) listing.now)
+        (seen_as told_seen result) }
 {
     match load(host, listing) {
-        Ok(text) => write_listing::<E, H>(host, asked.image(), None, text.as_slice()),
+        Ok(text) => write_listing::<E, H>(host, image_of(target), None, text.as_slice()),
         Err(fault) => Err(fault),
     }
 }
@@ -53,50 +56,51 @@ pub fn build<E: Order, H: FileHost + FilesHost>(
 /// `append`.
 pub fn append<E: Order, H: FileHost + FilesHost>(
     host: &mut H,
-    asked: Writing<'_>,
+    target: Target<&str>,
     decompress: bool,
     image: &str,
     listing: &str,
 ) -> Result<Written, Fault>
     ensures { DoesFrom (H.history host.old) (H.history host.new)
-        (append_act (image_asked E.order asked.entry) decompress image.now listing.now)
+        (append_act (image_asked E.order (target_view target.entry)) decompress image.now
+        listing.now)
         (seen_as told_seen result) }
 {
-    let base = match view::<E, H>(host, asked.target.options.geometry, decompress, image) {
+    let base = match view::<E, H>(host, target.options.geometry, decompress, image) {
         Ok(base) => base,
         Err(fault) => return Err(fault),
     };
     match load(host, listing) {
-        Ok(text) => write_listing::<E, H>(host, asked.image(), Some(&base), text.as_slice()),
+        Ok(text) => write_listing::<E, H>(host, image_of(target), Some(&base), text.as_slice()),
         Err(fault) => Err(fault),
     }
 }
 
 /// `build` as the program runs it.
-pub fn run_build<E: Order, H: FileHost + FilesHost>(
-    host: &mut H,
-    asked: Writing<'_>,
-    listing: &str,
-) -> Outcome
+pub fn run_build<E: Order, H: FileHost + FilesHost>(host: &mut H, asked: Building<&str>) -> Outcome
     ensures { DoesFrom (H.history host.old) (H.history host.new)
-        (reported (build_act (image_asked E.order asked.entry) listing.now)) (Ok result) }
+        (reported (build_act (image_asked E.order (target_view asked.entry.target))
+        asked.entry.listing.now)) (Ok result) }
 {
-    let answer = build::<E, H>(host, asked, listing);
+    let answer = build::<E, H>(host, asked.target, asked.listing);
     report_written(host, answer)
 }
 
 /// `append` as the program runs it.
 pub fn run_append<E: Order, H: FileHost + FilesHost>(
     host: &mut H,
-    asked: Writing<'_>,
-    decompress: bool,
-    image: &str,
-    listing: &str,
+    asked: Appending<&str>,
 ) -> Outcome
     ensures { DoesFrom (H.history host.old) (H.history host.new)
-        (reported (append_act (image_asked E.order asked.entry) decompress image.now listing.now))
-        (Ok result) }
+        (reported (append_act (image_asked E.order (target_view asked.entry.target))
+        asked.entry.decompress asked.entry.image.now asked.entry.listing.now)) (Ok result) }
 {
-    let answer = append::<E, H>(host, asked, decompress, image, listing);
+    let Appending {
+        target,
+        decompress,
+        image,
+        listing,
+    } = asked;
+    let answer = append::<E, H>(host, target, decompress, image, listing);
     report_written(host, answer)
 }

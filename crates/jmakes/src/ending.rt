@@ -152,12 +152,7 @@ fn ended_run(
 
 /// What the making of an image comes to: its operations have the numbers of their lines, and its
 /// file has this name.
-pub(crate) fn ended(
-    plan: Plan,
-    numbers: &[usize],
-    made: ImageMade,
-    name: String,
-) -> Result<DoneOps, Fault>
+pub fn ended(plan: Plan, numbers: &[usize], made: ImageMade, name: String) -> Result<DoneOps, Fault>
     ensures { EndsAs (string_bytes name)
         (ending_of plan numbers.now (emission_seen made.emitted) made.closed)
         (seen_as done_seen result) }

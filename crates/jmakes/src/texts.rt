@@ -20,7 +20,7 @@ use jreport::ProgramFault;
 use std::alloc::Global;
 
 /// The lines of a listing.
-fn read_lines<'a>(alloc: Global, text: &'a [u8]) -> Result<Vec<Line<'a>>, Fault>
+pub fn read_lines<'a>(alloc: Global, text: &'a [u8]) -> Result<Vec<Line<'a>>, Fault>
     ensures { ReadsListingLines text.entry.now (seen_as (λ lines. lines.items) result) }
 {
     match listing(alloc, text) {

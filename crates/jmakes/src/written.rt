@@ -74,7 +74,7 @@ fn start_on<'m, 'a, E: Order>(
 }
 
 /// Memory for what is wanted when the file is made: its name, and the line that is printed.
-fn take_memory<H: Host>(host: &mut H, name: &str) -> Result<(String, H::Output), Fault>
+pub fn take_memory<H: Host>(host: &mut H, name: &str) -> Result<(String, H::Output), Fault>
     ensures same { H.history host.new ≡ H.history host.old }
     ensures name { IfOk result (λ taken. string_bytes taken.0 ≡ name.now) }
     ensures sound { IfOk result (λ taken. H.Output.failures taken.1 ≡ 0) }

@@ -9,12 +9,12 @@ use crate::cuts::cuts;
 use crate::files_host::FilesHost;
 use crate::scan::scan;
 use crate::stream_host::StreamHost;
-use jcommand::{Cuts, Options, Outcome};
+use jcommand::{Cuts, Image, Outcome};
 use jedge::reporting::report;
 use jnode::Order;
 
 /// `cuts`.
-pub fn run_cuts<E: Order, H: FilesHost>(host: &mut H, asked: Cuts<'_>) -> Outcome
+pub fn run_cuts<E: Order, H: FilesHost>(host: &mut H, asked: Cuts<&str>) -> Outcome
     requires { asked.options.endian ≡ E.order }
     ensures { DoesFrom (H.history host.old) (H.history host.new)
         (reported (cuts_act asked.entry.options asked.entry.blocks asked.entry.page
@@ -25,11 +25,11 @@ pub fn run_cuts<E: Order, H: FilesHost>(host: &mut H, asked: Cuts<'_>) -> Outcom
 }
 
 /// `check --scan`.
-pub fn run_scan<E: Order, H: StreamHost>(host: &mut H, options: Options, image: &str) -> Outcome
-    requires { options.endian ≡ E.order }
+pub fn run_scan<E: Order, H: StreamHost>(host: &mut H, asked: Image<&str>) -> Outcome
+    requires { asked.options.endian ≡ E.order }
     ensures { DoesFrom (H.history host.old) (H.history host.new)
-        (reported (scan_act options image.now)) (Ok result) }
+        (reported (scan_act asked.entry.options asked.entry.image.now)) (Ok result) }
 {
-    let answer = scan::<E, H>(host, options, image);
+    let answer = scan::<E, H>(host, asked.options, asked.image);
     report(host, answer)
 }

@@ -248,7 +248,10 @@ fn load_base<H: Host>(host: &mut H, on: Option<&str>) -> Result<Vec<u8>, Fault>
 }
 
 /// `cuts`.
-pub fn cuts<E: Order, H: FilesHost>(host: &mut H, asked: Cuts<'_>) -> Result<Found<'static>, Fault>
+pub fn cuts<E: Order, H: FilesHost>(
+    host: &mut H,
+    asked: Cuts<&str>,
+) -> Result<Found<'static>, Fault>
     requires { asked.options.endian ≡ E.order }
     ensures { DoesFrom (H.history host.old) (H.history host.new)
         (cuts_act asked.entry.options asked.entry.blocks asked.entry.page

@@ -4,7 +4,6 @@ ghost use Rattle.flashbase.specs.Sinks.{change_of};
 ghost use Rattle.jscan.specs.Image.{is_block_size};
 ghost use Rattle.jedge.specs.Acts.{DoesFrom, seen_as};
 ghost use Rattle.jedge.specs.Told.{found_told};
-ghost use Rattle.jedge.specs.Views.{HasBlockSize};
 ghost use Rattle.jreads.specs.Scanning.{scan_act, scan_closed, scans_open};
 ghost use Rattle.jreads.specs.Streaming.{PutsScan};
 
@@ -13,20 +12,10 @@ use flashbase::Sink;
 use jcommand::Options;
 use jedge::fault::Fault;
 use jedge::found::{Found, finished};
+use jedge::mounting::judge_block_size;
 use jnode::Order;
 use jreport::{ProgramFault, stream_lines};
-use jscan::{Geometry, ScanFault};
-
-/// Whether blocks have this size.
-fn judge_block_size(geometry: Geometry) -> Result<(), Fault>
-    ensures { HasBlockSize geometry.block result }
-{
-    if geometry.is_readable() {
-        Ok(())
-    } else {
-        Err(Fault::Refused(ProgramFault::Scan(ScanFault::BlockSize)))
-    }
-}
+use jscan::Geometry;
 
 /// What a scan comes to, by what was put and how the file was closed.
 fn scan_closed(

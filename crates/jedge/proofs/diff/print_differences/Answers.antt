@@ -14,8 +14,8 @@ returns-in-Err g c = not_printed c.output.ensures.same c.in-Err.ensures.memory
 pub returns : goal.returns
 returns g c =
     let asked = c.args.asked in
-    let left = c.args.left.now in
-    let right = c.args.right.now in
+    let left = c.args.left in
+    let right = c.args.right in
     printed_put _ c.output.ensures.same c.in-Ok.ensures.sound c.in-Ok.ensures.empty
     (differs_put asked.times left right (compared asked.first.now asked.second.now left right) _
     c.put_differences-put.result c.put_differences-put.ensures) c.close-closed.ensures
