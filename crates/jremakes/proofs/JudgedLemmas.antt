@@ -13,7 +13,8 @@ use Rattle.jedge.specs.declared.fault.Fault.{Fault}
 use Rattle.jmakes.specs.Making.{compares_names}
 use Rattle.jremakes.specs.Asked.{AskedRemaking, MayBeReplaced, WouldReplace, gives, takes_original}
 use Rattle.jremakes.specs.Judging.{IsCompressible, IsConvertible}
-use Rattle.jremakes.specs.Laws.{Apart, Compress, Decompress, IsAcceptedBy, JudgedIsRemade, MakesJudged, RemakeCommand, asked_by}
+use Rattle.jremakes.specs.Compacting.{IsCompactable, compact_blocks}
+use Rattle.jremakes.specs.Laws.{Apart, Compact, Compress, Decompress, IsAcceptedBy, JudgedIsRemade, MakesJudged, RemakeCommand, asked_by}
 
 -- ---- the image is taken
 
@@ -79,7 +80,7 @@ read_taken e asked over first events given compared (GoesOn image before after d
       spared = subst (λ (b : List ℕ). WouldReplace e asked over b → ⊥) (sym one.alike) one.spared;
     }
 
-takes_taken : (e : Endian) (asked : AskedRemaking) (events : List Event) (given : List ℕ) → takes_original e asked events (Ok given) → IsTakenIn e asked events given
+pub takes_taken : (e : Endian) (asked : AskedRemaking) (events : List Event) (given : List ℕ) → takes_original e asked events (Ok given) → IsTakenIn e asked events given
 takes_taken e asked events given (Ends f did is) = let no : ⊥ = cc in absurd no
 takes_taken e asked events given (GoesOn over before after did more is) =
     subst (λ (l : List Event). IsTakenIn e asked l given) (sym is) (read_taken e asked over before after given did more)
@@ -128,3 +129,7 @@ judged_is_remade (Apart asked) events result (Ends f did is) = inl (takes_looks 
 judged_is_remade (Apart asked) events result (GoesOn image before after did more is) = law_at (Apart asked) is
     (accepted_law (Apart asked) (IsConvertible asked.options.endian asked.options.geometry.block image) _ before after image result (λ x judged. judged.0)
     (takes_looks asked.options.endian asked before (Ok image) did) (takes_taken asked.options.endian asked before image did) more)
+judged_is_remade (Compact asked blocks) events result (Ends f did is) = inl (takes_looks asked.options.endian asked events (Err f) did)
+judged_is_remade (Compact asked blocks) events result (GoesOn image before after did more is) = law_at (Compact asked blocks) is
+    (accepted_law (Compact asked blocks) (IsCompactable asked.options.endian asked.options.geometry.block (compact_blocks asked.options.geometry.block blocks) image) _ before after image result
+    (λ x judged. (x, judged)) (takes_looks asked.options.endian asked before (Ok image) did) (takes_taken asked.options.endian asked before image did) more)

@@ -1,6 +1,7 @@
 -- What each command does that makes an image of another one. The order is that of the steps.
-use Rattle.std.specs.Prelude.{ℕ, List, length}
+use Rattle.std.specs.Prelude.{ℕ, List, Option, length}
 use Rattle.jnode.specs.declared.order.Endian.{Endian}
+use Rattle.jcollect.specs.Tiles.{copied_image}
 use Rattle.jconvert.specs.Converting.{converted_image}
 use Rattle.jreport.specs.ConvertedLine.{compression_line, decompressed_line}
 use Rattle.jreport.specs.FoundIn.{found_in}
@@ -9,8 +10,9 @@ use Rattle.jedge.specs.Commands.{findings_noted}
 use Rattle.jedge.specs.Told.{Told}
 use Rattle.jmakes.specs.Making.{WantedFile}
 use Rattle.jremakes.specs.Asked.{AskedRemaking, takes_original}
+use Rattle.jremakes.specs.Compacting.{IsCompactable, compact_blocks, compacted_line}
 use Rattle.jremakes.specs.Judging.{ArePartedOf, IsCompressible, IsConvertible}
-use Rattle.jremakes.specs.Leaving.{left_out_told}
+use Rattle.jremakes.specs.Leaving.{compacted_told, left_out_told}
 use Rattle.jremakes.specs.Putting.{PutsAll, PutsCompressed, PutsNodes, TakesMemory, TellsLine, remakes}
 
 -- the findings of the image that was read are noted, and found
@@ -82,3 +84,27 @@ parts_out e asked =
 
 abbrev pub apart_act : AskedRemaking → Act Told
 apart_act asked = parts_out asked.options.endian asked
+
+-- ---- `compact`
+
+-- An image is judged: it mounts through its compression, and a flash of so many blocks takes the
+-- nodes of it that matter. These go out as they are, which is told in a line.
+abbrev pub compacts : Endian → ℕ → ℕ → WantedFile → List ℕ → Act Told
+compacts e size blocks file image =
+    Then (answers (IsCompactable e size blocks image)) (λ plan.
+    Then (answers TakesMemory) (λ _.
+    Then (remakes file (PutsAll (copied_image e size image plan.addresses) (tt {0}))) (λ _.
+    prints_put (TellsLine (compacted_line (length plan.addresses) plan.nodes plan.bytes)
+    (compacted_told (found_in e size image))))))
+
+-- rule: Building and extending: `compact`, as an act.
+--   definitions: jremakes.Commands.compact_act
+--   code: jremakes::compact::compact
+-- the same of the image of a file, which may be the one that is made
+abbrev pub compacts_file : Endian → AskedRemaking → Option ℕ → Act Told
+compacts_file e asked blocks = Then (takes_original e asked)
+    (compacts e asked.options.geometry.block
+    (compact_blocks asked.options.geometry.block blocks) asked.output)
+
+abbrev pub compact_act : AskedRemaking → Option ℕ → Act Told
+compact_act asked blocks = compacts_file asked.options.endian asked blocks

@@ -1,5 +1,6 @@
 -- What is true of the acts of all commands that make an image of another one.
-use Rattle.std.specs.Prelude.{◌≡◌, ◌⊎◌, ◌++◌, Bool, true, List, ℕ, None, Result, Err}
+use Rattle.std.specs.Prelude.{◌≡◌, ◌⊎◌, ◌++◌, Bool, true, List, ℕ, Option, None, Result, Ok, Err}
+use Rattle.jcollect.specs.PlanningThrough.{ShowsCompact}
 use Rattle.jconvert.specs.Compressing.{compress_fault}
 use Rattle.jconvert.specs.Converting.{convert_fault}
 use Rattle.jreport.specs.NoNodes.{HasNoNode}
@@ -12,8 +13,10 @@ use Rattle.jedge.specs.declared.fault.Fault.{Fault}
 use Rattle.jedge.specs.declared.fault.Fault.TheVariants as fault
 use Rattle.jmakes.specs.Blaming.{HasFailedWriting, IsFileBlamed}
 use Rattle.jmakes.specs.Leaving.{LeavesFiles}
+use Rattle.jmakes.specs.Making.{filled_to, written_out}
 use Rattle.jremakes.specs.Asked.{AskedRemaking, WouldReplace}
-use Rattle.jremakes.specs.Commands.{apart_act, compress_act, decompress_act}
+use Rattle.jremakes.specs.Commands.{apart_act, compact_act, compress_act, decompress_act}
+use Rattle.jremakes.specs.Compacting.{CompactPlan, IsCompactPlan, compact_blocks}
 use Rattle.jremakes.specs.Putting.{unwritten_by}
 
 -- a command, and what is asked of it
@@ -21,16 +24,19 @@ pub data RemakeCommand : Type 0 where
   Decompress : AskedRemaking → RemakeCommand
   Compress : AskedRemaking → RemakeCommand
   Apart : AskedRemaking → RemakeCommand
+  Compact : AskedRemaking → Option ℕ → RemakeCommand
 
 abbrev pub remake_act_of : RemakeCommand → Act Told
 remake_act_of (Decompress asked) = decompress_act asked
 remake_act_of (Compress asked) = compress_act asked
 remake_act_of (Apart asked) = apart_act asked
+remake_act_of (Compact asked blocks) = compact_act asked blocks
 
 abbrev pub asked_by : RemakeCommand → AskedRemaking
 asked_by (Decompress asked) = asked
 asked_by (Compress asked) = asked
 asked_by (Apart asked) = asked
+asked_by (Compact asked blocks) = asked
 
 -- ---- all is judged before a file is made
 
@@ -42,6 +48,9 @@ IsAcceptedBy (Compress asked) image =
     compress_fault asked.options.endian asked.options.geometry.block image ≡ None
 IsAcceptedBy (Apart asked) image =
     convert_fault asked.options.endian asked.options.geometry.block image ≡ None
+IsAcceptedBy (Compact asked blocks) image = (plan : CompactPlan)
+    × IsCompactPlan asked.options.endian asked.options.geometry.block
+    (compact_blocks asked.options.geometry.block blocks) image plan
 
 -- The host told whether the image is the file that is made, and gave its bytes; it has a node, may
 -- be replaced, and is not refused.
@@ -91,3 +100,23 @@ abbrev pub RemadeIsBlamed : Type 0
 RemadeIsBlamed = (command : RemakeCommand) (events : List Event) (f : Fault)
     → remake_act_of command events (Err f) → BlamesEvent f events
     ⊎ (IsFileBlamed (asked_by command).output.name f events ⊎ IsUnwrittenBlamed f events)
+
+-- ---- what `compact` makes shows the tree that it read
+
+-- these bytes went to a file, by one call; or there are none
+abbrev pub WentOut : List ℕ → List Event → Type 0
+WentOut bytes events = (name : List ℕ) × (before : List Event) × (after : List Event)
+    × (events ≡ before ++ (written_out name bytes ++ after))
+
+-- An image was read, and another one went out, up to where it is to be filled: of those nodes of
+-- the first that matter, so that it shows the same tree through its compression.
+pub record ShowsWhatWasRead (asked : AskedRemaking) (events : List Event) : Type 0 where
+  pub image : List ℕ
+  pub out : List ℕ
+  pub read : Happened (Did (Read asked.image image)) events
+  pub shows : ShowsCompact asked.options.endian asked.options.geometry.block image out
+  pub put : WentOut (filled_to asked.output.filling out) events
+
+abbrev pub CompactedShowsTree : Type 0
+CompactedShowsTree = (asked : AskedRemaking) (blocks : Option ℕ) (events : List Event) (told : Told)
+    → compact_act asked blocks events (Ok told) → ShowsWhatWasRead asked events

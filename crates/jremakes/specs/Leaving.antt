@@ -1,8 +1,9 @@
 -- What is told of nodes that are left out.
-use Rattle.std.specs.Prelude.{◌==◌, ℕ, List, [], ◌∷◌, ◌++◌, codes, flat_map, if◌then◌else◌, length, Option, Some}
+use Rattle.std.specs.Prelude.{◌==◌, ◌&&◌, ℕ, Bool, List, [], ◌∷◌, ◌++◌, codes, decimal, flat_map, if◌then◌else◌, length, Option, Some, None}
 use Rattle.jclash.specs.declared.parting.LeftOut.{LeftOut}
 use Rattle.jline.specs.Words.{hex}
 use Rattle.jreport.specs.Notes.{note_line_of}
+use Rattle.jreport.specs.declared.findings.Found.{Found}
 use Rattle.jedge.specs.Commands.{findings_noted}
 use Rattle.jedge.specs.Told.{Told, either}
 use Rattle.jremakes.specs.declared.apart.ApartDone.{ApartDone}
@@ -33,3 +34,32 @@ left_out_told left n = record {
 
 abbrev pub apart_told : ApartDone → Told
 apart_told done = left_out_told done.left.items done.findings
+
+-- ---- `compact`
+
+-- the note on so many nodes of extended attributes
+unfoldable pub left_attributes_line : ℕ → List ℕ
+left_attributes_line n = codes
+    "jffs2_image: note: nodes of extended attributes, which are left out: "
+    ++ (decimal n ++ codes "\n")
+
+abbrev pub left_attributes_lines : ℕ → List ℕ
+left_attributes_lines n = if n == 0 then [] else left_attributes_line n
+
+-- that on findings, and behind it that on extended attributes
+abbrev pub compacted_notes : Found → List ℕ
+compacted_notes found = findings_line found.noted ++ left_attributes_lines found.attributes
+
+-- an image has neither
+abbrev pub leaves_none : Found → Bool
+leaves_none found = (found.noted == 0) && (found.attributes == 0)
+
+abbrev pub compacted_noted : Found → Option (List ℕ)
+compacted_noted found = if leaves_none found then None else Some (compacted_notes found)
+
+-- the findings of the image that was read are found, or else the extended attributes that it had
+abbrev pub compacted_told : Found → Told
+compacted_told found = record {
+  counted = either found.noted found.attributes;
+  noted = compacted_noted found;
+}

@@ -1,4 +1,5 @@
 pub mod Asked
+pub mod Compacting
 pub mod Judging
 pub mod Leaving
 pub mod Putting

@@ -3,13 +3,14 @@ ghost use Rattle.std.specs.Prelude.{◌≡◌, Ok};
 ghost use Rattle.jedge.specs.Acts.{DoesFrom};
 ghost use Rattle.jedge.specs.Commands.{reported};
 ghost use Rattle.jremakes.specs.Asked.{remaking_of};
-ghost use Rattle.jremakes.specs.Commands.{apart_act, compress_act, decompress_act};
+ghost use Rattle.jremakes.specs.Commands.{apart_act, compact_act, compress_act, decompress_act};
 
 use crate::apart::apart;
 use crate::asked::Remaking;
+use crate::compact::compact;
 use crate::compress::compress;
 use crate::decompress::decompress;
-use crate::leaving::report_apart;
+use crate::leaving::{report_apart, report_compacted};
 use jcommand::Outcome;
 use jedge::reporting::report;
 use jmakes::host::FileHost;
@@ -43,4 +44,18 @@ pub fn run_apart<E: Order, H: FileHost>(host: &mut H, asked: Remaking<'_>) -> Ou
 {
     let answer = apart::<E, H>(host, asked);
     report_apart(host, answer)
+}
+
+/// `compact`, to a flash of so many blocks, or else to the greatest.
+pub fn run_compact<E: Order, H: FileHost>(
+    host: &mut H,
+    asked: Remaking<'_>,
+    blocks: Option<u32>,
+) -> Outcome
+    requires { asked.options.endian ≡ E.order }
+    ensures { DoesFrom (H.history host.old) (H.history host.new)
+        (reported (compact_act (remaking_of asked.entry) blocks)) (Ok result) }
+{
+    let answer = compact::<E, H>(host, asked, blocks);
+    report_compacted(host, answer)
 }

@@ -1,9 +1,9 @@
 //! Laws of the acts. Each function's contract is a law, and its body is empty.
 
-ghost use Rattle.jremakes.specs.Laws.{JudgedIsRemade, RemadeIsBlamed, RemadeIsLeft};
+ghost use Rattle.jremakes.specs.Laws.{CompactedShowsTree, JudgedIsRemade, RemadeIsBlamed, RemadeIsLeft};
 
 /// No call changes a file before the image is read and judged: one that has no node, that has
-/// findings and would be replaced, or that can't be converted, is not gone on with.
+/// findings and would be replaced, or that can't be converted or compacted, is not gone on with.
 pub fn judged_is_remade()
     ensures { JudgedIsRemade }
 {}
@@ -18,4 +18,10 @@ pub fn remade_is_left()
 /// write that failed, and that of standard output with a print that failed.
 pub fn remade_is_blamed()
     ensures { RemadeIsBlamed }
+{}
+
+/// What `compact` writes is an image of just those nodes that matter of the one that it read: it
+/// shows the same tree, mounts, and has no findings, all through its compression.
+pub fn compacted_shows_tree()
+    ensures { CompactedShowsTree }
 {}

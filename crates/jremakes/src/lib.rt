@@ -1,13 +1,15 @@
 //! Images that a command makes of other ones: `decompress`, `compress`, `decompress --clashes
-//! higher`.
+//! higher`, `compact`.
 //!
 //! `specs/Commands.antt` has the act of each, `specs/Asked.antt` what is asked of the image that is
-//! taken, `specs/Putting.antt` what goes to the file that is made.
+//! taken, `specs/Putting.antt` what goes to the file that is made. `specs/Compacting.antt` says what
+//! `compact` judges.
 #![tactic(auto)]
 
 pub mod apart;
 pub mod asked;
 pub mod commands;
+pub mod compact;
 pub mod compress;
 pub mod decompress;
 pub mod judging;
@@ -15,4 +17,5 @@ pub mod laws;
 pub mod leaving;
 pub mod line;
 pub mod original;
+pub mod planning;
 pub mod remaking;
