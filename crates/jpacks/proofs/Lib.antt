@@ -1,2 +1,6 @@
 pub mod EndLemmas
+pub mod FillLemmas
+pub mod FilledLemmas
+pub mod HeldLaws
 pub mod PackLaws
+pub mod WrittenLemmas

@@ -2,8 +2,6 @@
 use Rattle.std.proofs.Common.{◌≡◌, ◌⊎◌, ◌++◌, ℕ, List, None, Ok, Err, inl, inr, refl, subst, sym}
 use Rattle.jnode.specs.declared.order.Endian.{Endian}
 use Rattle.jbuild.specs.declared.host_files.HostFiles.{HostFiles}
-use Rattle.jcommand.specs.Parsed.{PackingParsed}
-use Rattle.jcommand.specs.declared.parsed.Placing.{Placing}
 use Rattle.jedge.specs.Acts.{Act, Ends, GoesOn, Then, answers}
 use Rattle.jedge.specs.Calls.{Answers, Event, Open}
 use Rattle.jedge.specs.Laws.{BlamesEvent}
@@ -49,14 +47,14 @@ listed_blamed wanted listed = then_blamed wanted.file _ _ (kept_blamed wanted li
 -- ---- the command
 
 pub pack_leaves_files : PackLeavesFiles
-pack_leaves_files e asked placing = then_leaves (image_packed e asked placing).file _ _
+pack_leaves_files e asked = then_leaves (image_packed e asked).file _ _
     (reading_makes_nothing (listing_settings asked.owner asked.time) asked.quiet asked.folder).1
-    (λ (listed : Listed). listed_leaves (image_packed e asked placing) listed)
+    (λ (listed : Listed). listed_leaves (image_packed e asked) listed)
 
 pub pack_judged_first : PackJudgedFirst
-pack_judged_first e asked placing = then_judges (image_packed e asked placing).file _ _
+pack_judged_first e asked = then_judges (image_packed e asked).file _ _
     (reading_makes_nothing (listing_settings asked.owner asked.time) asked.quiet asked.folder).1
-    (λ (listed : Listed). listed_judges (image_packed e asked placing) listed)
+    (λ (listed : Listed). listed_judges (image_packed e asked) listed)
 
 -- a call that failed is one on a file or a folder
 call_blamed : (f : Fault) (events : List Event) → BlamesEvent f events → BlamesCall f events
@@ -74,12 +72,12 @@ pack_blamed_by name f events (inl is) = inl (call_blamed f events is)
 pack_blamed_by name f events (inr is) = inr is
 
 pub pack_blamed : PackBlamed
-pack_blamed e asked placing events f (Ends g did is) =
+pack_blamed e asked events f (Ends g did is) =
     let alike : f ≡ g = cc in
     let blames = (folders_blamed.0 (listing_settings asked.owner asked.time) asked.quiet asked.folder).1 in
     inl (subst (λ (h : Fault). BlamesCall h events) (sym alike) (blames events g did))
-pack_blamed e asked placing events f (GoesOn listed before after did more is) =
-    let wanted = image_packed e asked placing in
+pack_blamed e asked events f (GoesOn listed before after did more is) =
+    let wanted = image_packed e asked in
     subst (λ (l : List Event). IsPackBlamed wanted.file.name f l) (sym is)
     (pack_blamed_by wanted.file.name f (before ++ after)
     (blamed_later wanted.file.name f before after (listed_blamed wanted listed after f more)))

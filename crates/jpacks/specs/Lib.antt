@@ -1,3 +1,4 @@
+pub mod Held
 pub mod PackLaws
 pub mod Packing
 pub mod Seen

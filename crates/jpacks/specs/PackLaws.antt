@@ -1,8 +1,7 @@
 -- What is true of the act of `pack`.
 use Rattle.std.specs.Prelude.{◌⊎◌, ℕ, List, Err}
 use Rattle.jnode.specs.declared.order.Endian.{Endian}
-use Rattle.jcommand.specs.Parsed.{PackingParsed}
-use Rattle.jcommand.specs.declared.parsed.Placing.{Placing}
+use Rattle.jcommand.specs.declared.parsed.Packing.{Packing}
 use Rattle.jedge.specs.Calls.{Event}
 use Rattle.jedge.specs.declared.fault.Fault.{Fault}
 use Rattle.jfolders.specs.Laws.{BlamesCall}
@@ -12,13 +11,13 @@ use Rattle.jpacks.specs.Packing.{image_packed, pack_act}
 
 -- with `--atomic`, any fault but that of the output leaves the files as they were
 abbrev pub PackLeavesFiles : Type 0
-PackLeavesFiles = (e : Endian) (asked : PackingParsed) (placing : Placing)
-    → LeavesAtFault (image_packed e asked placing).file (pack_act e asked placing)
+PackLeavesFiles = (e : Endian) (asked : Packing (List ℕ))
+    → LeavesAtFault (image_packed e asked).file (pack_act e asked)
 
 -- all that can be refused is refused before a file is made
 abbrev pub PackJudgedFirst : Type 0
-PackJudgedFirst = (e : Endian) (asked : PackingParsed) (placing : Placing)
-    → JudgesBeforeMaking (image_packed e asked placing).file (pack_act e asked placing)
+PackJudgedFirst = (e : Endian) (asked : Packing (List ℕ))
+    → JudgesBeforeMaking (image_packed e asked).file (pack_act e asked)
 
 -- a call on what is blamed failed, for the reason that is told: on a file or a folder that is read,
 -- or on the file of this name, which is made
@@ -27,6 +26,6 @@ IsPackBlamed name f events =
     BlamesCall f events ⊎ (IsFileBlamed name f events ⊎ IsWriteBlamed f events)
 
 abbrev pub PackBlamed : Type 0
-PackBlamed = (e : Endian) (asked : PackingParsed) (placing : Placing) (events : List Event)
-    (f : Fault) → pack_act e asked placing events (Err f)
-    → IsPackBlamed (image_packed e asked placing).file.name f events
+PackBlamed = (e : Endian) (asked : Packing (List ℕ)) (events : List Event)
+    (f : Fault) → pack_act e asked events (Err f)
+    → IsPackBlamed (image_packed e asked).file.name f events

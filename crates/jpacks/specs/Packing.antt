@@ -4,8 +4,7 @@ use Rattle.jnode.specs.declared.order.Endian.{Endian}
 use Rattle.jscan.specs.Image.{greatest_image}
 use Rattle.jbuild.specs.HostFiles.{read_of}
 use Rattle.jbuild.specs.declared.host_files.HostFiles.{HostFiles}
-use Rattle.jcommand.specs.Parsed.{PackingParsed}
-use Rattle.jcommand.specs.declared.parsed.Placing.{Placing}
+use Rattle.jcommand.specs.declared.parsed.Packing.{Packing}
 use Rattle.jedge.specs.Acts.{Act, Then, answers}
 use Rattle.jedge.specs.Told.{Told, either}
 use Rattle.jedge.specs.declared.fault.Fault.{Fault}
@@ -36,8 +35,8 @@ filling_packed false size given = None
 filling_packed true size None = Some (filling.Block size)
 filling_packed true size (Some given) = Some (filling.Length (given * size))
 
-abbrev pub image_packed : Endian → PackingParsed → Placing → ImageWanted
-image_packed e asked placing = record {
+abbrev pub image_packed : Endian → Packing (List ℕ) → ImageWanted
+image_packed e asked = record {
   order = e;
   flash = record {
     geometry = asked.options.geometry;
@@ -46,8 +45,8 @@ image_packed e asked placing = record {
   };
   file = record {
     name = asked.output;
-    atomic = placing.atomic;
-    filling = filling_packed placing.pad asked.options.geometry.block asked.blocks;
+    atomic = asked.placing.atomic;
+    filling = filling_packed asked.placing.pad asked.options.geometry.block asked.blocks;
   };
   weak = asked.weak;
 }
@@ -74,7 +73,7 @@ writes_listed wanted listed =
 
 -- `pack`: the folder is read whole, and standard error is told what is left out; its listing is
 -- written.
-abbrev pub pack_act : Endian → PackingParsed → Placing → Act Told
-pack_act e asked placing =
+abbrev pub pack_act : Endian → Packing (List ℕ) → Act Told
+pack_act e asked =
     Then (reads_folder asked.folder asked.quiet (listing_settings asked.owner asked.time))
-    (writes_listed (image_packed e asked placing))
+    (writes_listed (image_packed e asked))

@@ -8,7 +8,7 @@ ghost use Rattle.jpacks.specs.Packing.{pack_act};
 ghost use Rattle.jpacks.specs.Seen.{packed_seen};
 
 use crate::packing::{Packed, pack};
-use jcommand::{Outcome, Packing, Placing};
+use jcommand::{Outcome, Packing};
 use jedge::fault::Fault;
 use jedge::host::Host;
 use jfolders::host::FolderHost;
@@ -45,12 +45,11 @@ fn report_packed<H: Host>(host: &mut H, answer: Result<Packed, Fault>) -> Outcom
 /// `pack`.
 pub fn run_pack<E: Order, H: FolderHost + FilesHost + FileHost>(
     host: &mut H,
-    asked: Packing<'_>,
-    placing: Placing,
+    asked: Packing<&str>,
 ) -> Outcome
     ensures { DoesFrom (H.history host.old) (H.history host.new)
-        (reported (pack_act E.order (packing_view asked.entry) placing)) (Ok result) }
+        (reported (pack_act E.order (packing_view asked.entry))) (Ok result) }
 {
-    let answer = pack::<E, H>(host, asked, placing);
+    let answer = pack::<E, H>(host, asked);
     report_packed(host, answer)
 }

@@ -1,4 +1,5 @@
 //! Laws of the act of `pack`. Each function's contract is a law, and its body is empty.
+ghost use Rattle.jpacks.specs.Held.{PackHoldsFolder};
 ghost use Rattle.jpacks.specs.PackLaws.{PackBlamed, PackJudgedFirst, PackLeavesFiles};
 
 /// With `--atomic`, a fault leaves the files of the host as they were, and what was made is
@@ -16,4 +17,10 @@ pub fn pack_judged_first()
 /// A fault that names a file or a folder comes with a call on it that failed, for the same reason.
 pub fn pack_blamed()
     ensures { PackBlamed }
+{}
+
+/// What `pack` writes that ends without a fault is an image that holds the tree of the folder, with
+/// the bytes that were read of its files.
+pub fn pack_holds_folder()
+    ensures { PackHoldsFolder }
 {}

@@ -7,7 +7,7 @@ ghost use Rattle.jmakes.specs.Seen.{image_to_write};
 ghost use Rattle.jpacks.specs.Packing.{blocks_packed, filling_packed, most_packed, image_packed, pack_act, writes_listed};
 ghost use Rattle.jpacks.specs.Seen.{packed_seen};
 
-use jcommand::{Packing, Placing};
+use jcommand::Packing;
 use jedge::fault::Fault;
 use jfolders::host::FolderHost;
 use jfolders::keeping::{Listed, read_whole};
@@ -51,7 +51,7 @@ fn blocks_of(block: u32, given: Option<u32>) -> u32
 
 /// The end of the flash, or where the number of its blocks is left out, of the last one that is
 /// written.
-fn filling_of(pad: bool, block: u32, given: Option<u32>) -> Option<Filling>
+pub fn filling_of(pad: bool, block: u32, given: Option<u32>) -> Option<Filling>
     ensures { result ≡ filling_packed pad block given }
 {
     if !pad {
@@ -64,9 +64,8 @@ fn filling_of(pad: bool, block: u32, given: Option<u32>) -> Option<Filling>
 }
 
 /// The image that is asked for.
-fn image_of<'a>(asked: Packing<'a>, placing: Placing) -> ImageToWrite<'a>
-    ensures { (e : Endian) → image_to_write e result
-        ≡ image_packed e (packing_view asked.entry) placing }
+fn image_of<'a>(asked: Packing<&'a str>) -> ImageToWrite<'a>
+    ensures { (e : Endian) → image_to_write e result ≡ image_packed e (packing_view asked.entry) }
 {
     let block = asked.options.geometry.block;
     ImageToWrite {
@@ -77,8 +76,8 @@ fn image_of<'a>(asked: Packing<'a>, placing: Placing) -> ImageToWrite<'a>
         },
         file: Wanted {
             name: asked.output,
-            atomic: placing.atomic,
-            filling: filling_of(placing.pad, block, asked.blocks),
+            atomic: asked.placing.atomic,
+            filling: filling_of(asked.placing.pad, block, asked.blocks),
         },
         weak: asked.weak,
     }
@@ -108,15 +107,14 @@ fn write_listed<E: Order, H: FolderHost + FilesHost + FileHost>(
 /// `pack`.
 pub fn pack<E: Order, H: FolderHost + FilesHost + FileHost>(
     host: &mut H,
-    asked: Packing<'_>,
-    placing: Placing,
+    asked: Packing<&str>,
 ) -> Result<Packed, Fault>
     ensures { DoesFrom (H.history host.old) (H.history host.new)
-        (pack_act E.order (packing_view asked.entry) placing) (seen_as packed_seen result) }
+        (pack_act E.order (packing_view asked.entry)) (seen_as packed_seen result) }
 {
     let settings = settings_of(asked.owner, asked.time);
     match read_whole(host, asked.folder, asked.quiet, &settings) {
-        Ok(listed) => write_listed::<E, H>(host, image_of(asked, placing), listed),
+        Ok(listed) => write_listed::<E, H>(host, image_of(asked), listed),
         Err(fault) => Err(fault),
     }
 }

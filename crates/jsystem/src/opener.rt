@@ -12,7 +12,7 @@ pub struct FileOpener<'r, R: Files<File = File>> {
 }
 
 impl<'r, R: Files<File = File>> FileOpener<'r, R> {
-    pub fn new(rt: &'r R) -> Self {
+    pub(crate) fn new(rt: &'r R) -> Self {
         FileOpener { rt }
     }
 }

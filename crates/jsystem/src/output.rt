@@ -75,7 +75,7 @@ impl<W: Write + Drop> BufferedOutput<W> {
     }
 
     /// What is behind the buffer.
-    pub fn writer(&self) -> &W {
+    pub(crate) fn writer(&self) -> &W {
         self.writer.get_ref()
     }
 
