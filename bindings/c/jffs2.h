@@ -1,13 +1,13 @@
 /* Images of JFFS2 for C. docs/BINDINGS.md says what is proved about these calls; this is the short
  * form.
  *
- * Every call reads bytes of the caller, and writes its answer into memory of the caller. There are
- * no handles and no state: calls may run in any threads at once, on the same image too.
+ * Every call reads bytes of the caller, and writes its answer into memory of the caller. Only
+ * jffs2_open keeps anything. Calls may run in any threads at once, on the same image too.
  *
  * The caller's duties:
  * - No pointer is NULL, also if its length is 0. Lengths are below 2^63.
  * - Memory that a call writes overlaps nothing else that the call is given.
- * - `image` does not change during the call. The call does not keep it.
+ * - `image` does not change during the call. Only jffs2_open keeps it, until jffs2_close.
  * - No call is made from a signal handler.
  *
  * The library's promises:
@@ -17,7 +17,7 @@
  *   instead how much memory the answer takes. Ask with length 0 first, or guess.
  * - jffs2_crc, jffs2_info, jffs2_check, jffs2_findings and jffs2_nodes allocate nothing. The others
  *   allocate by rattle_alloc, rattle_realloc and rattle_dealloc (jffs2_heap.c, over malloc), and
- *   free all of it before they return. */
+ *   free all of it before they return; jffs2_open keeps its mount. */
 #ifndef JFFS2_H
 #define JFFS2_H
 #include <stddef.h>
@@ -54,7 +54,8 @@ enum {
     JFFS2_REFUSED = 31,      /* the operation at line .address is refused: .detail is 1 to 12 for O1
                                 to O12 of the manual page */
     JFFS2_FILES = 32,        /* row .address of the files, from 0 on, is not within their bytes */
-    JFFS2_NO_FILE = 33       /* line .address names a file that is not given */
+    JFFS2_NO_FILE = 33,      /* line .address names a file that is not given */
+    JFFS2_CLOSED = 34        /* the handle has no mount */
 };
 
 /* The block size and byte order, which an image does not record, and how its data are read. */
@@ -241,6 +242,33 @@ uint32_t jffs2_stat(const uint8_t *image, size_t len, const jffs2_how *how,
 uint32_t jffs2_read(const uint8_t *image, size_t len, const jffs2_how *how,
                     uint32_t number, uint64_t offset,
                     uint8_t *out, size_t out_len, size_t *got, jffs2_fault *fault);
+
+/* A mount that is kept from call to call. It begins as all zeros, and nothing but the calls below
+ * writes it. It is for one thread, and for one call at a time; of two copies only one is used. */
+typedef struct jffs2_handle {
+    void *at;
+    _Bool is_open;
+} jffs2_handle;
+
+/* Mounts an image and keeps the mount; what the handle had before is closed. The image stays where and
+ * as it is until jffs2_close. `through` is not asked: compressed data are refused, so decompress the
+ * image first. 1 to 7; the handle is then as it was. */
+uint32_t jffs2_open(const uint8_t *image, size_t len, const jffs2_how *how,
+                    jffs2_handle *handle, jffs2_fault *fault);
+
+/* Frees the mount of a handle, if it has one. It answers JFFS2_OK. */
+uint32_t jffs2_close(jffs2_handle *handle);
+
+/* The number that a path leads to. Symlinks are not followed. 10 to 12; JFFS2_CLOSED. */
+uint32_t jffs2_find(jffs2_handle *handle, const uint8_t *path, size_t path_len,
+                    uint32_t *number, jffs2_fault *fault);
+
+/* The object of a number. JFFS2_NOT_FOUND; JFFS2_CLOSED. */
+uint32_t jffs2_object(jffs2_handle *handle, uint32_t number, jffs2_stat_row *stat);
+
+/* Its bytes, as jffs2_read gives them. JFFS2_CLOSED. */
+uint32_t jffs2_read_kept(jffs2_handle *handle, uint32_t number, uint64_t offset,
+                         uint8_t *out, size_t out_len, size_t *got);
 
 /* The bytes of many objects, by one mount. Each request has the answer of jffs2_read with an `out` of
  * `length` bytes. In `out` the bytes of all requests follow one another. An object that is not there

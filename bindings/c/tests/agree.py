@@ -6,7 +6,7 @@ import re
 import sys
 
 TOP = sys.argv[1]
-BYTES = {"u32": 4, "u64": 8, "uint32_t": 4, "uint64_t": 8}
+PLAIN = {"u32": "uint32_t", "u64": "uint64_t", "bool": "_Bool", "*mut u8": "void *"}
 # what each struct is called: in jffs2.h, in Rattle, in Rust, in Python
 STRUCTS = {
     "jffs2_how": ("How", "How", "_How"),
@@ -22,9 +22,11 @@ STRUCTS = {
     "jffs2_target": ("Target", "Target", "_Target"),
     "jffs2_file": ("FileRow", "FileRow", "_FileRow"),
     "jffs2_written": ("Written", "Written", "_Written"),
+    "jffs2_handle": ("Handle", "Handle", "_Handle"),
 }
 # the modules of crates/jcalls that have them
-ROWS_IN = ("how", "told", "rows", "finding_row", "node_row", "given", "working", "appending")
+ROWS_IN = [f"jcalls/src/{it}" for it in ("how", "told", "rows", "finding_row", "node_row", "given", "working", "appending")]
+ROWS_IN.append("jheld/src/held")
 RATTLE = {rattle: header for header, (rattle, _, _) in STRUCTS.items()}
 RUST = {rust: header for header, (_, rust, _) in STRUCTS.items()}
 
@@ -40,7 +42,7 @@ def text_of(*paths):
 def header_structs(text):
     found = {}
     for body, name in re.findall(r"typedef struct \w+ \{(.*?)\} (\w+);", text, re.S):
-        found[name] = [(field, kind) for kind, field in re.findall(r"(\w+) (\w+);", body)]
+        found[name] = [(field, kind.strip()) for kind, field in re.findall(r"(void \*|\w+ )(\w+);", body)]
     return found
 
 
@@ -50,8 +52,8 @@ def rust_structs(text, names):
         if name not in names:
             continue
         fields = []
-        for field, kind in re.findall(r"pub (\w+): ([^,\n]+),", body):
-            kind = names.get(kind.split("::")[-1], {"u32": "uint32_t", "u64": "uint64_t"}.get(kind, kind))
+        for field, kind in re.findall(r"pub(?:\(crate\))? (\w+): ([^,\n]+),", body):
+            kind = names.get(kind.split("::")[-1], PLAIN.get(kind, kind))
             array = re.match(r"\[u64; (\d+)\]", kind)
             fields += [(f"{field}_{i}", "uint64_t") for i in range(int(array[1]))] if array else [(field, kind)]
         found[names[name]] = fields
@@ -76,7 +78,7 @@ def header_calls(text):
 
 def rattle_kinds(kind):
     """What a parameter of an export is in C."""
-    lent = re.match(r"&(mut )?(.*)", kind)
+    lent = re.match(r"&(?:'static )?(mut )?(.*)", kind)
     if kind == "Global":
         return []
     if not lent:
@@ -84,7 +86,7 @@ def rattle_kinds(kind):
     const, inner = "" if lent[1] else "const ", lent[2]
     many = re.match(r"\[(\w+)\]", inner)
     inner = many[1] if many else inner
-    word = {"u8": "uint8_t", "usize": "size_t"}.get(inner) or RATTLE[inner]
+    word = {"u8": "uint8_t", "u32": "uint32_t", "usize": "size_t"}.get(inner) or RATTLE[inner]
     return [f"{const}{word}*", *(["size_t"] if many else [])]
 
 
@@ -122,13 +124,13 @@ def python_sizes(structs):
         yield name, len(taken), len(header_calls(text_of("bindings/c/jffs2.h"))[name])
 
 
-kinds = {"uint32_t": ctypes.c_uint32, "uint64_t": ctypes.c_uint64}
+kinds = {"uint32_t": ctypes.c_uint32, "uint64_t": ctypes.c_uint64, "_Bool": ctypes.c_bool, "void *": ctypes.c_void_p}
 
 
 def main():
     header = text_of("bindings/c/jffs2.h")
     structs, calls = header_structs(header), header_calls(header)
-    rattle = text_of(*(f"crates/jcalls/src/{it}.rt" for it in ROWS_IN))
+    rattle = text_of(*(f"crates/{it}.rt" for it in ROWS_IN))
     rust = text_of("bindings/rust/src/sys.rs", "bindings/rust/src/lib.rs")
     pairs = [("calls of crates/jffs2_c", rattle_calls(text_of("crates/jffs2_c/src/lib.rt")), calls)]
     pairs += [("calls of bindings/rust", rust_calls(rust), calls)]

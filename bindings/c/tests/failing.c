@@ -36,7 +36,7 @@ void rattle_dealloc(void *p) {
 static uint8_t image[1 << 17], out[1 << 17], small[1 << 17];
 static jffs2_entry rows[100];
 static const char *names_of_calls[] = {"stat",       "read",    "tree", "decompress", "compress", "tree_text",
-                                       "check_text", "compact", "cuts", "append",     "update"};
+                                       "check_text", "compact", "cuts", "append",     "update", "open"};
 
 enum { CALLS = sizeof names_of_calls / sizeof *names_of_calls };
 static const char listing[] = "time 1\nmkdir 0755 /new\nfile 0644 /new/file x\n";
@@ -47,6 +47,19 @@ static int untouched(const void *at, size_t len) {
     for (size_t i = 0; i < len; i++)
         if (((const uint8_t *)at)[i] != 7) return 0;
     return 1;
+}
+
+/* a mount is kept, read and closed; what does not open leaves the handle closed */
+static uint32_t open_and_close(size_t len, const jffs2_how *how) {
+    jffs2_handle handle = {NULL, 0};
+    jffs2_fault fault;
+    uint32_t number = 0;
+    size_t got;
+    uint32_t status = jffs2_open(small, len, how, &handle, &fault);
+    if (!status) status = jffs2_find(&handle, (const uint8_t *)"/etc/passwd", 11, &number, &fault);
+    if (!status) status = jffs2_read_kept(&handle, number, 0, out, sizeof out, &got);
+    jffs2_close(&handle);
+    return status;
 }
 
 static uint32_t call(int which, size_t len, const jffs2_how *how, size_t plain_len) {
@@ -74,6 +87,7 @@ static uint32_t call(int which, size_t len, const jffs2_how *how, size_t plain_l
     if (which == 10)
         return jffs2_update(image, len, how, &target, 1, text, text_len, content, sizeof content, files, 1, out,
                             sizeof out, (jffs2_written *)rows, &fault);
+    if (which == 11) return open_and_close(plain_len, how);
     return jffs2_compress(small, plain_len, how, out, sizeof out, &got, &fault);
 }
 

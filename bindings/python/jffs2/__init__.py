@@ -20,10 +20,11 @@ from __future__ import annotations
 import ctypes
 import os
 import sys
+import threading
 from collections.abc import Iterable, Mapping
 from typing import Any, NamedTuple
 
-__all__ = ["Counts", "Entry", "Error", "Finding", "Image", "Info", "Node", "Stat", "Written", "crc", "info"]
+__all__ = ["Counts", "Entry", "Error", "Finding", "Image", "Info", "Mount", "Node", "Stat", "Written", "crc", "info"]
 
 #: The numbers of errors and their names.
 NAMES = {
@@ -48,6 +49,7 @@ NAMES = {
     31: "Refused",
     32: "Files",
     33: "NoFile",
+    34: "Closed",
 }
 _SMALL = 9
 
@@ -222,6 +224,7 @@ _Entry = _structure(
     "_Entry",
     [("directory", _U32), ("is_there", _U32), ("object", _Stat), ("name_at", _U64), ("name_len", _U64)],
 )
+_Handle = _structure("_Handle", [("at", _AT), ("is_open", ctypes.c_bool)])
 _Needed = _structure("_Needed", [("rows", _U64), ("bytes", _U64)])
 _Request = _structure(
     "_Request",
@@ -253,6 +256,11 @@ _CALLS = {
     "jffs2_nodes": [*_IMAGE, _AT, _LEN, _AT, _AT],
     "jffs2_stat": [*_IMAGE, _AT, _LEN, _AT, _AT],
     "jffs2_read": [*_IMAGE, _U32, _U64, _AT, _LEN, _AT, _AT],
+    "jffs2_open": [*_IMAGE, _AT, _AT],
+    "jffs2_close": [_AT],
+    "jffs2_find": [_AT, _AT, _LEN, _AT, _AT],
+    "jffs2_object": [_AT, _U32, _AT],
+    "jffs2_read_kept": [_AT, _U32, _U64, _AT, _LEN, _AT],
     "jffs2_read_many": [*_IMAGE, _AT, _LEN, _AT, _LEN, _AT, _AT],
     "jffs2_tree": [*_IMAGE, _AT, _LEN, _AT, _LEN, _AT, _AT],
     "jffs2_tree_text": [*_IMAGE, _AT, _LEN, _AT, _LEN, _AT, _AT],
@@ -336,6 +344,54 @@ def info(data: Any) -> Info:
     return Info(order=order, data={it: getattr(row, "data_" + it) for it in _DATA}, **fields)
 
 
+class Mount:
+    """The mount of an image, kept until `close` or the end of a `with`. `Image.mount` makes it. It is for the thread that
+    made it: in another one its methods raise RuntimeError. All methods raise Error, Closed after `close`."""
+
+    def __init__(self, image: Image) -> None:
+        fault = _Fault()
+        self._handle, self._image, self._thread = _Handle(), image, threading.get_ident()
+        _answer(image._call("jffs2_open", ctypes.byref(self._handle), ctypes.byref(fault)), fault)
+
+    def _call(self, name: str, *more: Any) -> int:
+        if threading.get_ident() != self._thread:
+            raise RuntimeError("a mount is for the thread that made it")
+        return int(getattr(_library, name)(ctypes.byref(self._handle), *more))
+
+    def find(self, path: str | bytes) -> int:
+        """The number of the object that a path leads to. Symlinks are not followed. BadPath, NotFound, NotDirectory."""
+        number, fault = _U32(), _Fault()
+        at, length, _kept = _lent(os.fsencode(path))
+        _answer(self._call("jffs2_find", at, length, ctypes.byref(number), ctypes.byref(fault)), fault)
+        return number.value
+
+    def object(self, number: int) -> Stat:
+        """The object of a number. NotFound."""
+        row = _Stat()
+        _answer(self._call("jffs2_object", number, ctypes.byref(row)), _Fault())
+        return _tuple(row, Stat)
+
+    def read_at(self, number: int, offset: int, size: int) -> bytes:
+        """Bytes of an object, as `Image.read_at` gives them."""
+        out, got = ctypes.create_string_buffer(size or 1), _LEN()
+        _answer(self._call("jffs2_read_kept", number, offset, out, size, ctypes.byref(got)), _Fault())
+        return out.raw[: got.value]
+
+    def close(self) -> None:
+        """Frees the mount. A mount that is closed stays so."""
+        self._call("jffs2_close")
+
+    def __enter__(self) -> Mount:
+        return self
+
+    def __exit__(self, *_: object) -> None:
+        self.close()
+
+    def __del__(self) -> None:
+        if threading.get_ident() == self._thread:
+            self.close()
+
+
 class Image:
     """An image in memory, with the size of its erase blocks and its byte order, which it does not record.
 
@@ -391,6 +447,11 @@ class Image:
         out, got, fault = ctypes.create_string_buffer(size or 1), _LEN(), _Fault()
         _answer(self._call("jffs2_read", number, offset, out, size, ctypes.byref(got), ctypes.byref(fault)), fault)
         return out.raw[: got.value]
+
+    def mount(self) -> Mount:
+        """Mounts it and keeps the mount, so that further calls need not mount again. Compressed data are refused,
+        whatever `through` is: decompress the image first. An error because the image does not mount."""
+        return Mount(self)
 
     def read_many(self, wanted: Iterable[tuple[int, int, int]]) -> list[bytes]:
         """The bytes of many objects by one mount: for each (number, offset, size) the answer of `read_at`, in the same

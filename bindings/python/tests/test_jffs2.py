@@ -3,6 +3,7 @@
 Run as python3 -m unittest discover -s tests, with the module installed, or PYTHONPATH=. and JFFS2_LIB."""
 
 import os
+import threading
 import unittest
 
 import jffs2
@@ -44,6 +45,24 @@ class Calls(unittest.TestCase):
         self.assertEqual(self.image.read_at(number, 5, 4), b"x:0:")
         self.assertEqual(self.image.read_at(number, 1000, 4), b"")
         self.assertEqual(self.image.read_at(999, 0, 4), b"")
+
+    def test_mount(self):
+        plain = jffs2.Image(self.image.decompress(), 8192)
+        with plain.mount() as mount:
+            number = mount.find("/etc/passwd")
+            self.assertEqual(mount.object(number), plain.stat("/etc/passwd"))
+            self.assertEqual(mount.read_at(number, 5, 4), b"x:0:")
+            self.refused("NotFound", mount.find, "/nothing")
+            self.refused("NotFound", mount.object, 999)
+            met = []
+            thread = threading.Thread(target=lambda: met.append(self.assertRaises(RuntimeError, mount.find, "/")))
+            thread.start()
+            thread.join()
+            self.assertEqual(met, [None])
+        self.refused("Closed", mount.find, "/")
+        self.refused("Closed", mount.read_at, number, 0, 1)
+        mount.close()
+        self.refused("Compressed", self.image.mount)
 
     def test_read_many(self):
         wanted = [(entry.number, 1, 5000) for entry in self.image.tree()]

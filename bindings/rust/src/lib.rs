@@ -503,6 +503,68 @@ pub struct Image<'a> {
     how: sys::How,
 }
 
+/// The mount of an image, kept until it is dropped. It stays in its thread.
+#[derive(Debug)]
+pub struct Mount<'a> {
+    handle: sys::Handle,
+    image: std::marker::PhantomData<&'a [u8]>,
+}
+
+impl Mount<'_> {
+    /// The number of the object that a path leads to. Symlinks are not followed.
+    ///
+    /// # Errors
+    /// `BadPath`, `NotFound`, `NotDirectory`.
+    pub fn find(&mut self, path: &[u8]) -> Result<u32, Error> {
+        let (mut number, mut fault) = (0, sys::Fault::default());
+        let status = unsafe {
+            sys::jffs2_find(
+                &mut self.handle,
+                path.as_ptr(),
+                path.len(),
+                &mut number,
+                &mut fault,
+            )
+        };
+        answer(status, fault, number)
+    }
+
+    /// The object of a number.
+    ///
+    /// # Errors
+    /// `NotFound`.
+    pub fn object(&mut self, number: u32) -> Result<Stat, Error> {
+        let mut stat = Stat::default();
+        let status = unsafe { sys::jffs2_object(&mut self.handle, number, &mut stat) };
+        answer(status, sys::Fault::default(), stat)
+    }
+
+    /// Reads bytes of an object, as `Image::read_at` does.
+    ///
+    /// # Errors
+    /// None while the mount is there.
+    pub fn read_at(&mut self, number: u32, offset: u64, out: &mut [u8]) -> Result<usize, Error> {
+        let mut got = 0;
+        let status = unsafe {
+            sys::jffs2_read_kept(
+                &mut self.handle,
+                number,
+                offset,
+                out.as_mut_ptr(),
+                out.len(),
+                &mut got,
+            )
+        };
+        answer(status, sys::Fault::default(), got)
+    }
+}
+
+impl Drop for Mount<'_> {
+    fn drop(&mut self) {
+        unsafe { sys::jffs2_close(&mut self.handle) };
+    }
+}
+
 impl<'a> Image<'a> {
     /// An image with erase blocks of `block` bytes, in a byte order. This call reads nothing of it.
     pub fn new(bytes: &'a [u8], block: u32, order: Order) -> Self {
@@ -619,6 +681,32 @@ impl<'a> Image<'a> {
             )
         };
         answer(status, fault, got)
+    }
+
+    /// Mounts it and keeps the mount, so that further calls need not mount again. Compressed data
+    /// are refused, whatever `through` says: decompress the image first.
+    ///
+    /// # Errors
+    /// That it does not mount.
+    pub fn mount(&self) -> Result<Mount<'a>, Error> {
+        let mut mount = Mount {
+            handle: sys::Handle {
+                at: std::ptr::null_mut(),
+                is_open: false,
+            },
+            image: std::marker::PhantomData,
+        };
+        let mut fault = sys::Fault::default();
+        let status = unsafe {
+            sys::jffs2_open(
+                self.bytes.as_ptr(),
+                self.bytes.len(),
+                &self.how,
+                &mut mount.handle,
+                &mut fault,
+            )
+        };
+        answer(status, fault, mount)
     }
 
     /// The bytes of many objects by one mount, in the order in which they are asked for: of each as

@@ -28,6 +28,13 @@ pub struct Entry {
 }
 
 #[repr(C)]
+#[derive(Debug)]
+pub struct Handle {
+    pub at: *mut u8,
+    pub is_open: bool,
+}
+
+#[repr(C)]
 #[derive(Clone, Copy, Default)]
 pub struct Needed {
     pub rows: u64,
@@ -122,6 +129,30 @@ extern "C" {
         out_len: usize,
         got: *mut usize,
         fault: *mut Fault,
+    ) -> u32;
+    pub fn jffs2_open(
+        image: *const u8,
+        len: usize,
+        how: *const How,
+        handle: *mut Handle,
+        fault: *mut Fault,
+    ) -> u32;
+    pub fn jffs2_close(handle: *mut Handle) -> u32;
+    pub fn jffs2_find(
+        handle: *mut Handle,
+        path: *const u8,
+        path_len: usize,
+        number: *mut u32,
+        fault: *mut Fault,
+    ) -> u32;
+    pub fn jffs2_object(handle: *mut Handle, number: u32, stat: *mut crate::Stat) -> u32;
+    pub fn jffs2_read_kept(
+        handle: *mut Handle,
+        number: u32,
+        offset: u64,
+        out: *mut u8,
+        out_len: usize,
+        got: *mut usize,
     ) -> u32;
     pub fn jffs2_read_many(
         image: *const u8,

@@ -44,6 +44,23 @@ fn reads() {
 }
 
 #[test]
+fn keeps_a_mount() {
+    let bytes = data();
+    let plain = image(&bytes).decompress().unwrap();
+    let image = Image::new(&plain, 8192, Order::Little);
+    let mut mount = image.mount().unwrap();
+    let number = mount.find(b"/etc/passwd").unwrap();
+    assert_eq!(mount.object(number), image.stat(b"/etc/passwd"));
+    let mut out = [7; 6];
+    assert_eq!(mount.read_at(number, 26, &mut out), Ok(4));
+    assert_eq!(&out, b"/sh\n\x07\x07");
+    assert_eq!(mount.find(b"/nothing"), Err(Error::NotFound));
+    assert_eq!(mount.object(999), Err(Error::NotFound));
+    let packed = Image::new(&bytes, 8192, Order::Little).through(true);
+    assert!(matches!(packed.mount(), Err(Error::Compressed { .. })));
+}
+
+#[test]
 fn reads_many() {
     let bytes = data();
     let image = image(&bytes);

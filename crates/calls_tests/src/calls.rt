@@ -10,7 +10,7 @@ use jcalls::{
 };
 use std::alloc::Global;
 
-const NO_STAT: Stat = Stat {
+pub(crate) const NO_STAT: Stat = Stat {
     number: 0,
     mode: 0,
     uid: 0,

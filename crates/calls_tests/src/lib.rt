@@ -12,6 +12,8 @@ mod compacts;
 #[cfg(test)]
 mod images;
 #[cfg(test)]
+mod keeps;
+#[cfg(test)]
 mod texts;
 #[cfg(test)]
 mod updates;

@@ -12,7 +12,7 @@ pub(crate) const TARGET: Target = Target {
     page: 4096,
 };
 
-/// Two files, `x` and `yy`, with the bytes `hello` and `other`.
+/// Files `x` and `yy`, with the bytes `hello` and `other`, and another `yy`, which does not count.
 const BYTES: &[u8] = b"xhelloyyother";
 
 const ROWS: &[FileRow] = &[
@@ -27,6 +27,12 @@ const ROWS: &[FileRow] = &[
         name_len: 2,
         at: 8,
         length: 5,
+    },
+    FileRow {
+        name_at: 6,
+        name_len: 2,
+        at: 1,
+        length: 4,
     },
 ];
 

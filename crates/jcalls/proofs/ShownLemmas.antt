@@ -33,6 +33,15 @@ root_by false e size image s shows = subst (λ t. is_directory t 1 ≡ true) sho
 pub shown_root : (how : How) (image : List ℕ) (s : State) → Shows how image s → is_directory s 1 ≡ true
 shown_root how image s shows = root_by (is_through how) (asked_order how) how.block image s shows
 
+-- the same of what an image shows by its own nodes
+pub plain_fails : (e : Endian) (size : ℕ) (image : List ℕ) (s : State) (told : Told) → ShowsBy false e size image s → told ≡ told_at 7 0 0 → 0 < told.status → told.status ≢ 9
+    → IsDueFault (RefusesBy false e size image) told
+plain_fails e size image s told shows same is other = record {
+  is = is;
+  other = other;
+  due = subst (λ t. RefusesBy false e size image t) (sym same) (no_memory_by false e size image s shows);
+}
+
 -- ---- what a path leads to in it
 
 pub stats_by : (how : How) (image path : List ℕ) (s : State) (r : Result Stat Told) → Shows how image s → IfOk r (LeadsToRow s path) → IfOk r (Stats how image path)

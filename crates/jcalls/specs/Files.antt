@@ -1,6 +1,10 @@
 -- Files in memory of the caller, that a listing names.
-use Rattle.std.specs.Prelude.{◌≡◌, ℕ, ◌+◌, ◌&&◌, Bool, nat_le, IsTrue, IsFalse, All, List, [], ◌∷◌, length, take, drop, slice_get, bytes_eq, Option, Some, None, if◌then◌else◌}
+use Rattle.std.specs.Prelude.{◌≡◌, ℕ, ◌+◌, ◌&&◌, Bool, nat_le, IsTrue, IsFalse, All, List, [], ◌∷◌, length, take, drop, slice_get, bytes_eq, Option, Some, None, option_map, if◌then◌else◌}
+use Rattle.std.specs.Borrow.{Bor}
+use Rattle.std.specs.BTreeMap.{BTreeMap, get_by}
+use Rattle.std.specs.Cmp.Lexicographic.{slice_cmp}
 use Rattle.std.specs.Option.{option_map_or}
+use Rattle.std.specs.Ordering.{nat_cmp}
 use Rattle.jcalls.specs.Told.{told_at, told_number}
 use Rattle.jcalls.specs.declared.given.FileRow.{FileRow}
 use Rattle.jcalls.specs.declared.told.Told.{Told}
@@ -29,6 +33,12 @@ file_in bytes (row ∷ rows) name =
 -- the same; one that is not there has none
 abbrev pub bytes_named : List ℕ → List FileRow → List ℕ → List ℕ
 bytes_named bytes rows name = option_map_or (λ content. content) (file_in bytes rows name) []
+
+-- under the name of each file the bytes of the first one of that name are held
+abbrev pub HoldsFiles : List ℕ → List FileRow → BTreeMap (Bor (List ℕ)) (Bor (List ℕ)) → Type 0
+HoldsFiles bytes rows held = (name : List ℕ)
+    → option_map (λ content. content.now) (get_by (λ k. slice_cmp nat_cmp name k.now) held)
+    ≡ file_in bytes rows name
 
 -- the first row that is not within is told by its index
 pub record RowsRefused (len : ℕ) (rows : List FileRow) (told : Told) : Type 0 where

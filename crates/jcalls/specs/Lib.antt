@@ -7,6 +7,7 @@ pub mod Files
 pub mod Filling
 pub mod FindingRows
 pub mod InfoRows
+pub mod Keeping
 pub mod Looking
 pub mod Made
 pub mod Many

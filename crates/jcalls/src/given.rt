@@ -1,8 +1,8 @@
 //! Files in memory of the caller, that a listing names.
 
-ghost use Rattle.std.specs.Prelude.{◌≡◌, ◌+◌, nat_le, IsFalse, IsTrue, OnOk, IfErr, length, option_map};
+ghost use Rattle.std.specs.Prelude.{◌≡◌, ◌+◌, nat_le, IsFalse, IsTrue, OnOk, IfErr, length};
 ghost use Rattle.jcalls.specs.Files as files;
-ghost use Rattle.jcalls.specs.Files.{AreWithin, RowsRefused, bytes_named, bytes_in_row, file_in, is_row_within, name_in};
+ghost use Rattle.jcalls.specs.Files.{AreWithin, RowsRefused, bytes_in_row, is_row_within, name_in};
 ghost use Rattle.jcalls.specs.Shown.{IsDueFault};
 
 use crate::told::{Told, row_told};
@@ -53,7 +53,7 @@ pub(crate) fn judge_rows(length: usize, rows: &[FileRow]) -> Result<(), Told>
 }
 
 /// The name of a file.
-fn name_in(bytes: &[u8], row: FileRow) -> &[u8]
+pub(crate) fn name_in(bytes: &[u8], row: FileRow) -> &[u8]
     requires { IsTrue (files.is_row_within (length bytes.now) row) }
     ensures { result.now ≡ name_in bytes.now row }
 {
@@ -61,34 +61,9 @@ fn name_in(bytes: &[u8], row: FileRow) -> &[u8]
 }
 
 /// Its bytes.
-fn bytes_in_row(bytes: &[u8], row: FileRow) -> &[u8]
+pub(crate) fn bytes_in_row(bytes: &[u8], row: FileRow) -> &[u8]
     requires { IsTrue (files.is_row_within (length bytes.now) row) }
     ensures { result.now ≡ bytes_in_row bytes.now row }
 {
     &bytes[row.at as usize..][..row.length as usize]
-}
-
-/// The bytes of the first file of a name, if there is one.
-pub(crate) fn file_in<'a>(files: Files<'a>, name: &[u8]) -> Option<&'a [u8]>
-    requires { AreWithin (length files.bytes.now) files.rows.now }
-    ensures { option_map (λ content. content.now) result
-        ≡ file_in files.entry.bytes.now files.entry.rows.now name.now }
-{
-    for row in files.rows {
-        if name_in(files.bytes, *row) == name {
-            return Some(bytes_in_row(files.bytes, *row));
-        }
-    }
-    None
-}
-
-/// The same; a file that is not there has none.
-pub(crate) fn bytes_named<'a>(files: Files<'a>, name: &[u8]) -> &'a [u8]
-    requires { AreWithin (length files.bytes.now) files.rows.now }
-    ensures { result.now ≡ bytes_named files.entry.bytes.now files.entry.rows.now name.now }
-{
-    match file_in(files, name) {
-        Some(content) => content,
-        None => &[],
-    }
 }

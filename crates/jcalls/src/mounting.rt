@@ -14,7 +14,7 @@ use jthrough::mount_through;
 use std::alloc::Global;
 
 /// That of its nodes.
-fn mount_plain<'a, E: Order>(
+pub(crate) fn mount_plain<'a, E: Order>(
     alloc: Global,
     image: &'a [u8],
     block: u32,

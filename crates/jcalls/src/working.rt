@@ -3,12 +3,13 @@
 ghost use Rattle.std.specs.Prelude.{◌≡◌, [], Some, Ok, IfOk, IfErr, OnOk, length, map};
 ghost use Rattle.jlisting.specs.Listing.{file_of, lines_of};
 ghost use Rattle.jbuild.specs.Operations.{op_in, ops_in};
-ghost use Rattle.jcalls.specs.Files.{AreWithin, bytes_named};
+ghost use Rattle.jcalls.specs.Files.{bytes_named};
 ghost use Rattle.jcalls.specs.Shown.{IsDueFault};
 ghost use Rattle.jcalls.specs.Works as works;
 ghost use Rattle.jcalls.specs.Works.{AreOpsOf, OpsRefused, PageRefused, TextRefused, flash_by, listed_with, page_with};
 
-use crate::given::{Files, bytes_named, file_in, judge_rows};
+use crate::given::{Files, judge_rows};
+use crate::named::ByName;
 use crate::told::{Told, missing_told, no_memory, page_told, told_of_listing};
 use jlisting::{Line, listing};
 use jlog::Flash;
@@ -86,27 +87,26 @@ fn lines_of<'a>(alloc: Global, text: &'a [u8]) -> Result<Vec<Line<'a>>, Told>
 }
 
 /// Whether the file that a line names is given, if it names one.
-fn is_file_given(line: &Line<'_>, files: Files<'_>) -> bool
-    requires { AreWithin (length files.bytes.now) files.rows.now }
+fn is_file_given(line: &Line<'_>, named: &ByName<'_>) -> bool
     ensures { result ≡ works.is_file_given
-        (listed_with [] files.entry.bytes.now files.entry.rows.now) (file_of line.now.action) }
+        (listed_with [] named.now.files.bytes.now named.now.files.rows.now)
+        (file_of line.now.action) }
 {
     match line.action.file() {
-        Some(name) => file_in(files, name.as_bytes()).is_some(),
+        Some(name) => named.file(name.as_bytes()).is_some(),
         None => true,
     }
 }
 
 /// Whether all files that lines name are given.
-fn judge_lines(lines: &[Line<'_>], files: Files<'_>) -> Result<(), Told>
-    requires { AreWithin (length files.bytes.now) files.rows.now }
+fn judge_lines(lines: &[Line<'_>], named: &ByName<'_>) -> Result<(), Told>
     ensures ok { OnOk result (works.AreGiven
-        (listed_with [] files.entry.bytes.now files.entry.rows.now) lines.now) }
+        (listed_with [] named.now.files.bytes.now named.now.files.rows.now) lines.now) }
     ensures err { IfErr result (IsDueFault (works.FileMissing
-        (listed_with [] files.entry.bytes.now files.entry.rows.now) lines.now)) }
+        (listed_with [] named.now.files.bytes.now named.now.files.rows.now) lines.now)) }
 {
     for i in 0..lines.len() {
-        if !is_file_given(&lines[i], files) {
+        if !is_file_given(&lines[i], named) {
             return Err(missing_told(lines[i].number));
         }
     }
@@ -114,13 +114,12 @@ fn judge_lines(lines: &[Line<'_>], files: Files<'_>) -> Result<(), Told>
 }
 
 /// The operation of a line.
-fn operation<'a, E: Order>(line: Line<'a>, files: Files<'a>) -> Op<'a>
-    requires { AreWithin (length files.bytes.now) files.rows.now }
-    ensures { result ≡ op_in E.order (bytes_named files.entry.bytes.now files.entry.rows.now)
-        line.entry }
+fn operation<'a, E: Order>(line: Line<'a>, named: &ByName<'a>) -> Op<'a>
+    ensures { result ≡ op_in E.order
+        (bytes_named named.now.files.bytes.now named.now.files.rows.now) line.entry }
 {
     let bytes: &[u8] = match line.action.file() {
-        Some(name) => bytes_named(files, name.as_bytes()),
+        Some(name) => named.bytes(name.as_bytes()),
         None => &[],
     };
     line.action.op::<E>(bytes)
@@ -130,16 +129,15 @@ fn operation<'a, E: Order>(line: Line<'a>, files: Files<'a>) -> Op<'a>
 fn operations<'a, E: Order>(
     alloc: Global,
     lines: Vec<Line<'a>>,
-    files: Files<'a>,
+    named: &ByName<'a>,
 ) -> Result<Vec<Op<'a>>, AllocError>
-    requires { AreWithin (length files.bytes.now) files.rows.now }
     ensures { IfOk result (λ ops. ops.items
-        ≡ ops_in E.order (bytes_named files.entry.bytes.now files.entry.rows.now)
+        ≡ ops_in E.order (bytes_named named.now.files.bytes.now named.now.files.rows.now)
         lines.entry.items) }
 {
     let mut ops = Vec::with_capacity(alloc, lines.len())?;
     for line in lines {
-        ops.push(operation::<E>(line, files))?;
+        ops.push(operation::<E>(line, named))?;
     }
     Ok(ops)
 }
@@ -155,17 +153,16 @@ fn numbers_of(alloc: Global, lines: &[Line<'_>]) -> Result<Vec<usize>, AllocErro
 fn planned_by<'a, E: Order>(
     alloc: Global,
     lines: Vec<Line<'a>>,
-    files: Files<'a>,
+    named: &ByName<'a>,
 ) -> Result<Planned<'a>, AllocError>
-    requires { AreWithin (length files.bytes.now) files.rows.now }
     ensures ops { IfOk result (λ planned. planned.ops.items
-        ≡ ops_in E.order (bytes_named files.entry.bytes.now files.entry.rows.now)
+        ≡ ops_in E.order (bytes_named named.now.files.bytes.now named.now.files.rows.now)
         lines.entry.items) }
     ensures numbers { IfOk result
         (λ planned. planned.numbers.items ≡ map (λ line. line.number) lines.entry.items) }
 {
     let numbers = numbers_of(alloc, &lines)?;
-    let ops = operations::<E>(alloc, lines, files)?;
+    let ops = operations::<E>(alloc, lines, named)?;
     Ok(Planned { ops, numbers })
 }
 
@@ -188,10 +185,14 @@ pub(crate) fn plan<'a, E: Order>(
         Ok(lines) => lines,
         Err(told) => return Err(told),
     };
-    if let Err(told) = judge_lines(&lines, files) {
+    let named = match ByName::of(alloc, files) {
+        Ok(named) => named,
+        Err(AllocError) => return Err(no_memory()),
+    };
+    if let Err(told) = judge_lines(&lines, &named) {
         return Err(told);
     }
-    match planned_by::<E>(alloc, lines, files) {
+    match planned_by::<E>(alloc, lines, &named) {
         Ok(planned) => Ok(planned),
         Err(AllocError) => Err(no_memory()),
     }

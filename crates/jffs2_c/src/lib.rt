@@ -2,10 +2,11 @@
 //! is one of `jcalls`, with its clauses; bindings/c/jffs2.h declares them.
 #![tactic(auto)]
 
-ghost use Rattle.std.specs.Prelude.{◌≡◌, ◌≢◌, ◌<◌, ◌↔◌, ◌⊎◌, length};
+ghost use Rattle.std.specs.Prelude.{◌≡◌, ◌≢◌, ◌<◌, ◌↔◌, ◌⊎◌, false, true, Ok, length};
 ghost use Rattle.flashbase.specs.Crc.{crc_of};
 ghost use Rattle.jscan.specs.Image.{greatest_image};
 ghost use Rattle.jinfo.specs.Infos.{info_of};
+ghost use Rattle.jmount.specs.Find as walk;
 ghost use Rattle.jmount.specs.Tree.{State};
 ghost use Rattle.jcalls.specs.Appending.{AppendRefused, GivesAppended, NeedsForAppended};
 ghost use Rattle.jcalls.specs.Asked.{asked_order, is_asked};
@@ -15,19 +16,20 @@ ghost use Rattle.jcalls.specs.Cutting.{AreCutsAsked, CutsRefused};
 ghost use Rattle.jcalls.specs.Filling.{GivesRows, NeedsForRows};
 ghost use Rattle.jcalls.specs.FindingRows.{finding_rows};
 ghost use Rattle.jcalls.specs.InfoRows.{info_row};
-ghost use Rattle.jcalls.specs.Looking.{Stats, StatRefused, ReadsAt, GivesTree, NeedsForTree};
+ghost use Rattle.jcalls.specs.Keeping.{IsObjectOf, LacksObject, StaysAs};
+ghost use Rattle.jcalls.specs.Looking.{LeadsNowhere, Stats, StatRefused, ReadsAt, GivesTree, NeedsForTree};
 ghost use Rattle.jcalls.specs.Made.{IsDecompressed, IsCompressed, DecompressRefused, CompressRefused, GivesMade, NeedsForMade};
 ghost use Rattle.jcalls.specs.Many.{GivesMany, NeedsForMany};
 ghost use Rattle.jcalls.specs.NodeRows.{node_rows};
-ghost use Rattle.jcalls.specs.Shown.{Shows, ShowsNone};
+ghost use Rattle.jcalls.specs.Shown.{RefusesBy, Shows, ShowsBy, ShowsNone};
 ghost use Rattle.jcalls.specs.Texts.{IsListing, IsReport, ReportRefused};
 ghost use Rattle.jcalls.specs.Told.{told_by};
 ghost use Rattle.jcalls.specs.Updating.{GivesUpdated, NeedsForUpdated, UpdateRefused};
 ghost use Rattle.jcalls.specs.Works.{listed_with};
 
 use jcalls::{
-    Counted, DeviceWork, Entry, Fault, FileRow, Files, FindingRow, How, InfoRow, Needed, NodeRow,
-    Place, Request, Stat, Target, Work, Written,
+    Counted, DeviceWork, Entry, Fault, FileRow, Files, FindingRow, Handle, How, InfoRow, Needed,
+    NodeRow, Place, Request, Stat, Target, Work, Written,
 };
 use std::alloc::Global;
 
@@ -447,4 +449,97 @@ pub extern "C" fn jffs2_update(
         written,
         fault,
     )
+}
+
+/// Mounts an image and keeps the mount in a handle until it is closed. The image has to stay as it
+/// is until then.
+#[unsafe(no_mangle)]
+pub extern "C" fn jffs2_open(
+    alloc: Global,
+    image: &'static [u8],
+    how: &How,
+    handle: &mut Handle,
+    fault: &mut Fault,
+) -> u32
+    ensures opened { result ≡ 0 → handle.new.is_open ≡ true }
+    ensures done { result ≡ 0 → ShowsBy false (asked_order how.now) how.now.block image.now
+        handle.new.value.state }
+    ensures refused { result ≢ 0 → RefusesBy false (asked_order how.now) how.now.block image.now
+        (told_by result fault.new) }
+    ensures kept { result ≢ 0 → handle.new ≡ handle.old }
+    ensures quiet { result ≡ 0 → fault.new ≡ fault.old }
+{
+    jcalls::open(alloc, image, *how, handle, fault)
+}
+
+/// Drops the mount of a handle, if it has one.
+#[unsafe(no_mangle)]
+pub extern "C" fn jffs2_close(alloc: Global, handle: &mut Handle) -> u32
+    ensures closed { handle.new.is_open ≡ false }
+    ensures done { result ≡ 0 }
+{
+    jcalls::close(alloc, handle)
+}
+
+/// The number that a path leads to in a mount that is kept.
+#[unsafe(no_mangle)]
+pub extern "C" fn jffs2_find(
+    alloc: Global,
+    handle: &mut Handle,
+    path: &[u8],
+    number: &mut u32,
+    fault: &mut Fault,
+) -> u32
+    ensures open { result ≡ 0 → handle.old.is_open ≡ true }
+    ensures done { result ≡ 0 → walk.find handle.old.value.state path.now ≡ Ok number.new }
+    ensures closed { handle.old.is_open ≡ false → result ≡ 34 }
+    ensures refused { result ≢ 0 → handle.old.is_open ≡ true
+        → LeadsNowhere handle.old.value.state path.now (told_by result fault.new) }
+    ensures stays { StaysAs handle.old handle.new }
+    ensures kept { result ≢ 0 → number.new ≡ number.old }
+    ensures quiet { result ≡ 0 → fault.new ≡ fault.old }
+{
+    jcalls::find(alloc, handle, path, number, fault)
+}
+
+/// The object of a number.
+#[unsafe(no_mangle)]
+pub extern "C" fn jffs2_object(
+    alloc: Global,
+    handle: &mut Handle,
+    number: u32,
+    row: &mut Stat,
+) -> u32
+    ensures open { result ≡ 0 → handle.old.is_open ≡ true }
+    ensures done { result ≡ 0 → IsObjectOf handle.old.value.state number row.new }
+    ensures closed { handle.old.is_open ≡ false → result ≡ 34 }
+    ensures refused { result ≢ 0 → handle.old.is_open ≡ true
+        → (result ≡ 11) × LacksObject handle.old.value.state number }
+    ensures stays { StaysAs handle.old handle.new }
+    ensures kept { result ≢ 0 → row.new ≡ row.old }
+{
+    jcalls::object(alloc, handle, number, row)
+}
+
+/// The bytes of an object from an offset on, as many as there is room for.
+#[unsafe(no_mangle)]
+pub extern "C" fn jffs2_read_kept(
+    alloc: Global,
+    handle: &mut Handle,
+    number: u32,
+    offset: u64,
+    out: &mut [u8],
+    got: &mut usize,
+) -> u32
+    ensures open { result ≡ 0 → handle.old.is_open ≡ true }
+    ensures done { result ≡ 0
+        → ReadsAt handle.old.value.state number offset out.old out.new got.new }
+    ensures closed { handle.old.is_open ≡ false → result ≡ 34 }
+    ensures no_other { result ≢ 0 → handle.old.is_open ≡ false }
+    ensures stays { StaysAs handle.old handle.new }
+    ensures kept { result ≢ 0 → out.new ≡ out.old }
+    ensures got_kept { result ≢ 0 → got.new ≡ got.old }
+{
+    let place = Place { number, offset };
+    jcalls::read_kept(alloc, handle, place, out, got)
 }

@@ -6,8 +6,8 @@ use Rattle.jcalls.proofs.working.judge_lines.Goals as goal
 
 pub loop-i-preserved : goal.loop-i-preserved
 loop-i-preserved c =
-    given_more (listed_with [] c.args.files.bytes.now c.args.files.rows.now) c.args.lines.now c.loop-i.i c.index-lines-i.result c.index-lines-i.is c.loop-i-test.true c.loop-i.invariant (sym c.is_file_given.ensures ∙ c.if-not-is_file_given.false)
+    given_more (listed_with [] c.args.named.now.files.bytes.now c.args.named.now.files.rows.now) c.args.lines.now c.loop-i.i c.index-lines-i.result c.index-lines-i.is c.loop-i-test.true c.loop-i.invariant (sym c.is_file_given.ensures ∙ c.if-not-is_file_given.false)
 
 pub returns-clause-ok : goal.returns-clause-ok
 returns-clause-ok c =
-    subst (λ lines. AreGiven (listed_with [] c.args.files.bytes.now c.args.files.rows.now) lines) (take_all c.loop-i.i c.args.lines.now (omega arith)) c.loop-i.invariant
+    subst (λ lines. AreGiven (listed_with [] c.args.named.now.files.bytes.now c.args.named.now.files.rows.now) lines) (take_all c.loop-i.i c.args.lines.now (omega arith)) c.loop-i.invariant

@@ -6,5 +6,5 @@ use Rattle.jcalls.proofs.working.operations.Given as goal
 
 abbrev pub invariant-loop-line : goal.invariant-loop-line
 invariant-loop-line g l =
-    l.ops.items ++ ops_in g.E.Order.order (bytes_named l.files.bytes.now l.files.rows.now) (into_iter_items l.line-iterator)
-    ≡ ops_in g.E.Order.order (bytes_named l.files.bytes.now l.files.rows.now) l.fn.lines.items
+    l.ops.items ++ ops_in g.E.Order.order (bytes_named l.named.files.bytes.now l.named.files.rows.now) (into_iter_items l.line-iterator)
+    ≡ ops_in g.E.Order.order (bytes_named l.named.files.bytes.now l.named.files.rows.now) l.fn.lines.items
