@@ -1,0 +1,17 @@
+use Rattle.std.proofs.Common.{refl}
+use Rattle.std.specs.Fmt.{digits}
+use Rattle.flashbase.specs.Bytes.{pad4_of}
+use Rattle.flashbase.specs.Crc.{crc_after, push_byte, push_bits, push_bit}
+use Rattle.jnode.specs.Order.{number_in, bytes_in}
+use Rattle.jnode.specs.Header.{is_good, is_good_front, has_header, header_crc_of}
+use Rattle.jnode.specs.Reading.{seen_of, entry_seen, inode_seen, passed_seen, plain_seen, is_entry_long, is_crc_right, is_size_right, is_entry_in_range, is_inode_long, is_inode_in_range, is_data_crc_right}
+use Rattle.jscan.specs.Tiling.{tile_at}
+use Rattle.jscan.specs.Extents.{class_of, extents_from}
+use Rattle.jline.specs.Words.{hex}
+use Rattle.jmap.specs.NodeTexts.{entry_numbers, entry_text, version_text}
+use Rattle.jmap.specs.Picture.{block_row, rect_start, rect_text, svg_row_start}
+use Rattle.jmap.proofs.examples.entry_is_drawn.Goals as goal
+
+pub returns : goal.returns
+unfolding digits pad4_of crc_after push_byte push_bits push_bit number_in bytes_in is_good is_good_front has_header header_crc_of seen_of entry_seen inode_seen passed_seen plain_seen is_entry_long is_crc_right is_size_right is_entry_in_range is_inode_long is_inode_in_range is_data_crc_right tile_at class_of extents_from hex entry_numbers entry_text version_text block_row rect_start rect_text svg_row_start
+returns c = refl

@@ -1,0 +1,5 @@
+pub mod ByteKinds
+pub mod MapText
+pub mod NodeTexts
+pub mod Picture
+pub mod MapLaws
