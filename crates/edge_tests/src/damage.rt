@@ -220,7 +220,7 @@ say failed Busy\n",
     },
 ];
 
-fn asked(block: u32, endian: Endian) -> Examination<'static>
+fn asked(block: u32, endian: Endian) -> Examination<&'static str>
     ensures { result.options.endian ≡ endian }
 {
     Examination {
@@ -228,6 +228,7 @@ fn asked(block: u32, endian: Endian) -> Examination<'static>
             geometry: Geometry { block },
             endian,
         },
+        decompress: false,
         image: "a.img",
     }
 }

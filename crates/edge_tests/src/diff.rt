@@ -225,7 +225,7 @@ jffs2_image: P5 Output\n",
     },
 ];
 
-fn asked(block: u32, times: bool) -> Comparison<'static>
+fn asked(block: u32, times: bool) -> Comparison<&'static str>
     ensures { result.options.endian ≡ Endian.Little }
 {
     Comparison {
@@ -233,6 +233,7 @@ fn asked(block: u32, times: bool) -> Comparison<'static>
             geometry: Geometry { block },
             endian: Endian::Little,
         },
+        decompress: false,
         times,
         first: "a.img",
         second: "b.img",

@@ -19,3 +19,5 @@ mod looks;
 pub mod plan;
 #[cfg(test)]
 mod shown;
+#[cfg(test)]
+mod through;

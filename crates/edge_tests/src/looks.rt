@@ -9,7 +9,7 @@ use crate::info::IMAGE;
 use crate::plan::{Lacking, Plan, Stream};
 use crate::shown::shown;
 use byteorder::{BigEndian, LittleEndian};
-use jcommand::{Options, Outcome, status};
+use jcommand::{Check, FileContent, Options, Outcome, TreeListing, status};
 use jedge::commands::{run_cat, run_check, run_list};
 use jnode::{Endian, Order};
 use jreport::Reason;
@@ -224,7 +224,7 @@ d 0755 0 0 0 0 1 /\n\
 - 0644 0 0 2 0 2 /a\n",
         status: 0,
     },
-    // what is made of the image has the same tree
+    // through its compression an image has the same tree as decompressed
     Row {
         ask: Ask::List {
             decompress: true,
@@ -238,7 +238,7 @@ print\n\
 - 0644 0 0 2 0 2 /a\n",
         status: 0,
     },
-    // and where nothing is made of it, nothing is listed
+    // none is made, so its blocks may be smaller than those of a flash that is written
     Row {
         ask: Ask::List {
             decompress: true,
@@ -248,10 +248,10 @@ print\n\
         block: 4096,
         wanted: "open a.img\n\
 read a.img 116\n\
-say\n\
-jffs2_image: S7 Geometry\n\
-jffs2_image: note: a flash that is written has blocks of at least 8192 bytes\n",
-        status: 1,
+print\n\
+d 0755 0 0 0 0 1 /\n\
+- 0644 0 0 2 0 2 /a\n",
+        status: 0,
     },
     // the word is judged before the file is opened
     Row {
@@ -445,12 +445,34 @@ jffs2_image: P5 Output\n",
 fn runs<E: Order, R: Abort>(host: &mut MemoryHost<'_, R>, ask: Ask, options: Options) -> Outcome
     requires { options.endian ≡ E.order }
 {
+    let image = "a.img";
     match ask {
-        Ask::Check { shape } => run_check::<E, _>(host, options, shape, "a.img"),
-        Ask::List { decompress, path } => {
-            run_list::<E, _>(host, options, decompress, "a.img", path)
-        }
-        Ask::Cat { decompress, path } => run_cat::<E, _>(host, options, decompress, "a.img", path),
+        Ask::Check { shape } => run_check::<E, _>(
+            host,
+            Check {
+                options,
+                shape,
+                image,
+            },
+        ),
+        Ask::List { decompress, path } => run_list::<E, _>(
+            host,
+            TreeListing {
+                options,
+                decompress,
+                image,
+                path,
+            },
+        ),
+        Ask::Cat { decompress, path } => run_cat::<E, _>(
+            host,
+            FileContent {
+                options,
+                decompress,
+                image,
+                path,
+            },
+        ),
     }
 }
 

@@ -1,0 +1,38 @@
+-- What is refused is refused before anything is printed.
+use Rattle.std.proofs.Common.{ℕ, Bool, List, Option, Err, ap, inl, inr, refl}
+use Rattle.jnode.specs.declared.order.Endian.{Endian}
+use Rattle.jcommand.specs.declared.parsed.Options.{Options}
+use Rattle.jreport.specs.declared.faults.ProgramFault.{ProgramFault}
+use Rattle.jedge.specs.Acts.{loads, opens, reads_whole}
+use Rattle.jedge.specs.Laws.{JudgesFirst, JudgesFirstBut}
+use Rattle.jedge.specs.declared.fault.Fault.{Fault}
+use Rattle.jedge.specs.declared.fault.Fault.TheVariants as fault
+use Rattle.jedge.proofs.JudgingLemmas.{IsUnput, IsWanting, answers_silent, loads_silent, opens_silent, prints_first_but, reads_silent, then_first, then_first_but, whole_first}
+use Rattle.jinspects.specs.Inspecting.{check_through_act, map_act}
+use Rattle.jinspects.specs.InspectLaws.{CheckThrough, InspectedJudgedFirst, MapNodes}
+use Rattle.jinspects.specs.Surveying.{Surveyed}
+use Rattle.jinspects.specs.ThroughVerdict.{ChecksThrough}
+
+checks_unput : (e : Endian) (size : ℕ) (asked : Bool) (image text : List ℕ) (f : Fault) → (IsWanting f → ⊥) → ChecksThrough e size asked image text (Err f) → IsUnput f text
+checks_unput e size asked image text (fault.File file) not is = absurd is
+checks_unput e size asked image text (fault.NotRead file) not is = absurd is
+checks_unput e size asked image text (fault.NoNodes of others) not is = absurd is
+checks_unput e size asked image text (fault.NoSpace folder) not is = absurd is
+checks_unput e size asked image text (fault.Findings of findings) not is = absurd is
+checks_unput e size asked image text (fault.Refused why) not is = absurd (not (inr (ap (λ (w : ProgramFault). fault.Refused w) is.0)))
+checks_unput e size asked image text fault.Output not is = tt
+checks_unput e size asked image text fault.OutOfMemory not is = absurd (not (inl refl))
+
+check_first : (options : Options) (shape : Bool) (name : List ℕ) → JudgesFirstBut IsWanting (check_through_act options shape name)
+check_first options shape name = then_first_but IsWanting (opens name) _ (opens_silent name) (λ (opened : List ℕ).
+    then_first_but IsWanting _ _ (answers_silent _) (λ _.
+    then_first_but IsWanting (reads_whole opened) _ (reads_silent opened) (λ (image : List ℕ).
+    prints_first_but IsWanting _ (checks_unput options.endian options.geometry.block shape image))))
+
+map_first : (options : Options) (svg : Bool) (name : List ℕ) → JudgesFirst (map_act options svg name)
+map_first options svg name = then_first (loads name) _ (loads_silent name) (λ (image : List ℕ).
+    then_first _ _ (answers_silent _) (λ (others : Option ℕ). then_first _ _ (answers_silent _) (λ (s : Surveyed). whole_first _ _)))
+
+pub inspected_judged_first : InspectedJudgedFirst
+inspected_judged_first (CheckThrough options shape name) = check_first options shape name
+inspected_judged_first (MapNodes options svg name) = λ events f not is. map_first options svg name events f is

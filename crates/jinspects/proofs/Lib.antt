@@ -1,0 +1,6 @@
+pub mod InspectBlameLemmas
+pub mod InspectJudgeLemmas
+pub mod InspectLookLemmas
+pub mod PlainCheckLemmas
+pub mod SurveyLemmas
+pub mod ThroughPutLemmas

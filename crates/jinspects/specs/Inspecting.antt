@@ -1,0 +1,48 @@
+-- What each command does: read it as the manual page. The order is that of the steps.
+use Rattle.std.specs.Prelude.{ℕ, Bool, true, false, List}
+use Rattle.jnode.specs.declared.order.Endian.{Endian}
+use Rattle.jcommand.specs.declared.parsed.Options.{Options}
+use Rattle.jedge.specs.Acts.{Act, Then, Whole, answers, loads, opens, prints, reads_whole}
+use Rattle.jedge.specs.Images.{NotesNone}
+use Rattle.jedge.specs.Told.{Told}
+use Rattle.jedge.specs.Views.{HasBlockSize}
+use Rattle.jmap.specs.MapText.{map_text}
+use Rattle.jmap.specs.Picture.{picture_text}
+use Rattle.jinspects.specs.Surveying.{Surveys}
+use Rattle.jinspects.specs.ThroughVerdict.{ChecksThrough}
+
+-- ---- `check --decompress`
+
+-- The file is opened, and then the size of a block is judged; the file is read, and the report of
+-- its image and the verdict on its mount through its compression are printed.
+abbrev pub checks_through : Endian → ℕ → Bool → List ℕ → Act Told
+checks_through e size shape name =
+    Then (opens name) (λ opened.
+    Then (answers (HasBlockSize size)) (λ _.
+    Then (reads_whole opened) (λ image.
+    prints (ChecksThrough e size shape image))))
+
+abbrev pub check_through_act : Options → Bool → List ℕ → Act Told
+check_through_act options = checks_through options.endian options.geometry.block
+
+-- ---- `map`
+
+-- where the nodes of an image lie, of which these are live: as a text, or as a picture
+abbrev pub drawn : Bool → Endian → ℕ → List ℕ → List ℕ → List ℕ
+drawn false e size image live = map_text e size image live
+drawn true e size image live = picture_text e size image live
+
+-- An image is mounted through its compression, the nodes that matter are found out, and where nodes
+-- lie is printed. Nothing of the image is found; what `ls` notes of it is noted.
+abbrev pub draws : Endian → ℕ → Bool → List ℕ → Act Told
+draws e size svg image =
+    Then (answers (NotesNone e size image)) (λ others.
+    Then (answers (Surveys e size image others)) (λ survey.
+    prints (Whole (drawn svg e size image survey.live) survey.told)))
+
+-- the file is read, and that is done of its image
+abbrev pub maps : Endian → ℕ → Bool → List ℕ → Act Told
+maps e size svg name = Then (loads name) (draws e size svg)
+
+abbrev pub map_act : Options → Bool → List ℕ → Act Told
+map_act options = maps options.endian options.geometry.block

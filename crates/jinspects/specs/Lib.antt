@@ -1,0 +1,6 @@
+pub mod Live
+pub mod Refused
+pub mod ThroughVerdict
+pub mod Surveying
+pub mod Inspecting
+pub mod InspectLaws

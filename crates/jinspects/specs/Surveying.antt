@@ -1,0 +1,41 @@
+-- What `map` finds out of an image before it prints: which of its nodes matter.
+use Rattle.std.specs.Prelude.{◌≡◌, ℕ, List, Option, Result, Ok, Err}
+use Rattle.jnode.specs.declared.order.Endian.{Endian}
+use Rattle.jmount.specs.Mount.{Mount}
+use Rattle.jthrough.specs.MountsThrough.{AnswersThrough}
+use Rattle.jedge.specs.Commands.{shown_told}
+use Rattle.jedge.specs.Images.{IsViewRefused}
+use Rattle.jedge.specs.Told.{Told, found_told}
+use Rattle.jedge.specs.declared.fault.Fault.{Fault}
+use Rattle.jedge.specs.declared.fault.Fault.TheVariants as fault
+use Rattle.jinspects.specs.Live.{AreLive}
+use Rattle.jinspects.specs.declared.survey.Survey.{Survey}
+
+-- where the nodes of an image lie that matter, and what is told beside its map
+pub record Surveyed : Type 0 where
+  pub live : List ℕ
+  pub told : Told
+
+abbrev pub surveyed : Survey → Surveyed
+surveyed survey = record { live = survey.live.items; told = found_told survey.found }
+
+-- an image mounts through its compression, these of its nodes matter, and this is told of it
+pub record IsSurveyOf (e : Endian) (size : ℕ) (image : List ℕ) (others : Option ℕ) (s : Surveyed)
+    : Type 0 where
+  pub mount : Mount
+  pub mounts : AnswersThrough e size image (Ok mount)
+  pub live : AreLive e size image s.live
+  pub told : s.told ≡ shown_told others mount
+
+-- Such a survey; or this says why the image does not mount so. Memory may run out behind the mount.
+abbrev pub Surveys : Endian → ℕ → List ℕ → Option ℕ → Result Surveyed Fault → Type 0
+Surveys e size image others (Ok s) = IsSurveyOf e size image others s
+Surveys e size image others (Err (fault.File file)) = ⊥
+Surveys e size image others (Err (fault.NotRead file)) = ⊥
+Surveys e size image others (Err (fault.NoNodes told count)) = ⊥
+Surveys e size image others (Err (fault.NoSpace folder)) = ⊥
+Surveys e size image others (Err (fault.Findings told findings)) = ⊥
+Surveys e size image others (Err (fault.Refused why)) = IsViewRefused e size image why
+Surveys e size image others (Err fault.Output) = ⊥
+Surveys e size image others (Err fault.OutOfMemory) =
+    (m : Mount) × AnswersThrough e size image (Ok m)

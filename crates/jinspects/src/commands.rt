@@ -1,0 +1,34 @@
+//! The commands as the program runs them: each is gone through, and its answer told.
+ghost use Rattle.std.specs.Prelude.{◌≡◌, Ok};
+ghost use Rattle.jedge.specs.Acts.{DoesFrom};
+ghost use Rattle.jedge.specs.Commands.{reported};
+ghost use Rattle.jinspects.specs.Inspecting.{check_through_act, map_act};
+
+use crate::check::check_through;
+use crate::map::map;
+use jcommand::{Check, Mapping, Outcome};
+use jedge::host::Host;
+use jedge::reporting::report;
+use jnode::Order;
+
+/// `check --decompress`.
+pub fn run_check_through<E: Order, H: Host>(host: &mut H, asked: Check<&str>) -> Outcome
+    requires { asked.options.endian ≡ E.order }
+    ensures { DoesFrom (H.history host.old) (H.history host.new)
+        (reported (check_through_act asked.entry.options asked.entry.shape asked.entry.image.now))
+        (Ok result) }
+{
+    let answer = check_through::<E, H>(host, asked.options, asked.shape, asked.image);
+    report(host, answer)
+}
+
+/// `map`.
+pub fn run_map<E: Order, H: Host>(host: &mut H, asked: Mapping<&str>) -> Outcome
+    requires { asked.options.endian ≡ E.order }
+    ensures { DoesFrom (H.history host.old) (H.history host.new)
+        (reported (map_act asked.entry.options asked.entry.svg asked.entry.image.now))
+        (Ok result) }
+{
+    let answer = map::<E, H>(host, asked.options, asked.svg, asked.image);
+    report(host, answer)
+}

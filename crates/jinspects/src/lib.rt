@@ -1,0 +1,16 @@
+//! Commands that look into an image through its compression and make nothing: `check --decompress`
+//! and `map`. What each does with the host, and what it answers.
+//!
+//! `specs/ThroughVerdict.antt` says what is printed of a mount through the compression,
+//! `specs/Live.antt` which nodes are live on a map. `specs/Inspecting.antt` has the act of each
+//! command.
+#![tactic(auto)]
+
+pub mod check;
+pub mod commands;
+pub mod laws;
+pub mod live;
+pub mod map;
+pub mod refusal;
+pub mod survey;
+pub mod verdict;
