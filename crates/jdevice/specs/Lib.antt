@@ -1,0 +1,4 @@
+pub mod Taken
+pub mod Run
+pub mod Line
+pub mod Laws

@@ -1,0 +1,4 @@
+pub mod EndLemmas
+pub mod LoadLemmas
+pub mod ShownLemmas
+pub mod UpdateLaws

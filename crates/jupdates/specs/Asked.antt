@@ -1,0 +1,46 @@
+-- What is asked of `update`.
+use Rattle.std.specs.Prelude.{◌*◌, ◌==◌, ℕ, Bool, List, Option, Some, None, if◌then◌else◌}
+use Rattle.jscan.specs.Image.{block_count}
+use Rattle.jlog.specs.declared.start.Flash.{Flash}
+use Rattle.jcommand.specs.declared.parsed.Updating.{Updating}
+use Rattle.jdevice.specs.declared.running.DevicePlan.{DevicePlan}
+use Rattle.jmakes.specs.Making.{WantedFile, wanted_file}
+use Rattle.jmakes.specs.declared.wanted.Filling.{Filling}
+use Rattle.jmakes.specs.declared.wanted.Filling.TheVariants as filling
+use Rattle.jupdates.specs.declared.asked.DeviceToWrite.{DeviceToWrite}
+
+-- how the flash is written, and the file that is made
+pub record DeviceWanted : Type 0 where
+  pub on : DevicePlan
+  pub file : WantedFile
+
+-- as many blocks as are asked for, or as the image has or begins
+abbrev pub blocks_asked : Option ℕ → ℕ → List ℕ → ℕ
+blocks_asked None size image = if size == 0 then 0 else block_count size image
+blocks_asked (Some blocks) size image = blocks
+
+abbrev pub flash_updated : Updating (List ℕ) → List ℕ → Flash
+flash_updated u image = record {
+  geometry = u.options.geometry;
+  blocks = blocks_asked u.blocks u.options.geometry.block image;
+  page = u.page;
+}
+
+-- with `--pad`, up to the end of the flash
+abbrev pub filling_updated : Bool → Flash → Option Filling
+filling_updated pad flash =
+    if pad then Some (filling.Length (flash.blocks * flash.geometry.block)) else None
+
+-- what is asked for, of this image
+abbrev pub device_wanted : Updating (List ℕ) → List ℕ → DeviceWanted
+device_wanted u image = record {
+  on = record { flash = flash_updated u image; plain = u.plain; tail = u.tail };
+  file = record {
+    name = u.output;
+    atomic = u.placing.atomic;
+    filling = filling_updated u.placing.pad (flash_updated u image);
+  };
+}
+
+abbrev pub device_to_write : DeviceToWrite → DeviceWanted
+device_to_write device = record { on = device.on; file = wanted_file device.file }

@@ -1,0 +1,4 @@
+pub mod Asked
+pub mod Updating
+pub mod Commands
+pub mod Laws

@@ -1,0 +1,78 @@
+//! What is asked for.
+ghost use Rattle.std.specs.Prelude.{◌≡◌, ◌≤◌, length};
+ghost use Rattle.jscan.specs.Image.{greatest_image};
+ghost use Rattle.jcommand.specs.Parsed.{updating_view};
+ghost use Rattle.jmakes.specs.Making.{wanted_file};
+ghost use Rattle.jupdates.specs.Asked.{blocks_asked, device_to_write, device_wanted, filling_updated, flash_updated};
+
+use jcommand::Updating;
+use jdevice::DevicePlan;
+use jlog::Flash;
+use jmakes::wanted::{Filling, Wanted};
+use jscan::Geometry;
+
+/// How a flash is written, and the file that is made.
+#[derive(Clone, Copy)]
+pub struct DeviceToWrite<'a> {
+    pub on: DevicePlan,
+    pub file: Wanted<'a>,
+}
+
+/// As many blocks as are asked for, or as an image has or begins.
+fn blocks_asked(blocks: Option<u32>, geometry: Geometry, image: &[u8]) -> u32
+    requires { length image.now ≤ greatest_image }
+    ensures { result ≡ blocks_asked blocks geometry.block image.now }
+{
+    match blocks {
+        Some(blocks) => blocks,
+        None => match geometry.block {
+            0 => 0,
+            size => (image.len() as u32).div_ceil(size),
+        },
+    }
+}
+
+/// The flash that is written.
+fn flash_of(asked: Updating<&str>, image: &[u8]) -> Flash
+    requires { length image.now ≤ greatest_image }
+    ensures { result ≡ flash_updated (updating_view asked.entry) image.now }
+{
+    let geometry = asked.options.geometry;
+    Flash {
+        geometry,
+        blocks: blocks_asked(asked.blocks, geometry, image),
+        page: asked.page,
+    }
+}
+
+/// Up to where its file is filled.
+fn filling_of(pad: bool, flash: Flash) -> Option<Filling>
+    ensures { result ≡ filling_updated pad flash }
+{
+    if pad {
+        let block = u64::from(flash.geometry.block);
+        Some(Filling::Length(u64::from(flash.blocks) * block))
+    } else {
+        None
+    }
+}
+
+/// All that is asked for, of an image.
+pub fn device_of<'a>(asked: Updating<&'a str>, image: &[u8]) -> DeviceToWrite<'a>
+    requires { length image.now ≤ greatest_image }
+    ensures { device_to_write result ≡ device_wanted (updating_view asked.entry) image.now }
+{
+    let flash = flash_of(asked, image);
+    DeviceToWrite {
+        on: DevicePlan {
+            flash,
+            plain: asked.plain,
+            tail: asked.tail,
+        },
+        file: Wanted {
+            name: asked.output,
+            atomic: asked.placing.atomic,
+            filling: filling_of(asked.placing.pad, flash),
+        },
+    }
+}

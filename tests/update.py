@@ -1,0 +1,288 @@
+#!/usr/bin/env python3
+"""Runs `update` on images with blank blocks anywhere, against a model.
+
+Usage: tests/update.py [PROGRAM]. Images of `build`, `compress` and mkfs.jffs2, whose blocks are put into another order with blank
+ones between them, take the lines of listings, in both orders, with --plain and with --tail. Each byte of IMAGE stays that is not
+in a blank block (with --tail: nor in the rest of a begun one); each new node stands where tests/update_model.py says; OUT shows
+the file system of the plain model of tests/cuts.py, and so does what is left after a stop behind each node and one byte before
+it. Then thirty updates one after another, what is refused, and what OUT is then. The last line is 'N passed, M failed'.
+"""
+import os
+import random
+import subprocess
+import sys
+
+import hostile_model
+import update_model as model
+from cuts import Tree, hexed, laid
+from groups import PROGRAM, ROOT, run_all, verdict, write
+
+SIZE = 8192
+ORDERS = {"<": "little", ">": "big"}
+BASE = [
+    "time 5",
+    "owner 3 4",
+    "mkdir 0755 /d",
+    "create 0640 /d/a",
+    "write /d/a 0 " + hexed(1, 5000),
+    "create 0600 /t",
+    "write /t 0 " + (b"one line of text, and again one line of text.\n" * 300).hex(),
+    "symlink /s d/a",
+    "write /t 100 " + hexed(2, 9000),
+]
+LISTINGS = {
+    "a name": ["create 0644 /b"],
+    "a file": ["time 9", "create 0644 /n", "write /n 0 " + hexed(3, 12288), "rename /n /d/n"],
+    "text": ["create 0644 /n", "write /n 0 " + (b"text " * 3000).hex(), "truncate /n 777", "write /n 2000 f0"],
+    "changes": ["write /d/a 100 " + hexed(4, 300), "truncate /t 50", "remove /s", "mkdir 0700 /e", "link /d/a /e/l"],
+}
+
+
+def run(*words):
+    done = subprocess.run([PROGRAM, *words], stdin=subprocess.DEVNULL, capture_output=True, check=False)
+    return done.returncode, done.stdout.decode(), done.stderr.decode()
+
+
+def options_of(order, size=SIZE):
+    return ["--block", str(size), "--endian", ORDERS[order]]
+
+
+def read(name):
+    with open(name, "rb") as file:
+        return file.read()
+
+
+def write_lines(name, lines):
+    write(name, "".join(line + "\n" for line in lines))
+
+
+def steps_of(tree, lines):
+    """The steps of a listing on a file system, each to be called before the next one is made."""
+    return (step for *_, step in laid(tree, lines, 4096, {"time": 0, "owner": (0, 0)}))
+
+
+def tree_of(*listings):
+    """The file system after listings, one after another, and how many steps the last one has."""
+    tree, count = Tree(), 0
+    for lines in listings:
+        count = 0
+        for count, step in enumerate(steps_of(tree, lines), 1):
+            step()
+    return tree, count
+
+
+def note_of(image, order, size=SIZE):
+    """What stands on standard error of an image with findings."""
+    findings = hostile_model.report(image, size, order)[3]
+    word = "finding" if findings == 1 else "findings"
+    said = f"jffs2_image: note: {findings} {word}, see check --scan; a wrong --block or --endian shows as findings too, see info\n"
+    return said if findings else ""
+
+
+def shows(image, order, tree, size=SIZE):
+    """Whether an image shows this file system through its compression, with the bytes of its files."""
+    write("shown", image)
+    told = list(tree.lines())
+    words = ["--decompress", *options_of(order, size), "shown"]
+    if run("ls", *words)[1].splitlines() != [line for line, _ in told]:
+        return False
+    files = [file for _, file in told if file]
+    found = (subprocess.run([PROGRAM, "cat", *words, path], capture_output=True, check=False).stdout for path, _ in files)
+    return all(data == body for data, (_, body) in zip(found, files))
+
+
+# ---- images of a device
+
+def spread(image, order, seed, blank=3, size=SIZE):
+    """The blocks of an image in another order, with blank ones between them, of which one has a part of its marker."""
+    chance = random.Random(f"update {seed}")
+    blocks = [model.block_of(image, k, size) for k in range(-(-len(image) // size))]
+    blocks += [b"\xff" * size] * (blank - 1) + [model.marker(order)[:7].ljust(size, b"\xff")]
+    chance.shuffle(blocks)
+    return b"".join(blocks)
+
+
+def device_image(order, packed, seed):
+    """An image of the base, its data compressed or not, as a device leaves it."""
+    write_lines("base.txt", BASE)
+    run("build", "--blocks", "16", *options_of(order), "base.txt", "base")
+    if packed:
+        run("compress", *options_of(order), "base", "base")
+    return spread(read("base"), order, seed)
+
+
+# ---- one update
+
+def is_kept(image, out, row, order, size=SIZE):
+    """Whether all that an update may not change is as it was, and what it left is erased."""
+    places = dict(row)
+    for number in range(-(-len(out) // size)):
+        before, after = model.block_of(image, number, size), model.block_of(out, number, size)
+        at = places.get(number, size)
+        nodes = [(a, n) for a, n, _ in model.nodes_in(out, [(number, at)], size, order)] if number in places else []
+        if before[:at] != after[:at]:
+            return False
+        end = max((a + n - number * size for a, n in nodes), default=at)
+        if after[end:] != b"\xff" * (size - end):
+            return False
+    return len(out) >= len(image)
+
+
+def update(image, order, lines, *words, size=SIZE):
+    """Runs `update`, and answers what it told, OUT, the openings that it had, and the nodes that it put there."""
+    write("image", image)
+    write_lines("listing", lines)
+    if os.path.exists("out"):
+        os.remove("out")
+    told = run("update", *options_of(order, size), *words, "image", "listing", "out")
+    out = read("out") if os.path.exists("out") else None
+    blocks = int(words[words.index("--blocks") + 1]) if "--blocks" in words else -(-len(image) // size)
+    row = list(model.openings(image, size, blocks, order, "--tail" in words))
+    return told, out, row, list(model.nodes_in(out, row, size, order)) if out else []
+
+
+def put_bytes(nodes, size=SIZE):
+    """How many bytes go out for nodes: from the first to the last of each block, with its marker and what fills nodes up."""
+    ends = {}
+    for address, length, _ in nodes:
+        number = address // size
+        first = number * size if address % size == model.MARKER_LENGTH else address
+        ends[number] = (ends.get(number, (first, 0))[0], hostile_model.pad4(address + length))
+    return sum(end - first for first, end in ends.values())
+
+
+def try_update(about, image, order, base, lines, *words):
+    """All that this test looks at of one update, but for its stops."""
+    (status, told, said), out, row, nodes = update(image, order, lines, *words)
+    tree, steps = tree_of(base, lines)
+    ops = sum(line.split(" ")[0] not in ("time", "owner") for line in lines)
+    line = f"accepted {ops} nodes {len(nodes)} bytes {put_bytes(nodes)}\n"
+    verdict(f"{about}: what is told", (status, told, said) == (0, line, note_of(image, order)))
+    if out is None:
+        return None, []
+    verdict(f"{about}: what is kept", is_kept(image, out, row, order))
+    wanted = list(model.places(row, [length for _, length, _ in nodes], SIZE))
+    verdict(f"{about}: places", [address for address, _, _ in nodes] == wanted and len(nodes) == steps)
+    verdict(f"{about}: each byte", out == model.with_nodes(model.erased_in(image, row, SIZE), nodes, SIZE, order))
+    verdict(f"{about}: the tree", shows(out, order, tree))
+    return out, nodes
+
+
+def is_packed(node, order):
+    """Whether a node's data are compressed."""
+    what, held = hostile_model.seen(node[2] + b"\xff" * (-node[1] % 4), (node_kind(node, order), node[1]), order)
+    return what == "compressed" and held[0] == 6
+
+
+def node_kind(node, order):
+    return int.from_bytes(node[2][2:4], {"<": "little", ">": "big"}[order])
+
+
+def updates():
+    for seed, (about, lines) in enumerate(LISTINGS.items()):
+        for order in "<>":
+            for packed in (False, True):
+                image = device_image(order, packed, seed)
+                for words in ([], ["--plain"], ["--tail"], ["--tail", "--plain", "--blocks", "20"]):
+                    name = f"{about}, {ORDERS[order]}{', compressed' if packed else ''} {' '.join(words)}"
+                    out, nodes = try_update(name, image, order, BASE, lines, *words)
+                    some = any(is_packed(node, order) for node in nodes)
+                    verdict(f"{name}: forms", some == (about != "a name" and "--plain" not in words))
+
+
+def stops():
+    """What is left after a stop behind each node, and one byte before."""
+    for about, lines in LISTINGS.items():
+        for order, words in (("<", ["--tail"]), (">", [])):
+            image = device_image(order, True, 7)
+            *_, nodes = update(image, order, lines, *words)
+            tree, _ = tree_of(BASE)
+            right = bool(nodes)
+            for count, (node, step) in enumerate(zip(nodes, steps_of(tree, lines)), 1):
+                right = right and shows(model.with_nodes(image, nodes[:count], SIZE, order, node[1] - 1), order, tree)
+                step()
+                right = right and shows(model.with_nodes(image, nodes[:count], SIZE, order, node[1]), order, tree)
+            verdict(f"stops of {about}, {ORDERS[order]} {' '.join(words)}", right)
+
+
+# ---- many updates
+
+def thirty():
+    """Thirty updates of a small file each: with --tail they take the room of one listing of all."""
+    size, blocks, lines, image = 65536, 16, [], b"\xff" * 65536
+    for k in range(30):
+        new = [f"create 0600 /f{k}", f"write /f{k} 0 {random.Random(k).randbytes(4400).hex()}"]
+        told, out, row, nodes = update(image, "<", new, "--blocks", str(blocks), "--tail", size=size)
+        lines += new
+        right = told[0] == 0 and is_kept(image, out, row, "<", size) and shows(out, "<", tree_of(lines)[0], size)
+        verdict(f"update {k + 1} of 30 with --tail", right)
+        image = out or image
+    write_lines("all", lines)
+    run("build", "--blocks", str(blocks), "all", "at once")
+    verdict("the room of one listing of all", len(image) <= len(read("at once")) * 1.1)
+    image = b"\xff" * 65536
+    for k in range(blocks + 1):
+        told, out, *_ = update(image, "<", lines[2 * k : 2 * k + 2], "--blocks", str(blocks), size=size)
+        image = out if told[0] == 0 else image
+        if told[0]:
+            break
+    full = told[2].startswith("jffs2_image: S2 Full ") and k == blocks
+    verdict("each takes a block without --tail, until none is blank", full)
+
+
+# ---- what is refused
+
+def refused():
+    image = device_image("<", True, 1)
+    lines = ["create 0644 /b", "create 0644 /nowhere/b", "create 0644 /c"]
+    for words in ([], ["--atomic"]):
+        (status, told, said), out, *_ = update(image, "<", lines, *words)
+        right = (status, told) == (1, "") and "line 2" in said
+        if words:
+            verdict("an operation that is refused, --atomic", right and out is None)
+        else:
+            verdict("an operation that is refused", right and out is not None and shows(out, "<", tree_of(BASE, lines[:1])[0]))
+    full = spread(read("base"), "<", 2, blank=1)
+    (status, told, said), out, *_ = update(full, "<", ["create 0644 /b", "write /b 0 " + random.Random(1).randbytes(9000).hex()])
+    verdict("no room", (status, told) == (1, "") and said.startswith("jffs2_image: S2 Full needed ") and out is not None and shows(out, "<", tree_of(BASE, ["create 0644 /b"])[0]))
+    write("image", image)
+    write_lines("listing", ["create 0644 /b"])
+    for about, words, status, fault in (
+        ("fewer blocks than it has", ["--blocks", "2"], 1, "jffs2_image: S7 Geometry\n"),
+        ("a page that is none", ["--page", "4097"], 2, "error: invalid value '4097'"),
+        ("a block that holds no node of it", ["--block", "4096"], 1, "jffs2_image: Z2 TooLong at "),
+    ):
+        told = run("update", "--block", str(SIZE), *words, "image", "listing", "other") if "--block" not in words else run("update", *words, "image", "listing", "other")
+        verdict(about, told[:2] == (status, "") and told[2].startswith(fault) and not os.path.exists("other"))
+    for about, words in (("no LISTING", ["image", "missing", "other"]), ("no IMAGE", ["missing", "listing", "other"])):
+        told = run("update", *options_of("<"), *words)
+        verdict(about, told[:2] == (1, "") and told[2].startswith("jffs2_image: P1 File missing\n") and not os.path.exists("other"))
+    broken = bytearray(image)
+    at = next(at for at, what, _ in hostile_model.report(image, SIZE)[1] if what == "compressed")
+    broken[at + 80] ^= 1
+    told, out, *_ = update(bytes(broken), "<", ["create 0644 /b"])
+    verdict("a damaged node", told[0] == 0 and told[2] == note_of(bytes(broken), "<") != note_of(image, "<") and out is not None)
+    verdict("IMAGE itself is never changed", read("image") == bytes(broken))
+
+
+# ---- the file
+
+def files():
+    image = device_image("<", True, 3)
+    for words in ([], ["--atomic"]):
+        told, out, *_ = update(image, "<", ["create 0644 /b"], "--pad", "--blocks", "20", *words)
+        verdict(f"--pad --blocks 20 {' '.join(words)}", told[0] == 0 and len(out) == 20 * SIZE and shows(out, "<", tree_of(BASE, ["create 0644 /b"])[0]))
+    write("image", image)
+    write_lines("listing", ["create 0644 /b"])
+    told = run("update", *options_of("<"), "--atomic", "image", "listing", "image")
+    verdict("OUT that is IMAGE", told[0] == 0 and shows(read("image"), "<", tree_of(BASE, ["create 0644 /b"])[0]))
+    made = os.path.join(ROOT, "tests", "data", "default.img")
+    before = run("ls", "--decompress", made)[1]
+    told = run("update", "--blocks", "8", made, "listing", "out")
+    after = run("ls", "--decompress", "out")[1]
+    new = [line for line in after.splitlines() if line not in before.splitlines()]
+    verdict("an image of mkfs.jffs2", told[0] == 0 and len(new) == 1 and new[0].endswith(" /b") and read("out").startswith(read(made)))
+
+
+if __name__ == "__main__":
+    sys.exit(run_all((updates, stops, thirty, refused, files)))
