@@ -1,14 +1,14 @@
 //! Images of the nodes that matter: what an offline garbage collector writes.
 //!
-//! It is built on `jcompact` (which nodes of an image matter), `jlog` (where nodes go, and what goes
-//! out before them) and `jthrough` (mounts of images with compressed nodes). Its promise to the crate
-//! above: the nodes go out from the start of an erased flash on, each with the bytes that it has in
-//! the image, in the order of their addresses. So the new image has just the nodes that matter and
-//! no findings, and shows the same tree; compressed nodes keep their form.
+//! It is built on `jcompact` (which nodes of an image matter), `jlog` (where nodes go, and what
+//! goes out before them) and `jthrough` (mounts of images with compressed nodes). Its promise to
+//! the crate above: the nodes go out from the start of an erased flash on, each with the bytes that
+//! it has in the image, in the order of their addresses. So the new image has just the nodes that
+//! matter and no findings, and shows the same tree; compressed nodes keep their form.
 //!
 //! `plan_of` finds the nodes, and answers each fault that can be known before a byte goes out; then
-//! only the sink can fail in `put`. `compact_into` does both. `plan_through` is the same of an image
-//! that was mounted through its compression, and `compact_through` mounts it too.
+//! only the sink can fail in `put`. `compact_into` does both. `plan_through` is the same of an
+//! image that was mounted through its compression, and `compact_through` mounts it too.
 //!
 //! `specs/Tiles.antt` says what is copied and what goes out for it, `specs/Collecting.antt` and
 //! `specs/Through.antt` what follows for an image that mounts, and `specs/Planning.antt` and

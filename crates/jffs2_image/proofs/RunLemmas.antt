@@ -1,28 +1,25 @@
 -- A run: what the words ask for, and that the host did it.
-use Rattle.std.proofs.Common.{◌≡◌, List, Some, Ok, Err, subst, sym}
+use Rattle.std.proofs.Common.{◌≡◌, List, Some, Ok, Err}
 use Rattle.std.specs.Prelude.{◌⊎◌, Result}
 use Rattle.clap.specs.Words.{Text}
-use Rattle.jcommand.specs.Parsed.{IsFaultless, IsHelpRequested, IsRefusedByClap, IsUnreadable, TaskParsed, parsed_from, placing_from}
+use Rattle.jcommand.specs.Parsed.{IsFaultless, IsHelpRequested, IsRefusedByClap, IsUnreadable, parsed_from}
 use Rattle.jcommand.specs.Refused.{IsHelp, IsUsage}
 use Rattle.jcommand.specs.declared.command_line.RequestFault.{RequestFault}
 use Rattle.jcommand.specs.declared.command_line.RequestFault.TheVariants as refused
 use Rattle.jcommand.specs.declared.outcome.Outcome.{Outcome}
-use Rattle.jcommand.specs.declared.parsed.Placing.{Placing}
+use Rattle.jcommand.specs.declared.parsed.Command.{Command}
 use Rattle.jedge.specs.Acts.{DoesFrom}
 use Rattle.jedge.specs.Commands.{reported}
 use Rattle.jedge.specs.declared.fault.Fault.{Fault}
 use Rattle.jedge.proofs.Steps.{History, mapped}
-use Rattle.jffs2_image.specs.Running.{AsksFor, refused_act, run_act, task_act}
+use Rattle.jffs2_image.specs.Running.{AsksFor, command_act, refused_act, run_act}
 
--- they ask for a task, and it was done
-pub ran_task : {old new : History} {words : List Text} {placing : Placing} {task : TaskParsed} {r : Result Outcome Fault}
-    → parsed_from words ≡ Some task → IsFaultless words → placing_from words ≡ placing
-    → DoesFrom old new (reported (task_act placing task)) r → DoesFrom old new (run_act words) r
-ran_task {task} {r} parsed faultless placed done = mapped (λ events did. record {
-  asked = Ok task;
-  asks = (parsed, faultless);
-  does = subst (λ (p : Placing). reported (task_act p task) events r) (sym placed) did;
-}) done
+-- they ask for a command, and it was done
+pub ran_command : {old new : History} {words : List Text} {asked : Command Text} {r : Result Outcome Fault}
+    → parsed_from words ≡ Some asked → IsFaultless words
+    → DoesFrom old new (reported (command_act asked)) r → DoesFrom old new (run_act words) r
+ran_command {asked} parsed faultless done =
+    mapped (λ events did. record { asked = Ok asked; asks = (parsed, faultless); does = did }) done
 
 -- they ask for none, since it is due
 pub refusal : (words : List Text) (why : RequestFault) → (IsHelp why → IsHelpRequested words) → (IsUsage why → IsRefusedByClap words ⊎ IsUnreadable words) → AsksFor words (Err why)

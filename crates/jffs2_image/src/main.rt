@@ -7,11 +7,10 @@
 ghost use Rattle.std.specs.Prelude.{◌≡◌, IfOk, map, string_bytes};
 ghost use Rattle.std.specs.Vec.Iter.{into_iter_items};
 
+pub mod commands;
 pub mod laws;
-mod orders;
 mod placed;
 pub mod program;
-pub mod tasks;
 mod words;
 
 use jcommand::{Outcome, RequestFault, status};

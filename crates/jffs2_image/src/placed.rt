@@ -1,49 +1,27 @@
-//! What a command is given that makes an image.
+//! What a command is given that makes an image of another one.
 ghost use Rattle.std.specs.Prelude.{◌≡◌};
+ghost use Rattle.jcommand.specs.Parsed.{conversion_view};
 ghost use Rattle.jremakes.specs.Asked.{remaking_of};
-ghost use Rattle.jffs2_image.specs.Running.{remaking_placed};
+ghost use Rattle.jffs2_image.specs.Running.{remaking_asked};
 
-use jcommand::{Options, Placing, Target};
-use jmakes::asked::Writing;
-use jmakes::wanted::{Filling, Wanted};
+use jcommand::Conversion;
+use jmakes::wanted::Wanted;
+use jpacks::packing::filling_of;
 use jremakes::asked::Remaking;
 
-/// An image that is written, and what is done about its file.
-pub(crate) fn writing<'a>(target: Target<'a>, placing: Placing, weak: bool) -> Writing<'a>
-    ensures { result ≡ record { target = target.entry; placing = placing; weak = weak } }
+/// An image, and the file that is made of it, of so many blocks where they are given.
+pub(crate) fn remaking<'a>(asked: Conversion<&'a str>, blocks: Option<u32>) -> Remaking<'a>
+    ensures asked { remaking_of result ≡ remaking_asked blocks (conversion_view asked.entry) }
+    ensures options { result.options ≡ asked.entry.options }
 {
-    Writing {
-        target,
-        placing,
-        weak,
-    }
-}
-
-/// An image, and the file that is made of it.
-pub(crate) fn remaking<'a>(
-    placing: Placing,
-    options: Options,
-    force: bool,
-    image: &'a str,
-    output: &'a str,
-) -> Remaking<'a>
-    ensures asked { remaking_of result
-        ≡ remaking_placed placing options force image.entry.now output.entry.now }
-    ensures options { result.options ≡ options }
-{
-    let filling = if placing.pad {
-        Some(Filling::Block(options.geometry.block))
-    } else {
-        None
-    };
     Remaking {
-        options,
-        force,
-        image,
+        options: asked.options,
+        force: asked.force,
+        image: asked.image,
         output: Wanted {
-            name: output,
-            atomic: placing.atomic,
-            filling,
+            name: asked.output,
+            atomic: asked.placing.atomic,
+            filling: filling_of(asked.placing.pad, asked.options.geometry.block, blocks),
         },
     }
 }

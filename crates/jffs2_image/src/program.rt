@@ -3,8 +3,7 @@ ghost use Rattle.std.specs.Prelude.{Ok, map};
 ghost use Rattle.jedge.specs.Acts.{DoesFrom};
 ghost use Rattle.jffs2_image.specs.Running.{run_act};
 
-use crate::orders::order_of;
-use crate::tasks::run_task;
+use crate::commands::run_command;
 use crate::words::answer_refused;
 use byteorder::{BigEndian, LittleEndian};
 use jcommand::{Outcome, asked};
@@ -24,9 +23,9 @@ pub fn run<H: FileHost + FilesHost + StreamHost + FolderHost>(
         (run_act (map (λ w. w.now) args.now)) (Ok result) }
 {
     match asked(host.alloc(), args) {
-        Ok(asked) => match order_of(asked.task) {
-            Endian::Little => run_task::<LittleEndian, H>(host, asked),
-            Endian::Big => run_task::<BigEndian, H>(host, asked),
+        Ok(command) => match command.endian() {
+            Endian::Little => run_command::<LittleEndian, H>(host, command),
+            Endian::Big => run_command::<BigEndian, H>(host, command),
         },
         Err(fault) => answer_refused(host, fault),
     }

@@ -1,4 +1,4 @@
-//! Words that ask for no task, and what is said of them.
+//! Words that ask for no command, and what is said of them.
 ghost use Rattle.std.specs.Prelude.{Ok};
 ghost use Rattle.flashbase.specs.Sinks.{PutsTo, change_of};
 ghost use Rattle.jedge.specs.Acts.{DoesFrom, PutsBy, Whole, prints, seen_as};
@@ -60,7 +60,7 @@ pub fn say_usage<H: Host>(host: &mut H, text: &str) -> Outcome
     Outcome::Usage
 }
 
-/// Answers words that ask for no task.
+/// Answers words that ask for no command.
 pub fn answer_refused<H: Host>(host: &mut H, fault: RequestFault) -> Outcome
     ensures { DoesFrom (H.history host.old) (H.history host.new) (refused_act fault)
         (Ok result) }

@@ -1,4 +1,4 @@
-use Rattle.jffs2_image.proofs.TaskLaws.{printing_makes_nothing}
+use Rattle.jffs2_image.proofs.RunLawLemmas.{printing_makes_nothing}
 use Rattle.jffs2_image.proofs.laws.printing_makes_nothing.Goals as goal
 
 pub returns : goal.returns
