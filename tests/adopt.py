@@ -4,7 +4,8 @@
 Several people, or several tasks of one, work in clones of their own. `rt check` builds on the libraries in crates/*/out/rlib
 of its own clone alone, and proves those that are not there. This copies those of the clone DIR, for each crate whose sources,
 and all below them, are the same here. What `rt ci` made there serves too. A library is left that is older than a source there,
-since nothing says what it was made from. A line is printed for each crate that was taken.
+since nothing says what it was made from. With `.` for DIR what `rt ci` made in this clone itself is made known to `rt check` and
+`rt lib` here. A line is printed for each crate that was taken.
 """
 import functools
 import os
@@ -34,8 +35,9 @@ def is_current(crate):
 def take(here, there, stamp):
     """Copies a library, and writes what it was made from."""
     into = f"{here.folder}/out/rlib"
-    shutil.rmtree(into, ignore_errors=True)
-    shutil.copytree(f"{there.folder}/out/rlib", into)
+    if not os.path.samefile(here.folder, there.folder):
+        shutil.rmtree(into, ignore_errors=True)
+        shutil.copytree(f"{there.folder}/out/rlib", into)
     with open(f"{into}/stamp", "w", encoding="utf-8") as it:
         it.write(stamp)
 

@@ -43,9 +43,14 @@ def commands_of_the_program():
 
 def options_in(body, bodies):
     """The options that a function makes, and those of the functions that it begins with."""
-    made = r'\bmake_(?:option|required_option|optional|optional_two|flag)\(\s*alloc,\s*"(\w+)"'
-    options = {f"--{name}" for name in re.findall(made, body)}
-    makers = "make_plain|make_writer|make_noting|add_atomic|add_replacing|add_placing|add_settings"
+    made = (r'\bmake_(?:option|required_option|optional|optional_two|flag|lettered_flag)\('
+            r'\s*alloc,\s*"([\w-]+)"(?:,\s*\'(\w)\')?')
+    options = set()
+    for name, letter in re.findall(made, body):
+        options |= {f"--{name}", f"-{letter}"} if letter else {f"--{name}"}
+    options |= {f"-{letter}" for letter in re.findall(r"\.short\('(\w)'\)", body)}
+    makers = ("make_plain|make_block|make_writer|make_noting|add_atomic|add_replacing|add_placing"
+              "|add_settings")
     for below in re.findall(rf"\b({makers})\(", body):
         options |= options_in(bodies[below], bodies)
     return options
@@ -100,7 +105,7 @@ def flags_of_zsh(text, lists):
     for spec in re.findall(r"'(--[a-z]+)", text):
         flags.add(spec)
     for group in re.findall(r"\{(-[^}]*)\}", text):
-        flags.update(group.split(","))
+        flags.update(flag.removesuffix("=") for flag in group.split(","))
     for name in re.findall(r"\$(\w+)", text):
         flags |= flags_of_zsh(lists[name], lists) if name in lists else set()
     return flags

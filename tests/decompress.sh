@@ -9,7 +9,7 @@ data=$top/tests/data
 # method_note METHOD: the note on an image with data of a method that is read
 method_note() {
     printf 'jffs2_image: note: the image is compressed (%s); decompress writes one that is not, ' "$1"
-    printf 'without damaged nodes; ls, cat, extract and append take --decompress'
+    printf 'without damaged nodes; ls, cat, extract, diff, damage and append take --decompress'
 }
 note=$(method_note zlib)
 methods=([2]=rtime [6]=zlib [7]=lzo [8]=lzma)
@@ -30,10 +30,11 @@ for option in --blocks --scan --decompress --owners --shape; do
     run decompress $option good out.img
     want 2 "" "error: unexpected argument '$option' found*Usage: *"
 done
-for words in "check --decompress good" "listing --decompress folder" \
-    "build --decompress --blocks 1 create out.img"; do
-    run $words; want 2 "" "error: unexpected argument '--decompress' found*Usage: *"
+for words in "listing --decompress folder" "build --decompress --blocks 1 create out.img"; do
+    run $words; want 2 "" "error: *'--decompress'*Usage: *"
 done
+# Beside --scan, which mounts nothing, it says nothing.
+run check --scan --decompress good; want 3 $'block 0\n*00000038 compressed 84 compr 6*findings 1' ""
 run decompress --block=4k good out.img
 want 2 "" "error: invalid value '4k' for '--block <N>': *--help*"
 run decompress --endian=middle good out.img
@@ -46,16 +47,16 @@ for words in "decompress --help" "decompress -h" "help decompress"; do
 Exit status:*" ""
 done
 run --help; want 0 "*Commands:*  decompress *" ""
-for command in ls cat append extract; do
+for command in check ls cat damage diff append extract; do
     run help $command; want 0 "*Options:*--decompress *" ""
 done
-for command in check build listing; do
+for command in build listing; do
     run help $command; want 0 "*Usage: *" ""
     line="no --decompress in help of $command"
     ! grep -q -e --decompress out; count $?
 done
 line="the lines of help, 80 columns wide at most"
-for command in decompress ls cat append extract; do
+for command in decompress check ls cat damage diff append extract; do
     "$program" help $command > out
     awk 'length > 80 { print; wide = 1 } END { exit wide }' out; count $?
 done
@@ -221,6 +222,11 @@ while read -r name block order address compr changed bytes; do
     fault="jffs2_image: M4 Compressed at $address compr $compr"
     its_note=$(method_note ${methods[$compr]})
     run check "${flash[@]}" "$image"; want 3 "*findings $changed"$'\n'"mount refused ${fault#* }" ""
+    # Through its compression it mounts: the report is the same, and yet nothing is wrong.
+    run check --decompress --shape "${flash[@]}" "$image"
+    want 0 "*findings $changed"$'\nmount ok\nshape ok' ""
+    run check --decompress --shape "${flash[@]}" out.img
+    want 0 "*entries 13 inodes 16 findings 0"$'\nmount ok\nshape ok' ""
     for words in "ls" "cat" "append" "extract"; do
         case $words in
             ls) run ls "${flash[@]}" "$image" ;;
@@ -287,18 +293,30 @@ END
 unopened_none=$(unopened none)
 unread_folder=$(unread folder)
 
-# refused FAULT WORD..: `decompress` and each command with --decompress, of an image by these words
-refused() {
+# unmade_of FAULT WORD..: the commands that make an image of that of these words
+unmade_of() {
     local fault="jffs2_image: $1"
     shift
     cp blank there.img
     run decompress "$@" none.img; want 1 "" "$fault"; unmade none.img
     run decompress "$@" there.img; want 1 "" "$fault"; same there.img blank
     run decompress "$@" nowhere/none.img; want 1 "" "$fault"
+    run append --decompress --blocks 64 "$@" create none.img; want 1 "" "$fault"; unmade none.img
+}
+# unseen_of FAULT WORD..: the commands that look at it
+unseen_of() {
+    local fault="jffs2_image: $1"
+    shift
     run ls --decompress "$@"; want 1 "" "$fault"
     run cat --decompress "$@" /a; want 1 "" "$fault"
+    run damage --decompress "$@"; want 1 "" "$fault"
+    run diff --decompress "$@" "${@: -1}"; want 1 "" "$fault"
     run extract --decompress "$@" none.img; want 1 "" "$fault"; unmade none.img
-    run append --decompress --blocks 64 "$@" create none.img; want 1 "" "$fault"; unmade none.img
+}
+# refused FAULT WORD..: all of them
+refused() {
+    unmade_of "$@"
+    unseen_of "$@"
 }
 refused "${unopened_none#jffs2_image: }" none
 refused "${unread_folder#jffs2_image: }" folder
@@ -313,16 +331,35 @@ for name in rtime zlib lzo lzma; do
     run ls wrong_$name; want 1 "" $'jffs2_image: M4 Compressed at 00000038 compr 6\n'"$note"
 done
 refused "Z2 TooLong at 0000008c" "${small[@]}" long
-refused "S3 ReadOnly" read_only
-refused "S7 Geometry$small_block" --block 4096 good
-refused "S7 Geometry$small_block" --block 8188 good
-refused "S2 Full needed 246098596 free 268386304" bomb
+unmade_of "S3 ReadOnly" read_only
+unmade_of "S7 Geometry$small_block" --block 4096 good
+unmade_of "S7 Geometry$small_block" --block 8188 good
+unmade_of "S2 Full needed 246098596 free 268386304" bomb
+# What no image can be made of is shown all the same.
+for words in "--block 4096 good" "--block 8188 good" read_only; do
+    run ls --decompress $words; want 0 "$root*/a" "*"
+    run damage --decompress $words; want 0 "total damaged 0 paths 0 missing 0" ""
+done
 # Of two faults the first in this order
 refused "${unopened_none#jffs2_image: }" --block 4097 none
 refused "M1 BlockSize$block_note" --block 4097 wrong_zlib
 refused "Z1 Data at 0000008c" --block 4096 wrong_zlib
-refused "S3 ReadOnly" --block 4096 read_only
+unmade_of "S3 ReadOnly" --block 4096 read_only
 run ls later; want 1 "" $'jffs2_image: M4 Compressed at 00000038 compr 6\n'"$note"
+# `check` prints them behind its report, and looks no further.
+for name in rtime zlib lzo lzma; do
+    run check --decompress wrong_$name; want 3 $'*\nmount refused Z1 Data at 0000008c' ""
+done
+run check --decompress "${small[@]}" long; want 3 $'*\nmount refused Z2 TooLong at 0000008c' ""
+run check --decompress later
+want 3 $'*\nmount refused M3 Incompatible at 0000008c type e0f7' ""
+run check --decompress wrong_method
+want 3 $'*\nmount refused M4 Compressed at 0000008c compr 3' ""
+run check --decompress clash; want 3 $'*\nmount refused M5 Clash at 0000008c' ""
+run check --decompress root_file; want 3 $'*\nmount refused M6 RootKind' ""
+run check --decompress read_only; want 3 $'*\nmount ok read-only' ""
+run check --decompress --block 4097 wrong_zlib; want 1 "" "jffs2_image: C1 BlockSize$block_note"
+run check --decompress none; want 1 "" "$unopened_none"
 # The node fits into a larger block.
 run decompress --block 8196 long out.img; want 0 "decompressed 2 nodes 4 bytes 16448" ""
 head -c 8113 /dev/zero > piece
@@ -338,9 +375,12 @@ unmade none.img
 # What does not mount is decompressed all the same.
 run decompress clash out.img; want 0 "decompressed 2 nodes 3 bytes 232" ""
 run check out.img; want 3 $'*findings 0\nmount refused M5 Clash at 00000090' ""
-for words in "ls --decompress clash" "cat --decompress clash /a" \
-    "extract --decompress clash none.img" "append --decompress --blocks 4 clash create none.img"; do
-    run $words; want 1 "" "jffs2_image: M5 Clash at 00000090$(clash_note 00000038 00000090)"
+run append --decompress --blocks 4 clash create none.img
+want 1 "" "jffs2_image: M5 Clash at 00000090$(clash_note 00000038 00000090)"
+# Mounted through its compression it has its own addresses.
+for words in "ls --decompress clash" "cat --decompress clash /a" "damage --decompress clash" \
+    "diff --decompress clash good" "diff --decompress good clash" "extract --decompress clash none.img"; do
+    run $words; want 1 "" "jffs2_image: M5 Clash at 0000008c$unpaired_note"
 done
 # So it is of the image that was made: each command that mounts one names both nodes.
 for words in "ls out.img" "ls out.img /a" "cat out.img /a" "damage out.img" "diff out.img good" \

@@ -30,6 +30,7 @@ CLASH = (
     "jffs2_image: note: the nodes at {} and {} differ; "
     "decompress --clashes higher keeps that of the highest address\n"
 )
+UNPAIRED = b"jffs2_image: note: two nodes differ; decompress --clashes higher keeps that of the higher address\n"
 BLOCK = b"jffs2_image: note: --block takes a multiple of 4 from 4096 to 4194304\n"
 OUTPUT = b"jffs2_image: P5 Output\n"
 SIZES = 10
@@ -360,9 +361,11 @@ def read_by(reading, words):
 
 
 def fault(text):
-    """What a fault gives, with its note: M4 names the method, and M5 both nodes."""
+    """What a fault gives, with its note: M4 names the method, and M5 both nodes where they are told."""
     text, _, lower = text.partition(" with ")
     note = CLASH.format(lower, text[-8:]).encode() if lower else BLOCK if text.startswith(("C1 ", "M1 ")) else b""
+    if text.startswith("M5 ") and not lower:
+        note = UNPAIRED
     if text.startswith("M4 "):
         note = opened.method_note(int(text.split()[-1])).encode()
     return Done(1, b"", f"jffs2_image: {text}\n".encode() + note)
@@ -748,6 +751,7 @@ def on_converted(about, image, size, order):
         if "/" not in name:
             wanted = fault(refused) if refused else Done(0, content, note)
             verdict(f"cat --decompress of /{name} in {about}", done == wanted, done)
+    lines, why = opened.converted(image, size, sign)
     converted_goes_on(about, words, (lines, why, note), (result, size, sign))
 
 

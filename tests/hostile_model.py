@@ -239,8 +239,11 @@ def cat(image, name, size=65536, order="<"):
     """The bytes of the file of this name in the root, or why not."""
     _, nodes, _, _ = report(image, size, order)
     fault = refusal(nodes)
-    if fault:
-        return b"", fault
+    return (b"", fault) if fault else file_of(nodes, name)
+
+
+def file_of(nodes, name):
+    """The same of the nodes of an image that mounts."""
     objects, names = tree(nodes)
     ino = dict(names.get(1, [])).get(name)
     if ino not in objects:

@@ -63,13 +63,21 @@ run check --scan; want 2 "" "error: *<IMAGE>*Usage: *"
 run check --scan block block; want 2 "" "$wrong"
 run check --scan --colour block; want 2 "" "error: unexpected argument '--colour' found*Usage: *"
 run check --scan --block; want 2 "" "error: *--block <N>*"
-for value in x "" -1 0x1000 4294967296 99999999999 "4096 "; do
+for value in x "" -1 0x 0X1000 0x1g 4k 4KB K 4096MiB 4294967296 99999999999 "4096 "; do
     run check --scan "--block=$value" block; want 2 "" "error: invalid value '$value' for '--block <N>': *--help*"
 done
 for value in middle Little ""; do
     run check --scan "--endian=$value" block; want 2 "" "error: invalid value '$value' for '--endian <ORDER>': *--help*"
 done
 run check --scan $'\xff'; want 2 "" "error: the command line is not UTF-8"
+# The size of a block in its other forms, and the byte order by a letter
+for words in "--block 4096" "--block=0x1000" "-e 4K" "-e4KiB" "--eraseblock 4096" "-l -e 4K" "-be 4K" "--big-endian -e 0x1000"; do
+    run check --scan $words block; want 0 $'block 0\n00000000 erased 4096\ntotal blocks 1 entries 0 inodes 0 findings 0' ""
+done
+run check --scan -e 1M block; want 0 $'block 0\n00000000 erased 1048576\n*' ""
+run check --scan -l -b block; want 2 "" "error: invalid value 'two orders' for '--endian <ORDER>': *--help*"
+run check --scan -b --endian big block; want 2 "" "error: invalid value 'two orders' for '--endian <ORDER>': *--help*"
+run check --scan -e 4096 --block 4096 block; want 2 "" "error: the argument '--block <N>' cannot be used multiple times*"
 
 # Help
 for words in --help -h help; do
@@ -91,10 +99,10 @@ for words in --help "check --help"; do
     [[ $bad == 0 ]] || echo "FAILED: one line feed ends $line"
 done
 
-line="the lines of help, 80 columns wide at most"
-for words in --help "check --help" "ls --help" "cat --help" "build --help" "append --help" "decompress --help" "extract --help" "listing --help" "info --help" "diff --help" "damage --help" "pack --help"; do
+line="the lines of help, 84 columns wide at most"
+for words in --help "check --help" "ls --help" "cat --help" "build --help" "append --help" "update --help" "decompress --help" "compress --help" "compact --help" "extract --help" "listing --help" "info --help" "cuts --help" "diff --help" "damage --help" "map --help" "pack --help"; do
     "$program" $words > out
-    awk 'length > 80 { print; wide = 1 } END { exit wide }' out
+    awk 'length > 84 { print; wide = 1 } END { exit wide }' out
     count $?
 done
 
@@ -325,7 +333,8 @@ run info uimage; want 0 $'bytes 8196\norder little nodes 24 *' "jffs2_image: not
 run diff; want 2 "" "error: *<A>*<B>*Usage: *"
 run diff "$tree"; want 2 "" "error: *<B>*Usage: *"
 run diff "$tree" "$tree" block; want 2 "" "$wrong"
-run diff --decompress "$tree" "$tree"; want 2 "" "error: unexpected argument '--decompress' found*Usage: *"
+run diff --scan "$tree" "$tree"; want 2 "" "error: unexpected argument '--scan' found*Usage: *"
+run diff --decompress "$tree" "$tree"; want 0 "" ""
 run diff --block x "$tree" "$tree"; want 2 "" "error: invalid value 'x' for '--block <N>': *"
 run diff none none2; want 1 "" "$(unopened none)"
 run diff "$tree" none2; want 1 "" "$(unopened none2)"
@@ -334,13 +343,26 @@ run diff "$tree" larger; want 1 "" "jffs2_image: L2 TooLarge"
 run diff --block 4097 "$tree" "$tree"; want 1 "" "jffs2_image: M1 BlockSize$block_note"
 run diff --block 8192 "$tree" "$top/tests/data/default.img"; want 1 "" "jffs2_image: M4 Compressed at *"
 run damage; want 2 "" "error: *<IMAGE>*Usage: *"
-run damage --decompress "$tree"; want 2 "" "error: unexpected argument '--decompress' found*Usage: *"
+run damage --scan "$tree"; want 2 "" "error: unexpected argument '--scan' found*Usage: *"
+run damage --decompress "$tree"; want 0 "total damaged 0 paths 0 missing 0" ""
 run damage none; want 1 "" "$(unopened none)"
 run damage --block 4097 "$tree"; want 1 "" "jffs2_image: M1 BlockSize$block_note"
 run damage "$tree"; want 0 "total damaged 0 paths 0 missing 0" ""
 for words in "damage --help" "damage -h" "help damage"; do
     run $words; want 0 "*Usage: jffs2_image damage *<IMAGE>*hides PATH*Exit status:*" ""
 done
+run map; want 2 "" "error: *<IMAGE>*Usage: *"
+run map --decompress "$tree"; want 2 "" "error: unexpected argument '--decompress' found*Usage: *"
+run map none; want 1 "" "$(unopened none)"
+run map folder; want 1 "" "$(unread folder)"
+run map --block 4097 "$tree"; want 1 "" "jffs2_image: M1 BlockSize$block_note"
+for words in "map --help" "map -h" "help map"; do
+    run $words; want 0 "*Usage: jffs2_image map *<IMAGE>*nodes that the tree needs*Exit status:*" ""
+done
+run check --decompress --block 8192 "$top/tests/data/default.img"; want 0 $'block 0\n*\nmount ok' ""
+run check --decompress --shape --block 8192 "$top/tests/data/default.img"; want 0 $'*\nmount ok\nshape ok' ""
+run check --decompress --scan --block 8192 "$top/tests/data/default.img"; want 3 $'*\ntotal blocks *' ""
+run check --block 8192 "$top/tests/data/default.img"; want 3 $'*\nmount refused M4 Compressed at *' ""
 for words in "diff --help" "diff -h" "help diff"; do
     run $words; want 0 "*Usage: jffs2_image diff *<A> <B>*PATH at OFFSET*Exit status:*" ""
 done
@@ -369,6 +391,10 @@ run diff flipped one.img; want 3 "*+ d 0755 0 0 0 /d*" "$(named flipped 1)"
 cp flipped $'a\nb'; run diff one.img $'a\nb'; want 3 "*" "$(named 'a\\\\x0ab' 1)"
 run damage one.img; want 0 "total damaged 0 paths 0 missing 0" ""
 run damage flipped; want 3 "*total damaged 1 *" "$(noted 1)"
+run map one.img; want 0 $'# live *\nblock *\n    0 00000000 *\ntotal *' ""
+run map flipped; want 0 $'# live *\n    0 00000000 *\ntotal *' "$(noted 1)"
+run map other; want 0 $'# live *\n    0 00000000 *\ntotal *' "$(unseen 1)"
+run map --svg one.img; want 0 "<svg *</svg>" ""
 # Where no node is found that is a fault, of diff with the name of the image.
 no_node="note: no node is found in either byte order, see info"
 run damage other; want 1 "" $'jffs2_image: I1 NoNodes\njffs2_image: '"$no_node"
@@ -894,6 +920,14 @@ run append "${small[@]}" --blocks 4 --endian big "$tree" create_b built; want 0 
 run append --weak --blocks 2 --endian big file create_b built; want 0 "accepted 1 nodes 2 bytes 124" "$(unseen "[1-9]*" 2)"
 run append --decompress --blocks 2 other create_b built; want 0 "accepted 1 nodes 2 bytes 124" "$(unseen 1)"
 run append --blocks 1 flipped create_b built; want 1 "" "jffs2_image: S2 Full needed 112 free 0 line 1$(fits 2)"
+run update --blocks 2 flipped create_b built; want 0 "accepted 1 nodes 2 bytes 124" "$(noted 1)"
+run update flipped create_b built; want 1 "" "jffs2_image: S2 Full needed 112 free 0 line 1"
+run update none create_b built; want 1 "" "$(unopened none)"
+run update flipped none built; want 1 "" "$(unopened none)"
+run update --blocks 2 flipped create_b; want 2 "" "error: *<OUT>*Usage: *"
+for words in "update --help" "update -h" "help update"; do
+    run $words; want 0 "*Usage: jffs2_image update *<IMAGE> <LISTING> <OUT>*new nodes in its blank blocks*Exit status:*" ""
+done
 run append --blocks 2 flipped create_b none/built; want 1 "" "$(unopened none/built)"
 
 # IMAGE and OUT in one file, also where the first operation is refused
@@ -1036,12 +1070,12 @@ run cat built /a/file; whole content
 
 # The manual pages have the commands and options of the help, the faults that the sources spell but
 # for those that no command tells, and the lines of a listing.
-for words in --help "check --help" "ls --help" "cat --help" "build --help" "append --help" "decompress --help" "info --help" "diff --help"; do
+for words in --help "check --help" "ls --help" "cat --help" "build --help" "append --help" "update --help" "decompress --help" "info --help" "diff --help" "map --help"; do
     run $words
     for word in $(sed -n '/^Commands:/,/^$/s/^  \([a-z]*\) .*/\1/p' out); do
         told "$word" "^\.(Nm jffs2_image |It )?Cm $word( |$)"
     done
-    for word in $(sed -n '/^Options:/,/^$/p' out | grep -oE -- '--[a-z]+'); do
+    for word in $(sed -n '/^Options:/,/^$/p' out | grep -oE -- '--[a-z-]+'); do
         told "$word" "^\.It Fl (. , Fl )?${word#-}( |$)"
     done
 done

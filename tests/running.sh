@@ -66,6 +66,9 @@ clash_note() {
     printf 'decompress --clashes higher keeps that of the highest address'
 }
 
+# of a clash of which one node alone is told
+# shellcheck disable=SC2034
+unpaired_note=$'\n'"jffs2_image: note: two nodes differ; decompress --clashes higher keeps that of the higher address"
 # shellcheck disable=SC2034
 no_space=$'\n'"jffs2_image: note: no space"
 # shellcheck disable=SC2034
