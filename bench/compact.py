@@ -49,7 +49,7 @@ def later(kind, node):
 
 
 def laid(nodes):
-    """The nodes block by block, each block with its clean marker."""
+    """The nodes block by block, each block with its clean marker, up to the end of the last one."""
     front = struct.pack("<HHI", 0x1985, 0x2003, MARKER)
     marker, image = front + struct.pack("<I", crc(front)), bytearray()
     for node in nodes:
@@ -57,7 +57,7 @@ def laid(nodes):
         if len(image) % BLOCK == 0 or len(image) % BLOCK + len(node) > BLOCK:
             image += b"\xff" * (-len(image) % BLOCK) + marker
         image += node
-    return bytes(image)
+    return bytes(image + b"\xff" * (-len(image) % BLOCK))
 
 
 def used_of(name):
