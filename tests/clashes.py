@@ -8,12 +8,11 @@ made mounts, or says M6, and no node of it is left out again. The last line is '
 """
 import os
 import random
-import subprocess
 import tempfile
 
 import compressed_images as images
 import decompress_model as model
-from groups import PROGRAM
+from groups import run
 
 COUNT, BLOCK = 400, 8192
 METHODS = (None, images.RTIME, images.ZLIB, images.LZO)
@@ -42,11 +41,6 @@ def image_of(chance, order):
     if image and chance.random() < 0.2:
         image[chance.randrange(len(image))] ^= 1
     return bytes(image)
-
-
-def run(*words):
-    done = subprocess.run([PROGRAM, *words], stdin=subprocess.DEVNULL, capture_output=True, check=False)
-    return done.returncode, done.stdout.decode(), done.stderr.decode()
 
 
 def is_right(image, order, folder):

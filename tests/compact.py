@@ -17,26 +17,10 @@ import compact_model as model
 import compressed_images as images
 import decompress_model
 import hostile_model
-from groups import PROGRAM, ROOT, run_all, verdict, write
+from groups import BLOCK, ORDERS, PROGRAM, ROOT, options_of, read, run, run_all, verdict, write
 
-BLOCK = 8192
-ORDERS = {"<": "little", ">": "big"}
 FOLDER = images.DIRECTORY
 METHODS = (None, None, images.RTIME, images.ZLIB, images.LZO, images.LZMA)
-
-
-def run(*words):
-    done = subprocess.run([PROGRAM, *words], stdin=subprocess.DEVNULL, capture_output=True, check=False)
-    return done.returncode, done.stdout.decode(), done.stderr.decode()
-
-
-def options_of(order, size=BLOCK):
-    return ["--block", str(size), "--endian", ORDERS[order]]
-
-
-def read(name):
-    with open(name, "rb") as file:
-        return file.read()
 
 
 # ---- what is made

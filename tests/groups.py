@@ -1,11 +1,14 @@
 """Tests of the finished program in groups: which program it is, what came of a run of it, and how many tests passed."""
 import collections
 import os
+import subprocess
 import sys
 import tempfile
 
 ROOT = os.path.dirname(os.path.dirname(os.path.abspath(__file__)))
 PROGRAM = os.path.realpath(sys.argv[1] if len(sys.argv) > 1 else f"{ROOT}/crates/jffs2_image/out/jffs2_image")
+BLOCK = 8192
+ORDERS = {"<": "little", ">": "big"}
 counts = collections.Counter()
 Done = collections.namedtuple("Done", "status out err")
 
@@ -16,6 +19,22 @@ def verdict(about, right, done=None):
     if not right:
         told = f": status {done.status}, {done.out[:300]!r}, {done.err[:300]!r}" if done else ""
         print(f"FAILED: {about}{told}", flush=True)
+
+
+def run(*words):
+    """Runs the program, and answers its status and what it wrote to both outputs."""
+    done = subprocess.run([PROGRAM, *words], stdin=subprocess.DEVNULL, capture_output=True, check=False)
+    return done.returncode, done.stdout.decode(), done.stderr.decode()
+
+
+def options_of(order, size=BLOCK):
+    """The options for a byte order and a block size."""
+    return ["--block", str(size), "--endian", ORDERS[order]]
+
+
+def read(name):
+    with open(name, "rb") as file:
+        return file.read()
 
 
 def write(name, data):

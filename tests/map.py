@@ -7,7 +7,6 @@ bytes. The picture is well formed XML, also of names that have `&`, `<` or bytes
 block. Then images that do not mount, of which nothing is printed. The last line is 'N passed, M failed'.
 """
 import os
-import subprocess
 import sys
 import xml.etree.ElementTree as xml
 
@@ -15,19 +14,9 @@ import compact
 import compact_model
 import compressed_images as images
 import map_model as model
-from groups import PROGRAM, ROOT, run_all, verdict, write
+from groups import BLOCK, ROOT, options_of, run, run_all, verdict, write
 
-BLOCK = compact.BLOCK
 SVG = "{http://www.w3.org/2000/svg}"
-
-
-def run(*words):
-    done = subprocess.run([PROGRAM, *words], stdin=subprocess.DEVNULL, capture_output=True, check=False)
-    return done.returncode, done.stdout.decode(), done.stderr.decode()
-
-
-def options_of(order, size):
-    return ["--block", str(size), "--endian", compact.ORDERS[order]]
 
 
 def sums_up(text, size):

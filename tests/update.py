@@ -15,10 +15,8 @@ import sys
 import hostile_model
 import update_model as model
 from cuts import Tree, hexed, laid
-from groups import PROGRAM, ROOT, run_all, verdict, write
+from groups import BLOCK, ORDERS, PROGRAM, ROOT, options_of, read, run, run_all, verdict, write
 
-SIZE = 8192
-ORDERS = {"<": "little", ">": "big"}
 BASE = [
     "time 5",
     "owner 3 4",
@@ -36,20 +34,6 @@ LISTINGS = {
     "text": ["create 0644 /n", "write /n 0 " + (b"text " * 3000).hex(), "truncate /n 777", "write /n 2000 f0"],
     "changes": ["write /d/a 100 " + hexed(4, 300), "truncate /t 50", "remove /s", "mkdir 0700 /e", "link /d/a /e/l"],
 }
-
-
-def run(*words):
-    done = subprocess.run([PROGRAM, *words], stdin=subprocess.DEVNULL, capture_output=True, check=False)
-    return done.returncode, done.stdout.decode(), done.stderr.decode()
-
-
-def options_of(order, size=SIZE):
-    return ["--block", str(size), "--endian", ORDERS[order]]
-
-
-def read(name):
-    with open(name, "rb") as file:
-        return file.read()
 
 
 def write_lines(name, lines):
@@ -71,7 +55,7 @@ def tree_of(*listings):
     return tree, count
 
 
-def note_of(image, order, size=SIZE):
+def note_of(image, order, size=BLOCK):
     """What stands on standard error of an image with findings."""
     findings = hostile_model.report(image, size, order)[3]
     word = "finding" if findings == 1 else "findings"
@@ -79,7 +63,7 @@ def note_of(image, order, size=SIZE):
     return said if findings else ""
 
 
-def shows(image, order, tree, size=SIZE):
+def shows(image, order, tree, size=BLOCK):
     """Whether an image shows this file system through its compression, with the bytes of its files."""
     write("shown", image)
     told = list(tree.lines())
@@ -93,7 +77,7 @@ def shows(image, order, tree, size=SIZE):
 
 # ---- images of a device
 
-def spread(image, order, seed, blank=3, size=SIZE):
+def spread(image, order, seed, blank=3, size=BLOCK):
     """The blocks of an image in another order, with blank ones between them, of which one has a part of its marker."""
     chance = random.Random(f"update {seed}")
     blocks = [model.block_of(image, k, size) for k in range(-(-len(image) // size))]
@@ -113,7 +97,7 @@ def device_image(order, packed, seed):
 
 # ---- one update
 
-def is_kept(image, out, row, order, size=SIZE):
+def is_kept(image, out, row, order, size=BLOCK):
     """Whether all that an update may not change is as it was, and what it left is erased."""
     places = dict(row)
     for number in range(-(-len(out) // size)):
@@ -128,7 +112,7 @@ def is_kept(image, out, row, order, size=SIZE):
     return len(out) >= len(image)
 
 
-def update(image, order, lines, *words, size=SIZE):
+def update(image, order, lines, *words, size=BLOCK):
     """Runs `update`, and answers what it told, OUT, the openings that it had, and the nodes that it put there."""
     write("image", image)
     write_lines("listing", lines)
@@ -141,7 +125,7 @@ def update(image, order, lines, *words, size=SIZE):
     return told, out, row, list(model.nodes_in(out, row, size, order)) if out else []
 
 
-def put_bytes(nodes, size=SIZE):
+def put_bytes(nodes, size=BLOCK):
     """How many bytes go out for nodes: from the first to the last of each block, with its marker and what fills nodes up."""
     ends = {}
     for address, length, _ in nodes:
@@ -161,9 +145,9 @@ def try_update(about, image, order, base, lines, *words):
     if out is None:
         return None, []
     verdict(f"{about}: what is kept", is_kept(image, out, row, order))
-    wanted = list(model.places(row, [length for _, length, _ in nodes], SIZE))
+    wanted = list(model.places(row, [length for _, length, _ in nodes], BLOCK))
     verdict(f"{about}: places", [address for address, _, _ in nodes] == wanted and len(nodes) == steps)
-    verdict(f"{about}: each byte", out == model.with_nodes(model.erased_in(image, row, SIZE), nodes, SIZE, order))
+    verdict(f"{about}: each byte", out == model.with_nodes(model.erased_in(image, row, BLOCK), nodes, BLOCK, order))
     verdict(f"{about}: the tree", shows(out, order, tree))
     return out, nodes
 
@@ -199,9 +183,9 @@ def stops():
             tree, _ = tree_of(BASE)
             right = bool(nodes)
             for count, (node, step) in enumerate(zip(nodes, steps_of(tree, lines)), 1):
-                right = right and shows(model.with_nodes(image, nodes[:count], SIZE, order, node[1] - 1), order, tree)
+                right = right and shows(model.with_nodes(image, nodes[:count], BLOCK, order, node[1] - 1), order, tree)
                 step()
-                right = right and shows(model.with_nodes(image, nodes[:count], SIZE, order, node[1]), order, tree)
+                right = right and shows(model.with_nodes(image, nodes[:count], BLOCK, order, node[1]), order, tree)
             verdict(f"stops of {about}, {ORDERS[order]} {' '.join(words)}", right)
 
 
@@ -252,13 +236,13 @@ def refused():
         ("a page that is none", ["--page", "4097"], 2, "error: invalid value '4097'"),
         ("a block that holds no node of it", ["--block", "4096"], 1, "jffs2_image: Z2 TooLong at "),
     ):
-        told = run("update", "--block", str(SIZE), *words, "image", "listing", "other") if "--block" not in words else run("update", *words, "image", "listing", "other")
+        told = run("update", "--block", str(BLOCK), *words, "image", "listing", "other") if "--block" not in words else run("update", *words, "image", "listing", "other")
         verdict(about, told[:2] == (status, "") and told[2].startswith(fault) and not os.path.exists("other"))
     for about, words in (("no LISTING", ["image", "missing", "other"]), ("no IMAGE", ["missing", "listing", "other"])):
         told = run("update", *options_of("<"), *words)
         verdict(about, told[:2] == (1, "") and told[2].startswith("jffs2_image: P1 File missing\n") and not os.path.exists("other"))
     broken = bytearray(image)
-    at = next(at for at, what, _ in hostile_model.report(image, SIZE)[1] if what == "compressed")
+    at = next(at for at, what, _ in hostile_model.report(image, BLOCK)[1] if what == "compressed")
     broken[at + 80] ^= 1
     told, out, *_ = update(bytes(broken), "<", ["create 0644 /b"])
     verdict("a damaged node", told[0] == 0 and told[2] == note_of(bytes(broken), "<") != note_of(image, "<") and out is not None)
@@ -271,7 +255,7 @@ def files():
     image = device_image("<", True, 3)
     for words in ([], ["--atomic"]):
         told, out, *_ = update(image, "<", ["create 0644 /b"], "--pad", "--blocks", "20", *words)
-        verdict(f"--pad --blocks 20 {' '.join(words)}", told[0] == 0 and len(out) == 20 * SIZE and shows(out, "<", tree_of(BASE, ["create 0644 /b"])[0]))
+        verdict(f"--pad --blocks 20 {' '.join(words)}", told[0] == 0 and len(out) == 20 * BLOCK and shows(out, "<", tree_of(BASE, ["create 0644 /b"])[0]))
     write("image", image)
     write_lines("listing", ["create 0644 /b"])
     told = run("update", *options_of("<"), "--atomic", "image", "listing", "image")
