@@ -211,6 +211,13 @@ file_agrees s words =
     (others s (codes "file") 3 (λ is a. refl) (λ is a b. refl) (λ is a b c. absurd (is refl)) (λ is a b c d e. refl) (λ is a b c d e f. refl) words)
     (exactly_three (Form s (codes "file") (kind.Mode ∷ kind.Text ∷ kind.EscapedName ∷ [])) (λ a b c. form_three (mode_of a) (text_of b) (escaped_name_of c) _) words)
 
+put_agrees : (s : Settings) (words : List (List ℕ)) → Agree s (codes "put" ∷ words)
+unfolding operands_of operation_operands one_operand two_operands three_operands five_operands six_operands
+put_agrees s words =
+    by_count s (codes "put") (kind.Mode ∷ kind.Text ∷ kind.EscapedName ∷ []) words refl
+    (others s (codes "put") 3 (λ is a. refl) (λ is a b. refl) (λ is a b c. absurd (is refl)) (λ is a b c d e. refl) (λ is a b c d e f. refl) words)
+    (exactly_three (Form s (codes "put") (kind.Mode ∷ kind.Text ∷ kind.EscapedName ∷ [])) (λ a b c. form_three (mode_of a) (text_of b) (escaped_name_of c) _) words)
+
 device_agrees : (s : Settings) (words : List (List ℕ)) → Agree s (codes "device" ∷ words)
 unfolding operands_of operation_operands one_operand two_operands three_operands five_operands six_operands
 device_agrees s words =
@@ -274,6 +281,13 @@ remove_agrees s words =
     (others s (codes "remove") 1 (λ is a. absurd (is refl)) (λ is a b. refl) (λ is a b c. refl) (λ is a b c d e. refl) (λ is a b c d e f. refl) words)
     (exactly_one (Form s (codes "remove") (kind.Text ∷ [])) (λ a. form_one (text_of a) _) words)
 
+remove_if_agrees : (s : Settings) (words : List (List ℕ)) → Agree s (codes "remove-if" ∷ words)
+unfolding operands_of operation_operands one_operand two_operands three_operands five_operands six_operands
+remove_if_agrees s words =
+    by_count s (codes "remove-if") (kind.Text ∷ []) words refl
+    (others s (codes "remove-if") 1 (λ is a. absurd (is refl)) (λ is a b. refl) (λ is a b c. refl) (λ is a b c d e. refl) (λ is a b c d e f. refl) words)
+    (exactly_one (Form s (codes "remove-if") (kind.Text ∷ [])) (λ a. form_one (text_of a) _) words)
+
 attr_agrees : (s : Settings) (words : List (List ℕ)) → Agree s (codes "attr" ∷ words)
 unfolding operands_of operation_operands one_operand two_operands three_operands five_operands six_operands
 attr_agrees s words =
@@ -299,6 +313,7 @@ nothing : (s : Settings) (name : List ℕ) (words : List (List ℕ))
     → bytes_eq name (codes "fifo") ≡ false
     → bytes_eq name (codes "socket") ≡ false
     → bytes_eq name (codes "file") ≡ false
+    → bytes_eq name (codes "put") ≡ false
     → bytes_eq name (codes "device") ≡ false
     → bytes_eq name (codes "symlink") ≡ false
     → bytes_eq name (codes "link") ≡ false
@@ -308,15 +323,16 @@ nothing : (s : Settings) (name : List ℕ) (words : List (List ℕ))
     → bytes_eq name (codes "part") ≡ false
     → bytes_eq name (codes "truncate") ≡ false
     → bytes_eq name (codes "remove") ≡ false
+    → bytes_eq name (codes "remove-if") ≡ false
     → bytes_eq name (codes "attr") ≡ false
     → statement_of_words s (name ∷ words) ≡ None
 unfolding operands_of operation_operands one_operand two_operands three_operands five_operands six_operands
-nothing s name [] t_time t_owner t_mkdir t_create t_fifo t_socket t_file t_device t_symlink t_link t_rename t_replace t_write t_part t_truncate t_remove t_attr = refl
-nothing s name (a ∷ words) t_time t_owner t_mkdir t_create t_fifo t_socket t_file t_device t_symlink t_link t_rename t_replace t_write t_part t_truncate t_remove t_attr =
+nothing s name [] t_time t_owner t_mkdir t_create t_fifo t_socket t_file t_put t_device t_symlink t_link t_rename t_replace t_write t_part t_truncate t_remove t_remove_if t_attr = refl
+nothing s name (a ∷ words) t_time t_owner t_mkdir t_create t_fifo t_socket t_file t_put t_device t_symlink t_link t_rename t_replace t_write t_part t_truncate t_remove t_remove_if t_attr =
     others s name 0
-    (λ is a. simp (t_time, t_remove))
+    (λ is a. simp (t_time, t_remove, t_remove_if))
     (λ is a b. simp (t_owner, t_mkdir, t_create, t_fifo, t_socket, t_symlink, t_link, t_rename, t_replace, t_truncate))
-    (λ is a b c. simp (t_file, t_write, t_part))
+    (λ is a b c. simp (t_file, t_put, t_write, t_part))
     (λ is a b c d e. simp t_device)
     (λ is a b c d e f. simp t_attr)
     (a ∷ words) (λ is. absurd (omega arith))
@@ -329,6 +345,7 @@ unnamed : (s : Settings) (name : List ℕ) (words : List (List ℕ))
     → bytes_eq name (codes "fifo") ≡ false
     → bytes_eq name (codes "socket") ≡ false
     → bytes_eq name (codes "file") ≡ false
+    → bytes_eq name (codes "put") ≡ false
     → bytes_eq name (codes "device") ≡ false
     → bytes_eq name (codes "symlink") ≡ false
     → bytes_eq name (codes "link") ≡ false
@@ -338,13 +355,14 @@ unnamed : (s : Settings) (name : List ℕ) (words : List (List ℕ))
     → bytes_eq name (codes "part") ≡ false
     → bytes_eq name (codes "truncate") ≡ false
     → bytes_eq name (codes "remove") ≡ false
+    → bytes_eq name (codes "remove-if") ≡ false
     → bytes_eq name (codes "attr") ≡ false
     → Agree s (name ∷ words)
 unfolding operands_of operation_operands one_operand two_operands three_operands five_operands six_operands
-unnamed s name words t_time t_owner t_mkdir t_create t_fifo t_socket t_file t_device t_symlink t_link t_rename t_replace t_write t_part t_truncate t_remove t_attr =
-    let none : operands_of name ≡ None = simp (t_time, t_owner, t_mkdir, t_create, t_fifo, t_socket, t_file, t_device, t_symlink, t_link, t_rename, t_replace, t_write, t_part, t_truncate, t_remove, t_attr) in
+unnamed s name words t_time t_owner t_mkdir t_create t_fifo t_socket t_file t_put t_device t_symlink t_link t_rename t_replace t_write t_part t_truncate t_remove t_remove_if t_attr =
+    let none : operands_of name ≡ None = simp (t_time, t_owner, t_mkdir, t_create, t_fifo, t_socket, t_file, t_put, t_device, t_symlink, t_link, t_rename, t_replace, t_write, t_part, t_truncate, t_remove, t_remove_if, t_attr) in
     ap (λ (o : Option (List Operand)). is_none (form_rule o words)) none
-    ∙ sym (ap (λ (o : Option Statement). is_some o) (nothing s name words t_time t_owner t_mkdir t_create t_fifo t_socket t_file t_device t_symlink t_link t_rename t_replace t_write t_part t_truncate t_remove t_attr))
+    ∙ sym (ap (λ (o : Option Statement). is_some o) (nothing s name words t_time t_owner t_mkdir t_create t_fifo t_socket t_file t_put t_device t_symlink t_link t_rename t_replace t_write t_part t_truncate t_remove t_remove_if t_attr))
 
 named_agree : (s : Settings) (name : List ℕ) (words : List (List ℕ)) → Agree s (name ∷ words)
 named_agree s name words =
@@ -356,6 +374,7 @@ named_agree s name words =
     if_named P name (codes "fifo") (fifo_agrees s words) (λ t_fifo.
     if_named P name (codes "socket") (socket_agrees s words) (λ t_socket.
     if_named P name (codes "file") (file_agrees s words) (λ t_file.
+    if_named P name (codes "put") (put_agrees s words) (λ t_put.
     if_named P name (codes "device") (device_agrees s words) (λ t_device.
     if_named P name (codes "symlink") (symlink_agrees s words) (λ t_symlink.
     if_named P name (codes "link") (link_agrees s words) (λ t_link.
@@ -365,8 +384,9 @@ named_agree s name words =
     if_named P name (codes "part") (part_agrees s words) (λ t_part.
     if_named P name (codes "truncate") (truncate_agrees s words) (λ t_truncate.
     if_named P name (codes "remove") (remove_agrees s words) (λ t_remove.
+    if_named P name (codes "remove-if") (remove_if_agrees s words) (λ t_remove_if.
     if_named P name (codes "attr") (attr_agrees s words) (λ t_attr.
-    unnamed s name words t_time t_owner t_mkdir t_create t_fifo t_socket t_file t_device t_symlink t_link t_rename t_replace t_write t_part t_truncate t_remove t_attr)))))))))))))))))
+    unnamed s name words t_time t_owner t_mkdir t_create t_fifo t_socket t_file t_put t_device t_symlink t_link t_rename t_replace t_write t_part t_truncate t_remove t_remove_if t_attr)))))))))))))))))))
 
 words_agree : (s : Settings) (words : List (List ℕ)) → Agree s words
 words_agree s [] = refl

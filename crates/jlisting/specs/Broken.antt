@@ -40,6 +40,7 @@ operation_operands name =
     else if bytes_eq name (codes "fifo") then Some new_object
     else if bytes_eq name (codes "socket") then Some new_object
     else if bytes_eq name (codes "file") then Some (kind.Mode ∷ kind.Text ∷ kind.EscapedName ∷ [])
+    else if bytes_eq name (codes "put") then Some (kind.Mode ∷ kind.Text ∷ kind.EscapedName ∷ [])
     else if bytes_eq name (codes "device") then Some
     (kind.DeviceKind ∷ kind.Mode ∷ kind.Number 4095 ∷ kind.Number 1048575 ∷ kind.Text ∷ [])
     else if bytes_eq name (codes "symlink") then Some two_texts
@@ -50,6 +51,7 @@ operation_operands name =
     else if bytes_eq name (codes "part") then Some (kind.Text ∷ a_number ∷ kind.FileName ∷ [])
     else if bytes_eq name (codes "truncate") then Some (kind.Text ∷ a_number ∷ [])
     else if bytes_eq name (codes "remove") then Some (kind.Text ∷ [])
+    else if bytes_eq name (codes "remove-if") then Some (kind.Text ∷ [])
     else if bytes_eq name (codes "attr") then Some
     (kind.Mode ∷ an_owner ∷ an_owner ∷ a_number ∷ a_number ∷ kind.Text ∷ [])
     else None

@@ -47,6 +47,10 @@ abbrev pub file_line : Settings → List ℕ → List ℕ → List ℕ → Optio
 file_line s a b c = mode_of a >>= λ mode. text_of b >>= λ path. escaped_name_of c >>= λ file.
     Some (kind.Action (action.File s.time path mode s.uid s.gid file))
 
+abbrev pub put_line : Settings → List ℕ → List ℕ → List ℕ → Option Statement
+put_line s a b c = mode_of a >>= λ mode. text_of b >>= λ path. escaped_name_of c >>= λ file.
+    Some (kind.Action (action.Put s.time path mode s.uid s.gid file))
+
 -- the numbers of a device: 12 bits and 20, as Linux has them (include/linux/kdev_t.h)
 abbrev pub major_word : List ℕ → Option ℕ
 major_word word = decimal_of 4095 word
@@ -96,6 +100,9 @@ replace_line s a b = text_of a >>= λ old. text_of b >>= λ new. operation (op.R
 abbrev pub remove_line : Settings → List ℕ → Option Statement
 remove_line s a = text_of a >>= λ path. operation (op.Remove s.time path)
 
+abbrev pub remove_if_line : Settings → List ℕ → Option Statement
+remove_if_line s a = text_of a >>= λ path. operation (op.RemoveIf s.time path)
+
 abbrev pub attr_line : Settings → List ℕ → List ℕ → List ℕ → List ℕ → List ℕ → List ℕ
     → Option Statement
 attr_line s a b c d e f =
@@ -112,6 +119,7 @@ unfoldable pub one_operand : Settings → List ℕ → List ℕ → Option State
 one_operand s name a =
     if bytes_eq name (codes "time") then time_line s a
     else if bytes_eq name (codes "remove") then remove_line s a
+    else if bytes_eq name (codes "remove-if") then remove_if_line s a
     else None
 
 unfoldable pub two_operands : Settings → List ℕ → List ℕ → List ℕ → Option Statement
@@ -131,6 +139,7 @@ two_operands s name a b =
 unfoldable pub three_operands : Settings → List ℕ → List ℕ → List ℕ → List ℕ → Option Statement
 three_operands s name a b c =
     if bytes_eq name (codes "file") then file_line s a b c
+    else if bytes_eq name (codes "put") then put_line s a b c
     else if bytes_eq name (codes "write") then write_line s a b c
     else if bytes_eq name (codes "part") then part_line s a b c
     else None
@@ -213,6 +222,7 @@ abbrev pub file_of : Action → Option (List ℕ)
 file_of (action.Op o) = None
 file_of (action.Device time path device mode uid gid major minor) = None
 file_of (action.File time path mode uid gid file) = Some file
+file_of (action.Put time path mode uid gid file) = Some file
 file_of (action.Part time path offset file) = Some file
 
 -- the operation in an image of a byte order, where that file has these bytes
@@ -221,4 +231,5 @@ op_of e (action.Op o) bytes = o
 op_of e (action.Device time path device mode uid gid major minor) bytes =
     op.Device time path device mode uid gid (device_number e major minor)
 op_of e (action.File time path mode uid gid file) bytes = op.File time path mode uid gid bytes
+op_of e (action.Put time path mode uid gid file) bytes = op.Put time path mode uid gid bytes
 op_of e (action.Part time path offset file) bytes = op.Write time path offset bytes

@@ -20,6 +20,14 @@ pub fn file_is_listed()
         ∷ record { number = 4; action = action.Op (op.Write 0 (codes "/a") 8 []) } ∷ []) }
 {}
 
+/// A removal of a name that may be gone already.
+#[tactic(auto, unfolding(crate::specs::Listing::lines_of, crate::specs::Listing::statement_of, crate::specs::Listing::one_operand))]
+pub fn retried_removal_is_listed()
+    ensures { lines_of (codes "remove /a\nremove-if /b") ≡ Ok (
+        record { number = 1; action = action.Op (op.Remove 0 (codes "/a")) }
+        ∷ record { number = 2; action = action.Op (op.RemoveIf 0 (codes "/b")) } ∷ []) }
+{}
+
 /// Settings hold for the lines after them.
 #[tactic(auto, unfolding(crate::specs::Listing::lines_of, crate::specs::Listing::statement_of, crate::specs::Listing::one_operand, crate::specs::Listing::two_operands))]
 pub fn settings_are_listed()

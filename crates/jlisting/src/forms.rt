@@ -1,7 +1,7 @@
 //! The forms of a line, each by the words after its first.
 
 ghost use Rattle.jline.specs.Read.{IsRead};
-ghost use Rattle.jlisting.specs.Listing.{time_line, owner_line, mkdir_line, create_line, file_line, device_line, fifo_line, socket_line, symlink_line, write_line, part_line, truncate_line, link_line, rename_line, replace_line, remove_line, attr_line};
+ghost use Rattle.jlisting.specs.Listing.{attr_line, create_line, device_line, fifo_line, file_line, link_line, mkdir_line, owner_line, part_line, put_line, remove_if_line, remove_line, rename_line, replace_line, socket_line, symlink_line, time_line, truncate_line, write_line};
 
 use crate::line::Action;
 use crate::statement::{Settings, Statement};
@@ -92,6 +92,29 @@ pub fn read_file<'a>(
     let path = text_word(alloc, path)?;
     let file = escaped_file_word(alloc, file)?;
     Ok(Statement::Action(Action::File {
+        time: settings.time,
+        path,
+        mode,
+        uid: settings.uid,
+        gid: settings.gid,
+        file,
+    }))
+}
+
+/// `put MODE PATH FILE`
+pub fn read_put<'a>(
+    alloc: Global,
+    settings: Settings,
+    mode: &'a [u8],
+    path: &'a [u8],
+    file: &'a [u8],
+) -> Result<Statement<'a>, WordFault>
+    ensures { IsRead (put_line settings mode.entry.now path.entry.now file.entry.now) result }
+{
+    let mode = mode_word(mode)?;
+    let path = text_word(alloc, path)?;
+    let file = escaped_file_word(alloc, file)?;
+    Ok(Statement::Action(Action::Put {
         time: settings.time,
         path,
         mode,
@@ -315,6 +338,21 @@ pub fn read_remove<'a>(
 {
     let path = text_word(alloc, path)?;
     Ok(Statement::Action(Action::Op(Op::Remove {
+        time: settings.time,
+        path,
+    })))
+}
+
+/// `remove-if PATH`
+pub fn read_remove_if<'a>(
+    alloc: Global,
+    settings: Settings,
+    path: &'a [u8],
+) -> Result<Statement<'a>, WordFault>
+    ensures { IsRead (remove_if_line settings path.entry.now) result }
+{
+    let path = text_word(alloc, path)?;
+    Ok(Statement::Action(Action::Op(Op::RemoveIf {
         time: settings.time,
         path,
     })))

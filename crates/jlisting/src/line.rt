@@ -82,6 +82,15 @@ pub enum Action<'a> {
         gid: u16,
         file: FileName<'a>,
     },
+    /// A file as of `File`, whatever its path leads to, but a directory.
+    Put {
+        time: u32,
+        path: Text<'a>,
+        mode: u32,
+        uid: u16,
+        gid: u16,
+        file: FileName<'a>,
+    },
     /// A write from `offset` on of the bytes of a file of the host, which are not read yet.
     Part {
         time: u32,
@@ -102,6 +111,7 @@ impl<'a> Action<'a> {
             Action::Op(_) => None,
             Action::Device { .. } => None,
             Action::File { file, .. } => Some(file.as_str()),
+            Action::Put { file, .. } => Some(file.as_str()),
             Action::Part { file, .. } => Some(file.as_str()),
         }
     }
@@ -139,6 +149,21 @@ impl<'a> Action<'a> {
                 gid,
                 ..
             } => Op::File {
+                time,
+                path,
+                mode,
+                uid,
+                gid,
+                bytes: Text::lent(bytes),
+            },
+            Action::Put {
+                time,
+                path,
+                mode,
+                uid,
+                gid,
+                ..
+            } => Op::Put {
                 time,
                 path,
                 mode,

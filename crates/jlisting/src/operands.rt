@@ -37,6 +37,8 @@ fn operation_operands(name: &[u8]) -> Option<&'static [Operand]>
         Some(&[Operand::Mode, Operand::Text])
     } else if is_word(name, b"file") {
         Some(&[Operand::Mode, Operand::Text, Operand::EscapedName])
+    } else if is_word(name, b"put") {
+        Some(&[Operand::Mode, Operand::Text, Operand::EscapedName])
     } else if is_word(name, b"device") {
         Some(&DEVICE)
     } else if is_word(name, b"symlink") {
@@ -54,6 +56,8 @@ fn operation_operands(name: &[u8]) -> Option<&'static [Operand]>
     } else if is_word(name, b"truncate") {
         Some(&[Operand::Text, NUMBER])
     } else if is_word(name, b"remove") {
+        Some(&[Operand::Text])
+    } else if is_word(name, b"remove-if") {
         Some(&[Operand::Text])
     } else if is_word(name, b"attr") {
         Some(&ATTR)

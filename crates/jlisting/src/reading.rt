@@ -7,8 +7,8 @@ ghost use Rattle.jlisting.specs.Listing.{one_operand, two_operands, three_operan
 
 use crate::forms::{
     AttrWords, read_attr, read_create, read_device, read_fifo, read_file, read_link, read_mkdir,
-    read_owner, read_part, read_remove, read_rename, read_replace, read_socket, read_symlink,
-    read_time, read_truncate, read_write,
+    read_owner, read_part, read_put, read_remove, read_remove_if, read_rename, read_replace,
+    read_socket, read_symlink, read_time, read_truncate, read_write,
 };
 use crate::split::split_once;
 use crate::statement::{Settings, Statement};
@@ -30,6 +30,8 @@ fn read_one<'a>(
         read_time(settings, a)
     } else if is_word(name, b"remove") {
         read_remove(alloc, settings, a)
+    } else if is_word(name, b"remove-if") {
+        read_remove_if(alloc, settings, a)
     } else {
         Err(WordFault::Invalid)
     }
@@ -85,6 +87,8 @@ fn read_three<'a>(
 {
     if is_word(name, b"file") {
         read_file(alloc, settings, a, b, c)
+    } else if is_word(name, b"put") {
+        read_put(alloc, settings, a, b, c)
     } else if is_word(name, b"write") {
         read_write(alloc, settings, a, b, c)
     } else if is_word(name, b"part") {
