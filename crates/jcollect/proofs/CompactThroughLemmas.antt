@@ -15,6 +15,7 @@ use Rattle.jnode.specs.declared.node.Seen.TheVariants as seen
 use Rattle.jnode.specs.declared.order.Endian.{Endian}
 use Rattle.jcompr.specs.Content.{method_of}
 use Rattle.jscan.specs.Image.{is_block_size, greatest_image, sightings}
+use Rattle.jscan.specs.Scans.{findings}
 use Rattle.jexpand.specs.Expanded.{expanded_node, expanded_nodes, node_content, unpacked_bytes}
 use Rattle.jexpand.specs.Expanded as expanded
 use Rattle.jexpand.specs.declared.fault.ConvertFault.{ConvertFault}
@@ -24,16 +25,16 @@ use Rattle.jmount.specs.Collected.{without_addresses}
 use Rattle.jmount.specs.Find.{find, path_names}
 use Rattle.jmount.specs.Mount.{Mount}
 use Rattle.jmount.specs.StateOf.{state_of}
-use Rattle.jmount.specs.Tree.{State, has_bits, directory_bits, object}
+use Rattle.jmount.specs.Tree.{State, has_bits, directory_bits, is_directory, object}
 use Rattle.jmount.proofs.NumbersLemmas.{object-state_of}
-use Rattle.jview.specs.Through.{node_by, content_by, fault_by, first_fault}
+use Rattle.jview.specs.Through.{node_by, content_by, fault_by, first_fault, greatest_contents, MountsThroughAs}
 use Rattle.jthrough.specs.Addressed.{addressed_nodes}
 use Rattle.jthrough.specs.View.{placed_node, placed_nodes}
 use Rattle.jthrough.proofs.AddressedLemmas.{addressed_are_expanded, none_among}
 use Rattle.jthrough.proofs.PlacedLemmas.{placed_is}
 use Rattle.jlog.specs.HeadlineThrough.{state_through}
 use Rattle.jlog.proofs.CodeLemmas.{flash_limits}
-use Rattle.jcompact.specs.Matters.{Placed, NamesLeadTo, matters}
+use Rattle.jcompact.specs.Matters.{Placed, AreWhatMatters, NamesLeadTo, matters}
 use Rattle.jcompact.proofs.ObjectLemmas.{object_kept}
 use Rattle.jcompact.proofs.PathLemmas.{find_same}
 use Rattle.jcollect.specs.Collecting.{addresses_of, FitBlocks}
@@ -128,50 +129,85 @@ kept_nodes : (e : Endian) (size : ℕ) (image : List ℕ) (ns : List Placed) →
 kept_nodes e size image [] all = refl
 kept_nodes e size image (n ∷ ns) all = ap₂ (λ (o : Option NodeRef) (l : List NodeRef). cons_option o l) all.0.gives (kept_nodes e size image ns all.1)
 
-record Through (e : Endian) (size blocks : ℕ) (image compact : List ℕ) (kept : List Placed) : Type 0 where
-  part : (n : Placed) → Contains kept n → Contains (addressed_nodes e size image) n
+-- Of an image that nothing but a clash refuses some nodes of which none clash: those of them that
+-- matter, for which there is room.
+pub record MayGather (e : Endian) (size blocks : ℕ) (image : List ℕ) (ns kept : List Placed) : Type 0 where
+  pub size_is : IsTrue (is_block_size size)
+  pub none : first_fault e size image ≡ None
+  pub among : (n : Placed) → Contains ns n → Contains (addressed_nodes e size image) n
+  pub apart : NoneClash (without_addresses ns)
+  pub matter : AreWhatMatters ns kept
+  pub room : FitBlocks e size blocks image (addresses_of kept)
+
+may_gather_all : (e : Endian) (size blocks : ℕ) (image : List ℕ) (kept : List Placed) → MayCollectThrough e size blocks image kept
+    → MayGather e size blocks image (addressed_nodes e size image) kept
+may_gather_all e size blocks image kept may = record {
+  size_is = may.sound.scannable.0;
+  none = may.sound.none;
+  among = λ n has. has;
+  apart = subst NoneClash (sym (addressed_are_expanded e size image)) may.sound.apart;
+  matter = may.matter;
+  room = may.room;
+}
+
+record Through (e : Endian) (size blocks : ℕ) (image compact : List ℕ) (ns kept : List Placed) : Type 0 where
+  part : (n : Placed) → Contains kept n → Contains ns n
   within : length compact ≤ blocks * size
   has : ShowsTiles e size compact (tiles_at e size image (addresses_of kept))
   same : expanded_nodes e size compact ≡ without_addresses kept
-  apart : NoneClash (without_addresses (addressed_nodes e size image))
 
-through : (e : Endian) (size blocks : ℕ) (image : List ℕ) (kept : List Placed) → MayCollectThrough e size blocks image kept
-    → Through e size blocks image (copied_image e size image (addresses_of kept)) kept
-through e size blocks image kept may =
-    let size_is : IsTrue (is_block_size size) = may.sound.scannable.0 in
-    let part : (n : Placed) → Contains kept n → Contains (addressed_nodes e size image) n = part_of (addressed_nodes e size image) kept may.matter in
-    let all : AllByRecursion (KeptNode e size image) kept = all_from (KeptNode e size image) kept (λ n has. kept_node e size image n size_is may.sound.none (part n has)) in
+through : (e : Endian) (size blocks : ℕ) (image : List ℕ) (ns kept : List Placed) → MayGather e size blocks image ns kept
+    → Through e size blocks image (copied_image e size image (addresses_of kept)) ns kept
+through e size blocks image ns kept may =
+    let part : (n : Placed) → Contains kept n → Contains ns n = part_of ns kept may.matter in
+    let all : AllByRecursion (KeptNode e size image) kept = all_from (KeptNode e size image) kept (λ n has. kept_node e size image n may.size_is may.none (may.among n (part n has))) in
     let nodes = kept_at e size image kept all in
-    let has = copied_expands e size blocks image (addresses_of kept) size_is nodes may.room (kept_read e size image kept all) in
+    let has = copied_expands e size blocks image (addresses_of kept) may.size_is nodes may.room (kept_read e size image kept all) in
     record {
       part = part;
-      within = (output_has_tiles e size blocks (tiles_at e size image (addresses_of kept)) size_is (nodes_storable e size image (addresses_of kept) size_is nodes may.room.each) may.room.room).within;
+      within = (output_has_tiles e size blocks (tiles_at e size image (addresses_of kept)) may.size_is (nodes_storable e size image (addresses_of kept) may.size_is nodes may.room.each) may.room.room).within;
       has = has;
       same = has.nodes ∙ kept_nodes e size image kept all;
-      apart = subst NoneClash (sym (addressed_are_expanded e size image)) may.sound.apart;
     }
 
-pub collected_through_is_compact : CollectedThroughIsCompact
-collected_through_is_compact e size blocks image kept may =
-    let it = through e size blocks image kept may in
-    let ns : List Placed = addressed_nodes e size image in
-    let old : state_of (without_addresses ns) ≡ state_through e size image = ap state_of (addressed_are_expanded e size image) in
+-- An image has just these nodes of others that matter, and shows their tree.
+pub record IsGathered (e : Endian) (size : ℕ) (compact : List ℕ) (ns kept : List Placed) : Type 0 where
+  pub same : expanded_nodes e size compact ≡ without_addresses kept
+  pub clean : findings e size compact ≡ []
+  pub paths : (text : List ℕ) → find (state_through e size compact) text ≡ find (state_of (without_addresses ns)) text
+  pub objects : (i : ℕ) → NamesLeadTo (state_of (without_addresses ns)) i → object (state_through e size compact) i ≡ object (state_of (without_addresses ns)) i
+
+pub gathered : (e : Endian) (size blocks : ℕ) (image : List ℕ) (ns kept : List Placed) → MayGather e size blocks image ns kept
+    → IsGathered e size (copied_image e size image (addresses_of kept)) ns kept
+gathered e size blocks image ns kept may =
+    let it = through e size blocks image ns kept may in
     let compact : List ℕ = copied_image e size image (addresses_of kept) in
     let new : state_through e size compact ≡ state_of (without_addresses kept) = ap state_of it.same in
     record {
       same = it.same;
       clean = it.has.clean;
-      paths = λ text. ap (λ (s : State). find s text) new
-          ∙ (find_same ns kept may.matter.0 it.apart may.matter.1 may.matter.2 (path_names text) ∙ ap (λ (s : State). find s text) old);
+      paths = λ text. ap (λ (s : State). find s text) new ∙ find_same ns kept may.matter.0 may.apart may.matter.1 may.matter.2 (path_names text);
       objects = λ i leads. ap (λ (s : State). object s i) new
           ∙ (object-state_of (without_addresses kept) i
-          ∙ (object_kept ns kept may.matter.0 it.apart may.matter.2 i ((may.matter.1 i).1 (subst (λ (s : State). NamesLeadTo s i) (sym old) leads))
-          ∙ (sym (object-state_of (without_addresses ns) i) ∙ ap (λ (s : State). object s i) old)));
+          ∙ (object_kept ns kept may.matter.0 may.apart may.matter.2 i ((may.matter.1 i).1 leads)
+          ∙ sym (object-state_of (without_addresses ns) i)));
+    }
+
+pub collected_through_is_compact : CollectedThroughIsCompact
+collected_through_is_compact e size blocks image kept may =
+    let ns : List Placed = addressed_nodes e size image in
+    let it = gathered e size blocks image ns kept (may_gather_all e size blocks image kept may) in
+    let old : state_of (without_addresses ns) ≡ state_through e size image = ap state_of (addressed_are_expanded e size image) in
+    record {
+      same = it.same;
+      clean = it.clean;
+      paths = λ text. it.paths text ∙ ap (λ (s : State). find s text) old;
+      objects = λ i leads. it.objects i (subst (λ (s : State). NamesLeadTo s i) (sym old) leads) ∙ ap (λ (s : State). object s i) old;
     }
 
 -- ---- their contents are no more than those of all
 
-fewer : (f : List ℕ → List ℕ) (g : ℕ → List ℕ) (p : Placed → Bool) (ns : List Placed)
+pub fewer : (f : List ℕ → List ℕ) (g : ℕ → List ℕ) (p : Placed → Bool) (ns : List Placed)
     → length (flat_map f (map g (addresses_of (filter p ns)))) ≤ length (flat_map f (map g (addresses_of ns)))
 fewer f g p [] = omega arith
 fewer f g p (n ∷ ns) =
@@ -204,7 +240,7 @@ one_content e size image s rest others (Some n) size_is has is fewer =
     let sum : length (tile ++ before) ≡ length tile + length before = length-append tile before in
     omega (arith, fewer, length-append own others, one, sum)
 
-placed_contents : (e : Endian) (size : ℕ) (image : List ℕ) (ss : List (ℕ × Seen)) → IsTrue (is_block_size size) → ((s : ℕ × Seen) → Contains ss s → Contains (sightings e size image) s)
+pub placed_contents : (e : Endian) (size : ℕ) (image : List ℕ) (ss : List (ℕ × Seen)) → IsTrue (is_block_size size) → ((s : ℕ × Seen) → Contains ss s → Contains (sightings e size image) s)
     → length (flat_map (content_of_tile e) (tiles_at e size image (addresses_of (placed_nodes e size image ss)))) ≤ length (flat_map (expanded.tile_content e size image) ss)
 placed_contents e size image [] size_is among = omega arith
 placed_contents e size image (s ∷ ss) size_is among =
@@ -213,33 +249,47 @@ placed_contents e size image (s ∷ ss) size_is among =
 
 -- ---- it mounts through
 
-pub collected_mounts_through : CollectedMountsThrough
-collected_mounts_through e size blocks image kept s may small mounts =
-    let it = through e size blocks image kept may in
-    let size_is : IsTrue (is_block_size size) = may.sound.scannable.0 in
+pub gathered_mounts : (e : Endian) (size blocks : ℕ) (image : List ℕ) (ns kept : List Placed) → MayGather e size blocks image ns kept → blocks * size ≤ greatest_image
+    → length (flat_map (content_of_tile e) (tiles_at e size image (addresses_of ns))) ≤ greatest_contents → IsTrue (is_directory (state_of (without_addresses ns)) 1)
+    → let compact = copied_image e size image (addresses_of kept) in
+    MountsThroughAs e size compact (state_through e size compact)
+gathered_mounts e size blocks image ns kept may small held mounts =
+    let it = through e size blocks image ns kept may in
     let compact : List ℕ = copied_image e size image (addresses_of kept) in
-    let is = collected_through_is_compact e size blocks image kept may in
-    let root : object (state_through e size compact) 1 ≡ object (state_through e size image) 1 = is.objects 1 ([], refl) in
-    let ns : List Placed = addressed_nodes e size image in
+    let is = gathered e size blocks image ns kept may in
+    let root : object (state_through e size compact) 1 ≡ object (state_of (without_addresses ns)) 1 = is.objects 1 ([], refl) in
     let some : length (flat_map (content_of_tile e) (tiles_at e size image (addresses_of kept))) ≤ length (flat_map (content_of_tile e) (tiles_at e size image (addresses_of ns))) =
     subst (λ (l : List Placed). length (flat_map (content_of_tile e) (tiles_at e size image (addresses_of l))) ≤ length (flat_map (content_of_tile e) (tiles_at e size image (addresses_of ns))))
     (sym may.matter.2) (fewer (content_of_tile e) (tile_in e size image) (matters ns may.matter.0) ns) in
-    let all = placed_contents e size image (sightings e size image) size_is (λ t has. has) in
     let own : length (unpacked_bytes e size compact) ≡ length (flat_map (content_of_tile e) (tiles_at e size image (addresses_of kept))) = ap (λ (xs : List ℕ). length xs) it.has.contents in
     record {
       sound = record {
-        scannable = (size_is, omega (arith, it.within, small));
+        scannable = (may.size_is, omega (arith, it.within, small));
         none = it.has.fault;
-        contents = omega (arith, some, all, own, may.sound.contents);
-        apart = subst NoneClash (sym it.same) (part_apart ns kept it.part it.apart);
+        contents = omega (arith, some, own, held);
+        apart = subst NoneClash (sym it.same) (part_apart ns kept it.part may.apart);
       };
-      root = ap (has_bits directory_bits) root ∙ mounts.root;
+      root = ap (has_bits directory_bits) root ∙ mounts;
       same = refl;
     }
 
+-- the contents of all nodes
+pub addressed_contents : (e : Endian) (size : ℕ) (image : List ℕ) → IsTrue (is_block_size size) → length (unpacked_bytes e size image) ≤ greatest_contents
+    → length (flat_map (content_of_tile e) (tiles_at e size image (addresses_of (addressed_nodes e size image)))) ≤ greatest_contents
+addressed_contents e size image size_is few =
+    let all = placed_contents e size image (sightings e size image) size_is (λ t has. has) in
+    omega (arith, all, few)
+
+pub collected_mounts_through : CollectedMountsThrough
+collected_mounts_through e size blocks image kept s may small mounts =
+    let ns : List Placed = addressed_nodes e size image in
+    gathered_mounts e size blocks image ns kept (may_gather_all e size blocks image kept may) small
+    (addressed_contents e size image may.sound.scannable.0 may.sound.contents)
+    (subst (λ (l : List NodeRef). IsTrue (is_directory (state_of l) 1)) (sym (addressed_are_expanded e size image)) mounts.root)
+
 -- ---- what is found and planned
 
-addressed_at : (e : Endian) (size : ℕ) (image : List ℕ) (n : Placed) → Contains (addressed_nodes e size image) n → IsSoundNodeAt e size image n.0
+pub addressed_at : (e : Endian) (size : ℕ) (image : List ℕ) (n : Placed) → Contains (addressed_nodes e size image) n → IsSoundNodeAt e size image n.0
 addressed_at e size image n has =
     let it = Contains-filter_map_from (placed_node e size image) (sightings e size image) n has in
     let s : ℕ × Seen = it.0 in

@@ -8,3 +8,6 @@ pub mod RoomLemmas
 pub mod PutLemmas
 pub mod ThroughLemmas
 pub mod CompactThroughLemmas
+pub mod StayingLemmas
+pub mod MountStayingLemmas
+pub mod ApartLemmas

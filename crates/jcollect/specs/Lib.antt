@@ -4,3 +4,5 @@ pub mod Collecting
 pub mod Planning
 pub mod Through
 pub mod PlanningThrough
+pub mod Staying
+pub mod PlanningApart

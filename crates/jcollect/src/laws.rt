@@ -2,6 +2,8 @@
 
 ghost use Rattle.jcollect.specs.Clean.{CleanBlocks};
 ghost use Rattle.jcollect.specs.Collecting as law;
+ghost use Rattle.jcollect.specs.PlanningApart.{PlannedApartIsPlanned, PlannedApartShows};
+ghost use Rattle.jcollect.specs.Staying.{StayingArePlaced};
 ghost use Rattle.jcollect.specs.Through as through;
 ghost use Rattle.jcollect.specs.Tiles as tiles;
 
@@ -39,4 +41,20 @@ pub fn copied_expands()
 pub fn collected_through_is_compact()
     ensures compact { through.CollectedThroughIsCompact }
     ensures mounts { through.CollectedMountsThrough }
+{}
+
+/// However nodes of which some clash are parted, those that are not left out are those that stay.
+pub fn staying_are_placed()
+    ensures { StayingArePlaced }
+{}
+
+/// Of the nodes that stay those that matter go out: some of them, in their order, of which no two
+/// clash. What goes out has no findings and shows the tree that those that stay make.
+pub fn planned_apart_shows()
+    ensures { PlannedApartShows }
+{}
+
+/// Where no nodes clash that is what goes out of the image without that, and none is left out.
+pub fn planned_apart_is_planned()
+    ensures { PlannedApartIsPlanned }
 {}

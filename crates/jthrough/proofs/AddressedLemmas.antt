@@ -31,7 +31,7 @@ addressed_are_mountable e size image scannable = placed_mountable e size image (
 
 -- ---- in the order of their addresses
 
-ascends_by : {X : Type 0} (xs : List (ℕ × X)) → Rises xs → Ascends xs
+pub ascends_by : {X : Type 0} (xs : List (ℕ × X)) → Rises xs → Ascends xs
 ascends_by [] up i j d lt within = absurd (omega arith)
 ascends_by (x ∷ xs) up i zero d lt within = absurd (omega arith)
 ascends_by (x ∷ xs) up zero (suc j) d lt within = up.0 (get_or xs j d) (Contains-get_or xs j d (omega arith))

@@ -124,7 +124,7 @@ module _ (e : Endian) (size : ℕ) (image contents : List ℕ) (view : View) (v 
 
   -- ---- a view that nothing refuses
 
-  none_among : (ss : List (ℕ × Seen)) → ((s : ℕ × Seen) → Contains ss s → through_fault e size image s ≡ None) → through_fault_among e size image ss ≡ None
+  pub none_among : (ss : List (ℕ × Seen)) → ((s : ℕ × Seen) → Contains ss s → through_fault e size image s ≡ None) → through_fault_among e size image ss ≡ None
   none_among [] none = refl
   none_among (s ∷ ss) none =
       ap₂ (λ (o p : Option ConvertFault). option_or o p) (none s (Contains-here s ss)) (none_among ss (λ t has. none t (Contains-there s ss t has)))
@@ -133,7 +133,7 @@ module _ (e : Endian) (size : ℕ) (image contents : List ℕ) (view : View) (v 
     ends : EndsView e size image v.done v.rest view None
     ends = subst (EndsView e size image v.done v.rest view) refused v.ends
 
-    all : sightings e size image ≡ v.done
+    pub all : sightings e size image ≡ v.done
     all = v.all ∙ ap (λ (l : List (ℕ × Seen)). v.done ++ l) ends.0 ∙ append-nil v.done
 
     nodes_are : without_addresses ns ≡ expanded_nodes e size image

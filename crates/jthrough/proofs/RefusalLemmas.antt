@@ -24,7 +24,7 @@ use Rattle.jexpand.specs.declared.fault.ConvertFault.TheVariants as convert
 use Rattle.jmount.specs.Clash.{NoneClash}
 use Rattle.jmount.proofs.FaultLemmas.{Rises, rises, ascends_from_splits}
 use Rattle.jview.specs.Through.{greatest_contents, through_fault}
-use Rattle.jthrough.specs.MountsThrough.{IsViewFaultAt, IsFirstViewFaultAt, AnswersThrough}
+use Rattle.jthrough.specs.MountsThrough.{IsViewFaultAt, IsFirstViewFaultAt, AnswersThrough, IsNoClash, IsFirstAlone, AnswersAlone}
 use Rattle.jthrough.specs.Refusals.{IsRefusedBy, nodes_of_tiles}
 use Rattle.jthrough.specs.declared.fault.ViewFault.{ViewFault}
 use Rattle.jthrough.specs.declared.fault.ViewFault.TheVariants as fault
@@ -180,3 +180,69 @@ module _ (e : Endian) (size : ℕ) (image : List ℕ) where
       by_fault fault.TooLarge is first = absurd is
       by_fault fault.RootKind is first = absurd is
       by_fault fault.OutOfMemory is first = absurd is
+
+  -- ---- whatever clashes
+
+  -- tiles of which none refuses the image by itself
+  pub record AreHeldAlone (tiles : List (ℕ × Seen)) : Type 0 where
+    pub none : (t : ℕ × Seen) → Contains tiles t → through_fault e size image t ≡ None
+    pub few : length (contents_of_tiles e size image tiles) ≤ greatest_contents
+
+  none_alone : (front behind : List (ℕ × Seen)) (t : ℕ × Seen) (why : ViewFault) → AreHeldAlone (front ++ t ∷ behind) → IsRefusedBy e size image front t why → IsNoClash why → ⊥
+  none_alone front behind t why held refused = by_fault why refused
+    where
+      itself : (f : ConvertFault) → through_fault e size image t ≡ Some f → ⊥
+      itself f is = none-some f (sym (held.none t (Contains-append_right front (t ∷ behind) t (Contains-here t behind))) ∙ is)
+
+      by_fault : (why : ViewFault) → IsRefusedBy e size image front t why → IsNoClash why → ⊥
+      by_fault (fault.Incompatible addr nodetype) is alone = itself (convert.Incompatible addr nodetype) is
+      by_fault (fault.Compressed addr compr) is alone = itself (convert.Compressed addr compr) is
+      by_fault (fault.Data addr) is alone = itself (convert.Data addr) is
+      by_fault (fault.TooLong addr) is alone = elim is [
+        | inl long ↦ itself (convert.TooLong addr) long
+        | inr passes ↦ let over = passes.1.1 in omega (arith, over, contents_up_to front behind t, held.few)
+      ]
+      by_fault (fault.Clash addr) is alone = alone addr refl
+      by_fault fault.BlockSize is alone = is
+      by_fault fault.TooLarge is alone = is
+      by_fault fault.RootKind is alone = is
+      by_fault fault.OutOfMemory is alone = is
+
+  first_alone : (before after : List (ℕ × Seen)) (s : ℕ × Seen) (why : ViewFault) (addr : ℕ) → IsScannable size image → sightings e size image ≡ before ++ s ∷ after → AreHeldAlone before
+      → IsRefusedBy e size image before s why → addr ≡ s.0 → IsFirstAlone e size image addr why
+  first_alone before after s why addr scannable all held refused here = record {
+    scannable = scannable;
+    refuses = (before, s, after, all, here, refused);
+    least = λ at other (front, t, behind, split, is, there) alone.
+        ⊎_elim
+        (λ lt.
+        let inside = split_inside before after front behind s t (subst Rises all up) (sym all ∙ split) lt in
+        absurd (none_alone front inside.0 t other (subst AreHeldAlone inside.1 held) there alone))
+        (λ le. omega (arith, le, is, here))
+        (cases_lt t.0 s.0);
+  }
+
+  pub alone_answers : (before after : List (ℕ × Seen)) (s : ℕ × Seen) (why : ViewFault) → IsScannable size image → sightings e size image ≡ before ++ s ∷ after → AreHeldAlone before
+      → IsRefusedBy e size image before s why → IsNoClash why → AnswersAlone e size image why
+  unfolding fault_address
+  alone_answers before after s why scannable all held refused alone = by_fault why refused alone
+    where
+      first : (f : ViewFault) (addr : ℕ) → IsRefusedBy e size image before s f → addr ≡ s.0 → IsFirstAlone e size image addr f
+      first f addr is here = first_alone before after s f addr scannable all held is here
+
+      own : (f : ConvertFault) (addr : ℕ) → fault_address f ≡ Some addr → through_fault e size image s ≡ Some f → addr ≡ s.0
+      own f addr here is = same_address f addr s.0 here (fault_at e size image s f is)
+
+      by_fault : (f : ViewFault) → IsRefusedBy e size image before s f → IsNoClash f → AnswersAlone e size image f
+      by_fault (fault.Incompatible addr nodetype) is none = first (fault.Incompatible addr nodetype) addr is (own (convert.Incompatible addr nodetype) addr refl is)
+      by_fault (fault.Compressed addr compr) is none = first (fault.Compressed addr compr) addr is (own (convert.Compressed addr compr) addr refl is)
+      by_fault (fault.Data addr) is none = first (fault.Data addr) addr is (own (convert.Data addr) addr refl is)
+      by_fault (fault.TooLong addr) is none = elim is [
+        | inl long ↦ first (fault.TooLong addr) addr (inl long) (own (convert.TooLong addr) addr refl long)
+        | inr passes ↦ first (fault.TooLong addr) addr (inr passes) passes.0
+      ]
+      by_fault (fault.Clash addr) is none = absurd (none addr refl)
+      by_fault fault.BlockSize is none = absurd is
+      by_fault fault.TooLarge is none = absurd is
+      by_fault fault.RootKind is none = absurd is
+      by_fault fault.OutOfMemory is none = absurd is

@@ -23,11 +23,13 @@ use Rattle.jscan.proofs.ImageLemmas.{image_sighted}
 use Rattle.jscan.proofs.PartialScanLemmas.{any_forbids, cons_append, or_again, or_false}
 use Rattle.jexpand.specs.Expanded.{tile_content, contents_of_tiles}
 use Rattle.jview.specs.Through.{greatest_contents, through_fault}
+use Rattle.jthrough.specs.MountsThrough.{AnswersAlone, IsNoClash}
 use Rattle.jthrough.specs.Refusals.{HasTileFault, IsRefusedBy}
 use Rattle.jthrough.specs.View.{IsViewBegun, BeginWith, AddsTile, RefusesTile, TakesTile, HasTiles, EndsView, IsViewOf, kept_tile, placed_node, placed_nodes}
 use Rattle.jthrough.specs.declared.fault.ViewFault.{ViewFault}
 use Rattle.jthrough.specs.declared.fault.ViewFault.TheVariants as fault
 use Rattle.jthrough.specs.declared.view.View.{View}
+use Rattle.jthrough.proofs.RefusalLemmas.{alone_answers}
 
 -- ---- what an extent is, and what refuses
 
@@ -275,6 +277,21 @@ module _ (e : Endian) (size : ℕ) (image : List ℕ) where
         ends = subst (EndsView e size image f.done (tile ∷ filter_map sighted left) new) (sym is)
             (tile, filter_map sighted left, refl, refuses f.done tile before after why f.exact r);
       }
+
+  -- and whatever clashes
+  no_clash : (tile : ℕ × Seen) (before after : List ℕ) (why : ViewFault) → RefusesTile e size image tile before after why → IsNoClash why
+  no_clash tile before after why r addr is =
+      elim r.why_is [
+        | inl itself ↦ subst (HasTileFault (through_fault e size image tile)) is itself.0
+        | inr passes ↦ let bad : fault.TooLong tile.0 ≡ fault.Clash addr = sym passes.0 ∙ is in absurd (cc)
+      ]
+
+  pub refused_alone : (s : Extent) (left : List Extent) (tile : ℕ × Seen) (old new : View) (before after : List ℕ) (why : ViewFault) → IsScannable size image
+      → Found s left old before → sighted s ≡ Some tile → TakesTile e size image tile old new before after → new.refused ≡ Some why → AnswersAlone e size image why
+  refused_alone s left tile old new before after why scannable f some takes is =
+      let r : RefusesTile e size image tile before after why = (takes.takes.1 why is).0 in
+      alone_answers e size image f.done (filter_map sighted left) tile why scannable (f.split ∙ ap (λ (l : List (ℕ × Seen)). f.done ++ l) (next_tile s left tile some))
+      (record { none = f.has.none; few = f.has.few }) (refuses f.done tile before after why f.exact r) (no_clash tile before after why r)
 
   -- ---- the end
 

@@ -26,6 +26,36 @@ IsFirstViewFaultAt e size image addr why =
     IsScannable size image × IsViewFaultAt e size image addr why
     × ((at : ℕ) (other : ViewFault) → IsViewFaultAt e size image at other → addr ≤ at)
 
+-- ---- what refuses an image whatever clashes
+
+abbrev pub IsNoClash : ViewFault → Type 0
+IsNoClash why = (addr : ℕ) → why ≡ fault.Clash addr → ⊥
+
+-- the tile at the address refuses the image, and none of lower address does but by a clash
+pub record IsFirstAlone (e : Endian) (size : ℕ) (image : List ℕ) (addr : ℕ) (why : ViewFault) : Type
+    0 where
+  pub scannable : IsScannable size image
+  pub refuses : IsViewFaultAt e size image addr why
+  pub least : (at : ℕ) (other : ViewFault) → IsViewFaultAt e size image at other
+      → IsNoClash other → addr ≤ at
+
+-- so of each fault of a tile by itself
+abbrev pub AnswersAlone : Endian → ℕ → List ℕ → ViewFault → Type 0
+AnswersAlone e size image (fault.Incompatible addr nodetype) =
+    IsFirstAlone e size image addr (fault.Incompatible addr nodetype)
+AnswersAlone e size image (fault.Compressed addr compr) =
+    IsFirstAlone e size image addr (fault.Compressed addr compr)
+AnswersAlone e size image (fault.Data addr) = IsFirstAlone e size image addr (fault.Data addr)
+AnswersAlone e size image (fault.TooLong addr) =
+    IsFirstAlone e size image addr (fault.TooLong addr)
+AnswersAlone e size image (fault.Clash addr) = ⊥
+AnswersAlone e size image fault.BlockSize = ⊥
+AnswersAlone e size image fault.TooLarge = ⊥
+AnswersAlone e size image fault.RootKind = ⊥
+AnswersAlone e size image fault.OutOfMemory = ⊥
+
+-- ---- the answer
+
 -- rule: Compressed data: The mount of an image through its compression, and why it does not mount
 --   so, by the least address.
 --   definitions: jthrough.MountsThrough.AnswersThrough, jthrough.MountsThrough.IsFirstViewFaultAt,

@@ -24,6 +24,6 @@ mod viewing;
 
 pub use crate::addressing::nodes_through;
 pub use crate::fault::ViewFault;
-pub use crate::mounting::{mount_through, mount_view};
+pub use crate::mounting::{mount_through, mount_view, nodes_of};
 pub use crate::view::View;
 pub use crate::viewing::{GREATEST_CONTENTS, view_image};

@@ -67,7 +67,11 @@ pub(crate) fn push_node<'a>(
 }
 
 /// The nodes that tiles of an image give, each with its address, by the contents of all of them.
-fn nodes_of<'a, E: Order>(
+/// They may clash.
+///
+/// # Errors
+/// Out of memory.
+pub fn nodes_of<'a, E: Order>(
     alloc: Global,
     image: &[u8],
     geometry: Geometry,

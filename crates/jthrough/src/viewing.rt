@@ -1,9 +1,10 @@
 //! Looking at an image through its compression.
 
-ghost use Rattle.std.specs.Prelude.{◌≡◌, ◌≢◌, None, IfOk, IfErr, OnOk, IsTrue, Contains};
+ghost use Rattle.std.specs.Prelude.{◌≡◌, ◌≢◌, None, IfOk, IfErr, IfSome, OnOk, IsTrue, Contains};
 ghost use Rattle.jscan.specs.Image.{is_block_size, sightings};
 ghost use Rattle.jexpand.specs.Expanded.{tile_content};
 ghost use Rattle.jview.specs.Through.{through_fault};
+ghost use Rattle.jthrough.specs.MountsThrough.{AnswersAlone};
 ghost use Rattle.jthrough.specs.Refusals.{HasTileFault};
 ghost use Rattle.jthrough.specs.View.{IsUnviewed, IsViewOf, TakesTile};
 
@@ -103,6 +104,8 @@ pub fn view_image<'a, E: Order>(
 ) -> Result<View<'a>, ViewFault>
     ensures view { IfOk result
         (IsViewOf E.order geometry.block image.now contents.new.items) }
+    ensures refused { IfOk result
+        (λ view. IfSome view.refused (AnswersAlone E.order geometry.block image.now)) }
     ensures err { IfErr result (IsUnviewed geometry.block image.now) }
 {
     contents.clear();
