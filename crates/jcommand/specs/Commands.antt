@@ -41,7 +41,7 @@ lettered_flag id letter = record (flag id) { short = Some letter }
 
 -- `--block N`, which may be spelled `--eraseblock N` and `-e N` too
 abbrev pub block_option : Rule
-block_option = record (option_or (codes "block") (codes "65536"))
+block_option = record (option_of (codes "block"))
     { aliases = codes "eraseblock" ∷ []; short = Some 101 }
 
 -- a subcommand with the options that each one has: `-l` and `-b` are for the byte order
@@ -51,25 +51,32 @@ plain_command name = with_rule
     (lettered_flag (codes "little-endian") 108))
     (lettered_flag (codes "big-endian") 98)
 
+-- a subcommand that finds these options in the image that it reads, where `--auto` or `-a` is given
+abbrev pub automatic : App → App
+automatic app = with_rule app (lettered_flag (codes "auto") 97)
+
+abbrev pub reader : Text → App
+reader name = automatic (plain_command name)
+
 -- a subcommand that decompresses the images that it reads, where that is asked for
 abbrev pub decompressing : App → App
 decompressing app = with_rule app (flag (codes "decompress"))
 
--- `check [--scan] [--shape] [--decompress] [--block N] [--endian ORDER] IMAGE`
+-- `check [--scan] [--shape] [--decompress] [--auto] [--block N] [--endian ORDER] IMAGE`
 abbrev pub check_app : App
 check_app = with_rule
-    (decompressing (with_rule (with_rule (plain_command (codes "check")) (flag (codes "scan")))
+    (decompressing (with_rule (with_rule (reader (codes "check")) (flag (codes "scan")))
     (flag (codes "shape"))))
     (word (codes "IMAGE"))
 
--- `ls [--decompress] [--block N] [--endian ORDER] IMAGE [PATH]`
+-- `ls [--decompress] [--auto] [--block N] [--endian ORDER] IMAGE [PATH]`
 abbrev pub ls_app : App
-ls_app = with_rule (with_rule (decompressing (plain_command (codes "ls"))) (word (codes "IMAGE")))
+ls_app = with_rule (with_rule (decompressing (reader (codes "ls"))) (word (codes "IMAGE")))
     (optional_word (codes "PATH"))
 
--- `cat [--decompress] [--block N] [--endian ORDER] IMAGE PATH`
+-- `cat [--decompress] [--auto] [--block N] [--endian ORDER] IMAGE PATH`
 abbrev pub cat_app : App
-cat_app = with_rule (with_rule (decompressing (plain_command (codes "cat"))) (word (codes "IMAGE")))
+cat_app = with_rule (with_rule (decompressing (reader (codes "cat"))) (word (codes "IMAGE")))
     (word (codes "PATH"))
 
 -- a subcommand that writes to flash of so many blocks, by pages
@@ -89,22 +96,28 @@ atomic app = with_rule app (flag (codes "atomic"))
 abbrev pub placing : App → App
 placing app = atomic (with_rule app (flag (codes "pad")))
 
--- `build --blocks N [--page N] [--weak] [--pad] [--atomic] [--block N] [--endian ORDER] LISTING
--- OUT`
+-- a subcommand that compresses the nodes that it writes, where that is asked for
+abbrev pub compressing : App → App
+compressing app = with_rule app (flag (codes "compress"))
+
+-- `build --blocks N [--page N] [--weak] [--compress] [--pad] [--atomic] [--block N]
+-- [--endian ORDER] LISTING OUT`
 abbrev pub build_app : App
-build_app = with_rule (with_rule (placing (noting (codes "build"))) (word (codes "LISTING")))
+build_app = with_rule
+    (with_rule (placing (compressing (noting (codes "build")))) (word (codes "LISTING")))
     (word (codes "OUT"))
 
--- `append --blocks N [--page N] [--weak] [--pad] [--atomic] [--decompress] [--block N]
+-- `append --blocks N [--page N] [--weak] [--pad] [--atomic] [--decompress] [--auto] [--block N]
 -- [--endian ORDER] IMAGE LISTING OUT`
 abbrev pub append_app : App
 append_app = with_rule
     (with_rule
-    (with_rule (decompressing (placing (noting (codes "append")))) (word (codes "IMAGE")))
+    (with_rule
+    (decompressing (placing (automatic (noting (codes "append"))))) (word (codes "IMAGE")))
     (word (codes "LISTING")))
     (word (codes "OUT"))
 
--- `update [--blocks N] [--page N] [--plain] [--tail] [--pad] [--atomic] [--block N]
+-- `update [--blocks N] [--page N] [--plain] [--tail] [--pad] [--atomic] [--auto] [--block N]
 -- [--endian ORDER] IMAGE LISTING OUT`
 abbrev pub update_app : App
 update_app = with_rule
@@ -113,7 +126,7 @@ update_app = with_rule
     (placing
     (with_rule
     (with_rule
-    (with_rule (with_rule (plain_command (codes "update")) (option_of (codes "blocks")))
+    (with_rule (with_rule (reader (codes "update")) (option_of (codes "blocks")))
     (option_or (codes "page") (codes "4096")))
     (flag (codes "plain")))
     (flag (codes "tail"))))
@@ -125,25 +138,29 @@ update_app = with_rule
 abbrev pub replacing : App → App
 replacing app = with_rule (atomic app) (flag (codes "force"))
 
--- `decompress [--clashes RULE] [--atomic] [--force] [--block N] [--endian ORDER] IMAGE OUT`
+-- `decompress [--clashes RULE] [--atomic] [--force] [--auto] [--block N] [--endian ORDER] IMAGE
+-- OUT`
 abbrev pub decompress_app : App
 decompress_app = with_rule
     (with_rule
-    (replacing (with_rule (plain_command (codes "decompress")) (option_of (codes "clashes"))))
+    (replacing (with_rule (reader (codes "decompress")) (option_of (codes "clashes"))))
     (word (codes "IMAGE"))) (word (codes "OUT"))
 
--- `compress [--atomic] [--force] [--block N] [--endian ORDER] IMAGE OUT`
+-- `compress [--atomic] [--force] [--auto] [--block N] [--endian ORDER] IMAGE OUT`
 abbrev pub compress_app : App
 compress_app =
-    with_rule (with_rule (replacing (plain_command (codes "compress"))) (word (codes "IMAGE")))
+    with_rule (with_rule (replacing (reader (codes "compress"))) (word (codes "IMAGE")))
     (word (codes "OUT"))
 
--- `compact [--blocks N] [--pad] [--atomic] [--force] [--block N] [--endian ORDER] IMAGE OUT`
+-- `compact [--blocks N] [--clashes RULE] [--pad] [--atomic] [--force] [--auto] [--block N]
+-- [--endian ORDER] IMAGE OUT`
 abbrev pub compact_app : App
 compact_app = with_rule
     (with_rule
     (with_rule
-    (placing (with_rule (plain_command (codes "compact")) (option_of (codes "blocks"))))
+    (placing
+    (with_rule (with_rule (reader (codes "compact")) (option_of (codes "blocks")))
+    (option_of (codes "clashes"))))
     (flag (codes "force")))
     (word (codes "IMAGE")))
     (word (codes "OUT"))
@@ -154,26 +171,28 @@ folder_settings app = with_rule
     (with_rule (with_rule app (option_of_two (codes "owner"))) (option_of (codes "time")))
     (flag (codes "quiet"))
 
--- `pack [--owner UID GID] [--time T] [--quiet] [--blocks N] [--page N] [--weak] [--pad] [--atomic]
--- [--block N] [--endian ORDER] DIR OUT`
+-- `pack [--owner UID GID] [--time T] [--quiet] [--blocks N] [--page N] [--weak] [--compress]
+-- [--pad] [--atomic] [--block N] [--endian ORDER] DIR OUT`
 abbrev pub pack_app : App
 pack_app = with_rule
     (with_rule
     (folder_settings
     (placing
+    (compressing
     (with_rule
     (with_rule (with_rule (plain_command (codes "pack")) (option_of (codes "blocks")))
     (option_or (codes "page") (codes "4096")))
-    (flag (codes "weak")))))
+    (flag (codes "weak"))))))
     (word (codes "DIR")))
     (word (codes "OUT"))
 
--- `extract [--decompress] [--block N] [--endian ORDER] [--owners] [--quiet] IMAGE DIR [PATH]`
+-- `extract [--decompress] [--auto] [--block N] [--endian ORDER] [--owners] [--quiet] IMAGE DIR
+-- [PATH]`
 abbrev pub extract_app : App
 extract_app = with_rule
     (with_rule
     (with_rule
-    (with_rule (with_rule (decompressing (plain_command (codes "extract")))
+    (with_rule (with_rule (decompressing (reader (codes "extract")))
     (flag (codes "owners"))) (flag (codes "quiet"))) (word (codes "IMAGE")))
     (word (codes "DIR")))
     (optional_word (codes "PATH"))
@@ -188,25 +207,28 @@ listing_app = with_rule
 abbrev pub info_app : App
 info_app = with_rule (new_app (codes "info")) (word (codes "IMAGE"))
 
--- `cuts --blocks N [--page N] [--on IMAGE] [--block N] [--endian ORDER] LISTING`
+-- `cuts --blocks N [--page N] [--on IMAGE] [--compress] [--decompress] [--auto] [--block N]
+-- [--endian ORDER] LISTING`
 abbrev pub cuts_app : App
-cuts_app =
-    with_rule (with_rule (writer (codes "cuts")) (option_of (codes "on"))) (word (codes "LISTING"))
+cuts_app = with_rule
+    (decompressing
+    (compressing (with_rule (automatic (writer (codes "cuts"))) (option_of (codes "on")))))
+    (word (codes "LISTING"))
 
--- `diff [--decompress] [--times] [--block N] [--endian ORDER] A B`
+-- `diff [--decompress] [--times] [--auto] [--block N] [--endian ORDER] A B`
 abbrev pub diff_app : App
 diff_app = with_rule
-    (with_rule (with_rule (decompressing (plain_command (codes "diff"))) (flag (codes "times")))
+    (with_rule (with_rule (decompressing (reader (codes "diff"))) (flag (codes "times")))
     (word (codes "A")))
     (word (codes "B"))
 
--- `damage [--decompress] [--block N] [--endian ORDER] IMAGE`
+-- `damage [--decompress] [--auto] [--block N] [--endian ORDER] IMAGE`
 abbrev pub damage_app : App
-damage_app = with_rule (decompressing (plain_command (codes "damage"))) (word (codes "IMAGE"))
+damage_app = with_rule (decompressing (reader (codes "damage"))) (word (codes "IMAGE"))
 
--- `map [--svg] [--block N] [--endian ORDER] IMAGE`
+-- `map [--svg] [--auto] [--block N] [--endian ORDER] IMAGE`
 abbrev pub map_app : App
-map_app = with_rule (with_rule (plain_command (codes "map")) (flag (codes "svg")))
+map_app = with_rule (with_rule (reader (codes "map")) (flag (codes "svg")))
     (word (codes "IMAGE"))
 
 -- the program without its subcommands, of which one has to be named; it tells its version

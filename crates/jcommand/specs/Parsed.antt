@@ -13,11 +13,15 @@ use Rattle.jscan.specs.declared.page.Page.TheVariants.{P4096, P8192, P16384}
 use Rattle.jline.specs.Read.{◌>>=◌}
 use Rattle.jcommand.specs.Commands.{program}
 use Rattle.jcommand.specs.Sizes.{size_number}
+use Rattle.jcommand.specs.declared.parsed.Building.{Building}
 use Rattle.jcommand.specs.declared.parsed.Check.{Check}
 use Rattle.jcommand.specs.declared.parsed.Command.{Command}
 use Rattle.jcommand.specs.declared.parsed.Command.TheVariants as command
+use Rattle.jcommand.specs.declared.parsed.Compaction.{Compaction}
 use Rattle.jcommand.specs.declared.parsed.Comparison.{Comparison}
 use Rattle.jcommand.specs.declared.parsed.Conversion.{Conversion}
+use Rattle.jcommand.specs.declared.parsed.Cuts.{Cuts}
+use Rattle.jcommand.specs.declared.parsed.CutsThrough.{CutsThrough}
 use Rattle.jcommand.specs.declared.parsed.Extraction.{Extraction}
 use Rattle.jcommand.specs.declared.parsed.FolderListing.{FolderListing}
 use Rattle.jcommand.specs.declared.parsed.Image.{Image}
@@ -94,6 +98,19 @@ target_view t = record {
   output = t.output.now;
 }
 
+abbrev pub building_view : Building (Bor Text) → Building Text
+building_view b = record { target = target_view b.target; listing = b.listing.now }
+
+abbrev pub cuts_through_view : CutsThrough (Bor Text) → CutsThrough Text
+cuts_through_view c = record {
+  options = c.options;
+  blocks = c.blocks;
+  page = c.page;
+  compress = c.compress;
+  on = option_map (λ name. name.now) c.on;
+  listing = c.listing.now;
+}
+
 abbrev pub conversion_view : Conversion (Bor Text) → Conversion Text
 conversion_view c = record {
   options = c.options;
@@ -102,6 +119,9 @@ conversion_view c = record {
   image = c.image.now;
   output = c.output.now;
 }
+
+abbrev pub compaction_view : Compaction (Bor Text) → Compaction Text
+compaction_view c = record { conversion = conversion_view c.conversion; blocks = c.blocks }
 
 abbrev pub updating_view : Updating (Bor Text) → Updating Text
 updating_view u = record {
@@ -171,8 +191,8 @@ command_view (command.Diff d) = command.Diff (comparison_view d)
 command_view (command.Damage x) = command.Damage
     (record { options = x.options; decompress = x.decompress; image = x.image.now })
 command_view (command.Map m) = command.Map (mapping_view m)
-command_view (command.Build b) =
-    command.Build (record { target = target_view b.target; listing = b.listing.now })
+command_view (command.Build b) = command.Build (building_view b)
+command_view (command.BuildCompressed b) = command.BuildCompressed (building_view b)
 command_view (command.Append a) = command.Append (record {
   target = target_view a.target;
   decompress = a.decompress;
@@ -187,14 +207,16 @@ command_view (command.Cuts c) = command.Cuts (record {
   on = option_map (λ name. name.now) c.on;
   listing = c.listing.now;
 })
+command_view (command.CutsThrough c) = command.CutsThrough (cuts_through_view c)
 command_view (command.Decompress c) = command.Decompress (conversion_view c)
 command_view (command.Apart c) = command.Apart (conversion_view c)
 command_view (command.Compress c) = command.Compress (conversion_view c)
-command_view (command.Compact c) =
-    command.Compact (record { conversion = conversion_view c.conversion; blocks = c.blocks })
+command_view (command.Compact c) = command.Compact (compaction_view c)
+command_view (command.CompactApart c) = command.CompactApart (compaction_view c)
 command_view (command.Extract x) = command.Extract (extraction_view x)
 command_view (command.Listing l) = command.Listing (folder_view l)
 command_view (command.Pack p) = command.Pack (packing_view p)
+command_view (command.PackCompressed p) = command.PackCompressed (packing_view p)
 
 -- The byte order that a command is given, if it is given one. `info` finds out its own, and
 -- `listing` reads no image.
@@ -209,16 +231,20 @@ order_asked (command.Diff d) = d.options.endian
 order_asked (command.Damage x) = x.options.endian
 order_asked (command.Map m) = m.options.endian
 order_asked (command.Build b) = b.target.options.endian
+order_asked (command.BuildCompressed b) = b.target.options.endian
 order_asked (command.Append a) = a.target.options.endian
 order_asked (command.Update u) = u.options.endian
 order_asked (command.Cuts c) = c.options.endian
+order_asked (command.CutsThrough c) = c.options.endian
 order_asked (command.Decompress c) = c.options.endian
 order_asked (command.Apart c) = c.options.endian
 order_asked (command.Compress c) = c.options.endian
 order_asked (command.Compact c) = c.conversion.options.endian
+order_asked (command.CompactApart c) = c.conversion.options.endian
 order_asked (command.Extract x) = x.options.endian
 order_asked (command.Listing l) = Little
 order_asked (command.Pack p) = p.options.endian
+order_asked (command.PackCompressed p) = p.options.endian
 
 -- ---- by the rows of the subcommand's matches
 
@@ -249,8 +275,16 @@ abbrev pub order_in : List Row → Option Endian
 order_in rows = order_from (first_of (codes "endian") rows) (is_given (codes "little-endian") rows)
     (is_given (codes "big-endian") rows)
 
+-- 65536 if no size is given
+abbrev pub size_or_default : Option Text → Option ℕ
+size_or_default None = Some 65536
+size_or_default (Some text) = size_number text
+
+abbrev pub block_size_in : List Row → Option ℕ
+block_size_in rows = size_or_default (first_of (codes "block") rows)
+
 abbrev pub options_in : List Row → Option Options
-options_in rows = (first_of (codes "block") rows >>= size_number) >>= λ block.
+options_in rows = block_size_in rows >>= λ block.
     order_in rows >>= λ endian.
     Some (options_of block endian)
 
@@ -334,9 +368,18 @@ target_in rows = options_in rows >>= λ options. number_option (codes "blocks") 
       output = output;
     })
 
+-- whether nodes are compressed that are written
+abbrev pub is_compressed : List Row → Bool
+is_compressed = is_given (codes "compress")
+
+-- weak nodes are noted only where nodes are not compressed
+abbrev pub build_by : Bool → Building Text → Option (Command Text)
+build_by false b = Some (command.Build b)
+build_by true b = if b.target.weak then None else Some (command.BuildCompressed b)
+
 abbrev pub build_in : List Row → Option (Command Text)
 build_in rows = target_in rows >>= λ target. first_of (codes "LISTING") rows >>= λ listing.
-    Some (command.Build (record { target = target; listing = listing }))
+    build_by (is_compressed rows) (record { target = target; listing = listing })
 
 abbrev pub append_in : List Row → Option (Command Text)
 append_in rows = target_in rows >>= λ target. first_of (codes "IMAGE") rows >>= λ image.
@@ -367,12 +410,25 @@ update_in rows = options_in rows >>= λ options.
       output = output;
     }))
 
+-- through compression, where that is asked for or new nodes are compressed
+abbrev pub cuts_by : List Row → Cuts Text → Command Text
+cuts_by rows c = if is_compressed rows || is_given (codes "decompress") rows
+    then command.CutsThrough (record {
+      options = c.options;
+      blocks = c.blocks;
+      page = c.page;
+      compress = is_compressed rows;
+      on = c.on;
+      listing = c.listing;
+    })
+    else command.Cuts c
+
 -- the image that is gone on from may be left out
 abbrev pub cuts_in : List Row → Option (Command Text)
 cuts_in rows = options_in rows >>= λ options. number_option (codes "blocks") rows >>= λ blocks.
     (first_of (codes "page") rows >>= page_of) >>= λ page.
     first_of (codes "LISTING") rows >>= λ listing.
-    Some (command.Cuts (record {
+    Some (cuts_by rows (record {
       options = options;
       blocks = blocks;
       page = page;
@@ -405,11 +461,16 @@ decompress_in rows = conversion_in rows >>= λ c.
     is_apart (first_of (codes "clashes") rows) >>= λ apart.
     Some (if apart then command.Apart c else command.Decompress c)
 
+abbrev pub compact_by : Bool → Compaction Text → Command Text
+compact_by false c = command.Compact c
+compact_by true c = command.CompactApart c
+
 -- the number of blocks may be left out
 abbrev pub compact_in : List Row → Option (Command Text)
 compact_in rows = conversion_in rows >>= λ c.
     if_given (first_of (codes "blocks") rows) decimal_number >>= λ blocks.
-    Some (command.Compact (record { conversion = c; blocks = blocks }))
+    is_apart (first_of (codes "clashes") rows) >>= λ apart.
+    Some (compact_by apart (record { conversion = c; blocks = blocks }))
 
 abbrev pub extract_in : List Row → Option (Command Text)
 extract_in rows = image_in rows >>= λ i. first_of (codes "DIR") rows >>= λ folder.
@@ -435,13 +496,18 @@ folder_in rows = if_given (all_of (codes "owner") rows) owner_of >>= λ owner.
       folder = folder;
     })
 
+-- as `build`
+abbrev pub pack_by : Bool → Packing Text → Option (Command Text)
+pack_by false p = Some (command.Pack p)
+pack_by true p = if p.weak then None else Some (command.PackCompressed p)
+
 -- the number of blocks may be left out
 abbrev pub pack_in : List Row → Option (Command Text)
 pack_in rows = folder_in rows >>= λ l. options_in rows >>= λ options.
     if_given (first_of (codes "blocks") rows) decimal_number >>= λ blocks.
     (first_of (codes "page") rows >>= page_of) >>= λ page.
     first_of (codes "OUT") rows >>= λ output.
-    Some (command.Pack (record {
+    pack_by (is_compressed rows) (record {
       options = options;
       blocks = blocks;
       page = page;
@@ -452,7 +518,7 @@ pack_in rows = folder_in rows >>= λ l. options_in rows >>= λ options.
       quiet = l.quiet;
       folder = l.folder;
       output = output;
-    }))
+    })
 
 -- what the subcommand of this name asks for, with these rows; None where it is no subcommand or a
 -- value can't be read
@@ -481,12 +547,7 @@ abbrev pub parsed_by : Option (Text × List Row) → Option (Command Text)
 parsed_by (Some p) = parsed p.0 p.1
 parsed_by None = None
 
--- rule: What is printed: What the words of a command line ask for.
---   definitions: jcommand.Parsed.parsed_from
---   code: jcommand::command_line::asked
---   laws: jcommand::laws::known_requests, jcommand::laws::known_placings,
---   jcommand::laws::known_refusals
--- what the words ask for, by clap's matches of them
+-- the command that the words ask for, by clap's matches of them
 unfoldable pub parsed_from : List Text → Option (Command Text)
 parsed_from args = parsed_by (subcommand_of program args)
 
@@ -512,7 +573,3 @@ IsHelpRequested args = (kind : ErrorKind) × IsHelpKind kind × IsAmong kind (fa
 unfoldable pub IsRefusedByClap : List Text → Type 0
 IsRefusedByClap args = (kind : ErrorKind) × (kind ≢ DisplayHelp) × (kind ≢ DisplayVersion)
     × IsAmong kind (fault_of program args)
-
--- clap has nothing against the words, but a value can't be read
-unfoldable pub IsUnreadable : List Text → Type 0
-IsUnreadable args = (fault_of program args ≡ []) × (parsed_from args ≡ None)

@@ -6,6 +6,7 @@ use Rattle.jscan.specs.declared.page.Page.TheVariants.{P4096}
 use Rattle.jcommand.specs.Parsed.{options_of}
 use Rattle.jcommand.specs.declared.parsed.Conversion.{Conversion}
 use Rattle.jcommand.specs.declared.parsed.Cuts.{Cuts}
+use Rattle.jcommand.specs.declared.parsed.CutsThrough.{CutsThrough}
 use Rattle.jcommand.specs.declared.parsed.Extraction.{Extraction}
 use Rattle.jcommand.specs.declared.parsed.Options.{Options}
 use Rattle.jcommand.specs.declared.parsed.Packing.{Packing}
@@ -35,6 +36,16 @@ cuts_of_a = record {
   options = no_options;
   blocks = 2;
   page = P4096;
+  on = None;
+  listing = codes "a";
+}
+
+abbrev pub through_of_a : CutsThrough Text
+through_of_a = record {
+  options = no_options;
+  blocks = 2;
+  page = P4096;
+  compress = false;
   on = None;
   listing = codes "a";
 }

@@ -2,15 +2,17 @@
 ghost use Rattle.std.specs.Prelude.{◌≡◌, ◌≢◌, ◌⊎◌, [], true, false, map, IfOk, IfErr, IsSome, OnOk, Some, option_map};
 ghost use Rattle.clap.specs.Words.{HasKind, fault_of, kind_of, subcommand_of, subcommand_rows_of, takes};
 ghost use Rattle.jcommand.specs.Commands.{program};
-ghost use Rattle.jcommand.specs.Parsed.{command_view, parsed_by, parsed_from, are_words_taken, IsFaultless, IsHelpRequested, IsHelpKind, IsRefusedByClap, IsUnreadable};
+ghost use Rattle.jcommand.specs.Parsed.{are_words_taken, IsFaultless, IsHelpRequested, IsHelpKind, IsRefusedByClap};
+ghost use Rattle.jcommand.specs.Requests.{request_by, request_from, request_view, IsUnreadable};
 ghost use Rattle.jcommand.specs.Refused.{IsHelp, IsUsage};
 ghost use Rattle.jcommand.specs.declared.command_line.RequestFault.TheVariants.{OutOfMemory};
 
 use crate::commands::make_program;
-use crate::parsed::{
-    Command, endian, number, order_at, owner_number, page, parsed_of, text_at, texts_at,
+use crate::matching::{
+    apart, are_options_given, endian, is_given, number, order_at, owner_number, page, parsed_of,
+    request_at, size_at, text_at, texts_at,
 };
-use crate::sizes::size;
+use crate::request::Request;
 use clap::error::ErrorKind;
 use clap::{ArgMatches, Error};
 use std::alloc::{AllocError, Global};
@@ -84,11 +86,12 @@ fn matched<'a>(alloc: Global, args: &'a [&'a str]) -> Result<ArgMatches<'a>, Req
     }
 }
 
-fn parsed_in<'a>(matches: &ArgMatches<'a>) -> Option<Command<&'a str>>
-    ensures { option_map command_view result ≡ parsed_by (subcommand_rows_of matches.now) }
+fn requested_in<'a>(matches: &ArgMatches<'a>) -> Option<Request<&'a str>>
+    ensures { option_map request_view result ≡ request_by (subcommand_rows_of matches.now) }
 {
     let (name, found) = matches.subcommand()?;
-    parsed_of(name, found)
+    let command = parsed_of(name, found)?;
+    request_at(command, found)
 }
 
 /// Of a subcommand that reads a folder, the first value that can't be read, its option, and what is
@@ -117,21 +120,54 @@ fn unreadable_order<'a>(found: &ArgMatches<'a>) -> (&'a str, &'a str, &'a str) {
     }
 }
 
+/// Of `--auto`, which says nothing beside another option or without an image, the same.
+fn unreadable_auto<'a>(found: &ArgMatches<'a>) -> (&'a str, &'a str, &'a str) {
+    let wanted = "one of the two";
+    if text_at(found, "block").is_some() {
+        return ("--auto", "--block <N>", wanted);
+    }
+    if text_at(found, "endian").is_some() {
+        return ("--auto", "--endian <ORDER>", wanted);
+    }
+    if is_given(found, "little-endian") {
+        return ("--auto", "-l", wanted);
+    }
+    if is_given(found, "big-endian") {
+        return ("--auto", "-b", wanted);
+    }
+    if is_given(found, "decompress") {
+        return (
+            "--auto",
+            "--decompress",
+            "one of the two: --auto decompresses",
+        );
+    }
+    ("--auto", "--on <IMAGE>", "an image")
+}
+
 /// The first value that can't be read, its option, and what is wanted there.
 fn unreadable_value<'a>(name: &str, found: &ArgMatches<'a>) -> (&'a str, &'a str, &'a str) {
     if name == "listing" {
         return unreadable_setting(found);
     }
-    let block = text_at(found, "block").unwrap_or("");
-    if size(block).is_none() {
+    let is_alone = name == "cuts" && text_at(found, "on").is_none();
+    if is_given(found, "auto") && (is_alone || are_options_given(found)) {
+        return unreadable_auto(found);
+    }
+    if size_at(found).is_none() {
+        let block = text_at(found, "block").unwrap_or("");
         let wanted = "a number of bytes below 4294967296, as 131072, 0x20000 or 128KiB";
         return (block, "--block <N>", wanted);
     }
     if order_at(found).is_none() {
         return unreadable_order(found);
     }
-    if let Some(rule) = text_at(found, "clashes") {
-        return (rule, "--clashes <RULE>", "higher");
+    let rule = text_at(found, "clashes");
+    if apart(rule).is_none() {
+        return (rule.unwrap_or(""), "--clashes <RULE>", "higher");
+    }
+    if is_given(found, "compress") && is_given(found, "weak") {
+        return ("--weak", "--compress", "one of the two");
     }
     let blocks = text_at(found, "blocks").unwrap_or("0");
     if number(blocks).is_none() {
@@ -158,18 +194,18 @@ fn unreadable(alloc: Global, matches: &ArgMatches<'_>) -> Result<String, AllocEr
 }
 
 /// What the words of a command line ask for. The first word is the program's own name.
-#[tactic(auto, unfolding(crate::specs::Parsed::parsed_from, crate::specs::Parsed::are_words_taken, crate::specs::Parsed::IsFaultless, crate::specs::Parsed::IsUnreadable))]
-pub fn asked<'a>(alloc: Global, args: &'a [&'a str]) -> Result<Command<&'a str>, RequestFault>
+#[tactic(auto, unfolding(crate::specs::Requests::request_from, crate::specs::Parsed::are_words_taken, crate::specs::Parsed::IsFaultless, crate::specs::Requests::IsUnreadable))]
+pub fn asked<'a>(alloc: Global, args: &'a [&'a str]) -> Result<Request<&'a str>, RequestFault>
     // The subcommand and its values are clap's own function of the words.
     ensures ok { IfOk result
-        (λ c. parsed_from (map (λ w. w.now) args.entry.now) ≡ Some (command_view c)) }
+        (λ r. request_from (map (λ w. w.now) args.entry.now) ≡ Some (request_view r)) }
 
     // Words that clap refuses, or answers by help, ask for nothing.
     ensures faultless { OnOk result (IsFaultless (map (λ w. w.now) args.entry.now)) }
 
     // Where clap takes the words and every value can be read, it can only run out of memory.
     ensures only { are_words_taken (map (λ w. w.now) args.entry.now) ≡ true
-        → IsSome (parsed_from (map (λ w. w.now) args.entry.now))
+        → IsSome (request_from (map (λ w. w.now) args.entry.now))
         → IfErr result (λ e. e ≡ RequestFault.OutOfMemory) }
 
     // Help comes only where clap answers the words by help, or by the version.
@@ -177,13 +213,13 @@ pub fn asked<'a>(alloc: Global, args: &'a [&'a str]) -> Result<Command<&'a str>,
         (λ e. IsHelp e → IsHelpRequested (map (λ w. w.now) args.entry.now)) }
 
     // A command line is wrong only where clap refuses the words, or takes them and a value can't be
-    // read.
+    // read, or `--auto` says nothing there.
     ensures usage { IfErr result (λ e. IsUsage e → IsRefusedByClap (map (λ w. w.now) args.entry.now)
         ⊎ IsUnreadable (map (λ w. w.now) args.entry.now)) }
 {
     let matches = matched(alloc, args)?;
-    match parsed_in(&matches) {
-        Some(command) => Ok(command),
+    match requested_in(&matches) {
+        Some(request) => Ok(request),
         None => Err(usage(unreadable(alloc, &matches))),
     }
 }

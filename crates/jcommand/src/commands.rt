@@ -2,7 +2,7 @@
 //! takes.
 ghost use Rattle.std.specs.Prelude.{◌≡◌, Ok, IfOk};
 ghost use Rattle.clap.specs.Words.{App, Rule, new_app, with_rule, with_subcommand};
-ghost use Rattle.jcommand.specs.Commands.{IsApp, IsRule, MakesApp, word, optional_word, option_or, required_option, option_of, option_of_two, flag, lettered_flag, block_option, plain_command, writer, noting, check_app, ls_app, cat_app, build_app, append_app, update_app, decompress_app, compress_app, compact_app, extract_app, listing_app, info_app, cuts_app, diff_app, damage_app, map_app, pack_app, atomic, replacing, placing, folder_settings, bare, program};
+ghost use Rattle.jcommand.specs.Commands.{IsApp, IsRule, MakesApp, word, optional_word, option_or, required_option, option_of, option_of_two, flag, lettered_flag, block_option, plain_command, automatic, reader, writer, noting, check_app, ls_app, cat_app, build_app, append_app, update_app, decompress_app, compress_app, compact_app, extract_app, listing_app, info_app, cuts_app, diff_app, damage_app, map_app, pack_app, atomic, compressing, replacing, placing, folder_settings, bare, program};
 
 use crate::help;
 use clap::{Arg, ArgAction, Command};
@@ -98,7 +98,7 @@ fn make_lettered_flag<'a>(alloc: Global, id: &'a str, letter: char, help: &'a st
 fn make_block<'a>(alloc: Global) -> Result<Arg<'a>, AllocError>
     ensures { IfOk result (λ arg. IsRule arg block_option) }
 {
-    make_option(alloc, "block", "N", "65536", help::BLOCK)
+    make_optional(alloc, "block", "N", help::BLOCK)
         .short('e')
         .alias("eraseblock")
 }
@@ -139,6 +139,21 @@ fn make_plain<'a>(alloc: Global, name: &'a str, about: &'a str, after: &'a str) 
     add_arg(add_arg(command, little), big)
 }
 
+/// The command that finds these options in the image that it reads, where that is asked for.
+fn add_auto<'a>(alloc: Global, command: Made<'a>) -> Made<'a>
+    ensures { (app : App) → MakesApp command.entry app → MakesApp result (automatic app) }
+{
+    let flag = make_lettered_flag(alloc, "auto", 'a', help::AUTO);
+    add_arg(command, flag)
+}
+
+/// A subcommand that reads an image.
+fn make_reader<'a>(alloc: Global, name: &'a str, about: &'a str, after: &'a str) -> Made<'a>
+    ensures { MakesApp result (reader name.now) }
+{
+    add_auto(alloc, make_plain(alloc, name, about, after))
+}
+
 fn make_check<'a>(alloc: Global) -> Made<'a>
     ensures { MakesApp result check_app }
 {
@@ -146,7 +161,7 @@ fn make_check<'a>(alloc: Global) -> Made<'a>
     let shape = make_flag(alloc, "shape", help::SHAPE);
     let decompress = make_flag(alloc, "decompress", help::MOUNTED_DECOMPRESSED);
     let image = make_word(alloc, "IMAGE", help::IMAGE);
-    let command = make_plain(alloc, "check", help::CHECK, help::CHECK_EPILOGUE);
+    let command = make_reader(alloc, "check", help::CHECK, help::CHECK_EPILOGUE);
     let command = add_arg(add_arg(command, scan), shape);
     add_arg(add_arg(command, decompress), image)
 }
@@ -157,7 +172,7 @@ fn make_ls<'a>(alloc: Global) -> Made<'a>
     let decompress = make_flag(alloc, "decompress", help::DECOMPRESSED);
     let image = make_word(alloc, "IMAGE", help::IMAGE);
     let path = make_optional_word(alloc, "PATH", help::PART);
-    let command = make_plain(alloc, "ls", help::LIST, help::LIST_EPILOGUE);
+    let command = make_reader(alloc, "ls", help::LIST, help::LIST_EPILOGUE);
     add_arg(add_arg(add_arg(command, decompress), image), path)
 }
 
@@ -167,7 +182,7 @@ fn make_cat<'a>(alloc: Global) -> Made<'a>
     let decompress = make_flag(alloc, "decompress", help::DECOMPRESSED);
     let image = make_word(alloc, "IMAGE", help::IMAGE);
     let path = make_word(alloc, "PATH", help::PATH);
-    let command = make_plain(alloc, "cat", help::CAT, help::CAT_EPILOGUE);
+    let command = make_reader(alloc, "cat", help::CAT, help::CAT_EPILOGUE);
     add_arg(add_arg(add_arg(command, decompress), image), path)
 }
 
@@ -213,13 +228,22 @@ fn add_placing<'a>(alloc: Global, command: Made<'a>) -> Made<'a>
     add_atomic(alloc, add_arg(command, pad))
 }
 
+/// The command that compresses the nodes that it writes, where that is asked for.
+fn add_compressing<'a>(alloc: Global, command: Made<'a>) -> Made<'a>
+    ensures { (app : App) → MakesApp command.entry app → MakesApp result (compressing app) }
+{
+    let flag = make_flag(alloc, "compress", help::COMPRESSING);
+    add_arg(command, flag)
+}
+
 fn make_build<'a>(alloc: Global) -> Made<'a>
     ensures { MakesApp result build_app }
 {
     let listing = make_word(alloc, "LISTING", help::LISTING);
     let output = make_word(alloc, "OUT", help::OUT);
     let command = make_noting(alloc, "build", help::BUILD, help::BUILD_EPILOGUE);
-    add_arg(add_arg(add_placing(alloc, command), listing), output)
+    let command = add_placing(alloc, add_compressing(alloc, command));
+    add_arg(add_arg(command, listing), output)
 }
 
 fn make_append<'a>(alloc: Global) -> Made<'a>
@@ -230,7 +254,8 @@ fn make_append<'a>(alloc: Global) -> Made<'a>
     let listing = make_word(alloc, "LISTING", help::LISTING);
     let output = make_word(alloc, "OUT", help::OUT);
     let command = make_noting(alloc, "append", help::APPEND, help::APPEND_EPILOGUE);
-    let command = add_arg(add_placing(alloc, command), decompress);
+    let command = add_placing(alloc, add_auto(alloc, command));
+    let command = add_arg(command, decompress);
     add_arg(add_arg(add_arg(command, image), listing), output)
 }
 
@@ -244,7 +269,7 @@ fn make_update<'a>(alloc: Global) -> Made<'a>
     let image = make_word(alloc, "IMAGE", help::IMAGE);
     let listing = make_word(alloc, "LISTING", help::LISTING);
     let output = make_word(alloc, "OUT", help::OUT);
-    let command = make_plain(alloc, "update", help::UPDATE, help::UPDATE_EPILOGUE);
+    let command = make_reader(alloc, "update", help::UPDATE, help::UPDATE_EPILOGUE);
     let command = add_arg(add_arg(command, blocks), page);
     let command = add_placing(alloc, add_arg(add_arg(command, plain), tail));
     add_arg(add_arg(add_arg(command, image), listing), output)
@@ -256,7 +281,7 @@ fn make_decompress<'a>(alloc: Global) -> Made<'a>
     let clashes = make_optional(alloc, "clashes", "RULE", help::CLASHES);
     let image = make_word(alloc, "IMAGE", help::IMAGE);
     let output = make_word(alloc, "OUT", help::OUT);
-    let command = make_plain(
+    let command = make_reader(
         alloc,
         "decompress",
         help::DECOMPRESS,
@@ -271,7 +296,7 @@ fn make_compress<'a>(alloc: Global) -> Made<'a>
 {
     let image = make_word(alloc, "IMAGE", help::IMAGE);
     let output = make_word(alloc, "OUT", help::OUT);
-    let command = make_plain(alloc, "compress", help::COMPRESS, help::COMPRESS_EPILOGUE);
+    let command = make_reader(alloc, "compress", help::COMPRESS, help::COMPRESS_EPILOGUE);
     add_arg(add_arg(add_replacing(alloc, command), image), output)
 }
 
@@ -279,11 +304,12 @@ fn make_compact<'a>(alloc: Global) -> Made<'a>
     ensures { MakesApp result compact_app }
 {
     let blocks = make_optional(alloc, "blocks", "N", help::BLOCKS);
+    let clashes = make_optional(alloc, "clashes", "RULE", help::CLASHES);
     let force = make_flag(alloc, "force", help::FORCE);
     let image = make_word(alloc, "IMAGE", help::IMAGE);
     let output = make_word(alloc, "OUT", help::OUT);
-    let command = make_plain(alloc, "compact", help::COMPACT, help::COMPACT_EPILOGUE);
-    let command = add_placing(alloc, add_arg(command, blocks));
+    let command = make_reader(alloc, "compact", help::COMPACT, help::COMPACT_EPILOGUE);
+    let command = add_placing(alloc, add_arg(add_arg(command, blocks), clashes));
     add_arg(add_arg(add_arg(command, force), image), output)
 }
 
@@ -296,7 +322,7 @@ fn make_extract<'a>(alloc: Global) -> Made<'a>
     let image = make_word(alloc, "IMAGE", help::IMAGE);
     let folder = make_word(alloc, "DIR", help::NEW_FOLDER);
     let path = make_optional_word(alloc, "PATH", help::PART);
-    let command = make_plain(alloc, "extract", help::EXTRACT, help::EXTRACT_EPILOGUE);
+    let command = make_reader(alloc, "extract", help::EXTRACT, help::EXTRACT_EPILOGUE);
     let command = add_arg(add_arg(add_arg(command, decompress), owners), quiet);
     add_arg(add_arg(add_arg(command, image), folder), path)
 }
@@ -331,9 +357,12 @@ fn make_cuts<'a>(alloc: Global) -> Made<'a>
     ensures { MakesApp result cuts_app }
 {
     let on = make_optional(alloc, "on", "IMAGE", help::ON);
+    let decompress = make_flag(alloc, "decompress", help::MOUNTED_DECOMPRESSED);
     let listing = make_word(alloc, "LISTING", help::LISTING);
     let command = make_writer(alloc, "cuts", help::CUTS, help::CUTS_EPILOGUE);
-    add_arg(add_arg(command, on), listing)
+    let command = add_arg(add_auto(alloc, command), on);
+    let command = add_arg(add_compressing(alloc, command), decompress);
+    add_arg(command, listing)
 }
 
 fn make_diff<'a>(alloc: Global) -> Made<'a>
@@ -343,7 +372,7 @@ fn make_diff<'a>(alloc: Global) -> Made<'a>
     let times = make_flag(alloc, "times", help::TIMES);
     let first = make_word(alloc, "A", help::FIRST);
     let second = make_word(alloc, "B", help::SECOND);
-    let command = make_plain(alloc, "diff", help::DIFF, help::DIFF_EPILOGUE);
+    let command = make_reader(alloc, "diff", help::DIFF, help::DIFF_EPILOGUE);
     let command = add_arg(add_arg(command, decompress), times);
     add_arg(add_arg(command, first), second)
 }
@@ -353,7 +382,7 @@ fn make_damage<'a>(alloc: Global) -> Made<'a>
 {
     let decompress = make_flag(alloc, "decompress", help::DECOMPRESSED);
     let image = make_word(alloc, "IMAGE", help::IMAGE);
-    let command = make_plain(alloc, "damage", help::DAMAGE, help::DAMAGE_EPILOGUE);
+    let command = make_reader(alloc, "damage", help::DAMAGE, help::DAMAGE_EPILOGUE);
     add_arg(add_arg(command, decompress), image)
 }
 
@@ -362,7 +391,7 @@ fn make_map<'a>(alloc: Global) -> Made<'a>
 {
     let svg = make_flag(alloc, "svg", help::SVG);
     let image = make_word(alloc, "IMAGE", help::IMAGE);
-    let command = make_plain(alloc, "map", help::MAP, help::MAP_EPILOGUE);
+    let command = make_reader(alloc, "map", help::MAP, help::MAP_EPILOGUE);
     add_arg(add_arg(command, svg), image)
 }
 
@@ -376,7 +405,8 @@ fn make_pack<'a>(alloc: Global) -> Made<'a>
     let output = make_word(alloc, "OUT", help::OUT);
     let command = make_plain(alloc, "pack", help::PACK, help::PACK_EPILOGUE);
     let command = add_arg(add_arg(add_arg(command, blocks), page), weak);
-    let command = add_settings(alloc, add_placing(alloc, command));
+    let command = add_placing(alloc, add_compressing(alloc, command));
+    let command = add_settings(alloc, command);
     add_arg(add_arg(command, folder), output)
 }
 

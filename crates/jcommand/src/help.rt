@@ -31,7 +31,7 @@ pub(crate) const INFO: &str = "Print what an image shows of its byte order, bloc
 
 pub(crate) const CUTS: &str = "Print from which offset each step survives a power cut";
 
-pub(crate) const ON: &str = "Image to go on from, as append does";
+pub(crate) const ON: &str = "Image to go on from, behind its last node";
 
 pub(crate) const DIFF: &str = "Print the differences between the trees of two images";
 
@@ -47,7 +47,7 @@ pub(crate) const ATOMIC: &str = "Replace an old OUT only if all goes well";
 
 pub(crate) const FORCE: &str = "Write over an IMAGE that is OUT, even if it has findings";
 
-pub(crate) const BLOCK: &str = "Erase block, 4 KiB to 4 MiB, as 128KiB";
+pub(crate) const BLOCK: &str = "Erase block up to 4 MiB, as 128KiB [default: 65536]";
 
 pub(crate) const ENDIAN: &str = "Byte order, without it little: little or big";
 
@@ -55,11 +55,15 @@ pub(crate) const LITTLE: &str = "The same as --endian little";
 
 pub(crate) const BIG: &str = "The same as --endian big";
 
+pub(crate) const AUTO: &str = "Find both in the image, and decompress its data";
+
 pub(crate) const BLOCKS: &str = "Blocks of the flash, 268435456 bytes at most";
 
 pub(crate) const PAGE: &str = "Page size: 4096, 8192 or 16384 bytes";
 
 pub(crate) const WEAK: &str = "Note the weak nodes when all is written";
+
+pub(crate) const COMPRESSING: &str = "Compress nodes if they become shorter";
 
 pub(crate) const SCAN: &str = "Print the report alone, and do not mount";
 
@@ -110,22 +114,23 @@ pub(crate) const OUT: &str = "File to make or to write over, with the bytes of t
 /// What is at the end of the program's help.
 pub(crate) const EPILOGUE: &str = "\
 --block (the size of an erase block, a multiple of 4) and --endian (the byte
-order) apply to every command except listing and info. A size is in bytes, as
-131072 or 0x20000, or in K, KiB, M or MiB, as 128KiB. --eraseblock and -e are
-other names of --block, -l is --endian little and -b is --endian big, as for
-mkfs.jffs2. build, append and cuts need --blocks too, the number of blocks;
-update, compact and pack take it. 'jffs2_image help build' says what a listing
-is, 'jffs2_image help check' what check prints, and the same for the other
-commands.
+order) apply to every command except listing and info. Of a command that reads
+an image --auto finds both, and reads compressed data too; -a is the same. A
+size is in bytes, as 131072 or 0x20000, or in K, KiB, M or MiB, as 128KiB.
+--eraseblock and -e are other names of --block, -l is --endian little and -b is
+--endian big, as for mkfs.jffs2. build, append and cuts need --blocks too, the
+number of blocks; update, compact and pack take it. 'jffs2_image help build'
+says what a listing is, 'jffs2_image help check' what check prints, and the same
+for the other commands.
 
 In an image that Linux or mkfs.jffs2 wrote, data are often compressed. ls, cat,
-append, extract, diff, damage and check read them with --decompress, and
-decompress makes an image without them. build writes no compressed data:
-compress makes a shorter image of its output. compact, update and map take
-compressed data as they are: to change the image of a device, compact it, update
-it, and flash it.
+append, extract, diff, damage, check and cuts read them with --decompress, and
+decompress makes an image without them. build and pack compress what they write
+with --compress. compact, update and map take compressed data as they are: to
+change the image of a device, compact it, update it, and flash it.
 
 Examples:
+  jffs2_image ls --auto dump.img
   jffs2_image info flash.img
   jffs2_image check flash.img
   jffs2_image ls --block 131072 flash.img
@@ -141,7 +146,7 @@ Examples:
   jffs2_image diff old.img new.img
   jffs2_image damage flash.img
   jffs2_image map dump.img
-  jffs2_image pack tree flash.img
+  jffs2_image pack --compress tree flash.img
 
 Exit status:
   0  done, and nothing was found
@@ -149,7 +154,7 @@ Exit status:
   2  the command line is wrong
   3  check found a problem, diff a difference, damage a loss, info no node, or
      cuts or --weak a weak node;
-     extract, listing, pack or decompress --clashes left something out;
+     extract, listing, pack or --clashes left something out;
      extract, decompress, compress, compact, diff or damage read an image with
      findings
 
@@ -159,11 +164,11 @@ the image as a whole, S the session that writes, P the program. P2 is a wrong
 line of a listing. The manual page jffs2_image-errors(7) has the causes of each
 fault and the remedies.
 
-An image records neither its block size nor its byte order; info deduces both
-from its nodes. With a wrong --block, a wrong --endian or a damaged image, ls
-and cat may show less than the flash holds, or zeros, and append and decompress
-go on from that. A note on standard error then counts the findings, which check
---scan prints.";
+An image records neither its block size nor its byte order; info and --auto
+deduce both from its nodes. With a wrong --block, a wrong --endian or a damaged
+image, ls and cat may show less than the flash holds, or zeros, and append and
+decompress go on from that. A note on standard error then counts the findings,
+which check --scan prints.";
 
 pub(crate) const CHECK_EPILOGUE: &str = "\
 For each block it prints 'block' and its number. Then comes a line for each node
@@ -247,6 +252,8 @@ Empty lines and lines that begin with # are skipped.
   mkdir MODE PATH        makes a directory
   create MODE PATH       makes an empty regular file
   file MODE PATH FILE    makes a file with the bytes of FILE of this host
+  put MODE PATH FILE     the same, and replaces what is at PATH, if it is not a
+                         directory
   device KIND MODE MAJOR MINOR PATH
                          makes a device: KIND is c (character) or b (block)
   fifo MODE PATH         makes a FIFO
@@ -259,8 +266,12 @@ Empty lines and lines that begin with # are skipped.
   rename OLD NEW         moves OLD to NEW, which must not exist yet
   replace OLD NEW        moves OLD to NEW, and replaces a file that is there
   remove PATH            removes a name; a directory must be empty
+  remove-if PATH         the same, if the name is there
   attr MODE UID GID ATIME MTIME PATH
                          sets permissions, owner and times of PATH, or of /
+
+A listing of put and remove-if can be run again after a power cut, on what the
+cut left: with put a path has the old file or the new one, whole.
 
 Numbers are decimal, MODE is octal, HEX is pairs of hexadecimal digits, or - for
 no bytes. In a path or a target, \\x and two hexadecimal digits are one byte: a
@@ -293,13 +304,17 @@ With --weak, after all is written, standard error has a note for each weak node,
 as 'weak A at J': a stop after the first J bytes of the node at A may show a
 node that nobody wrote.
 
+With --compress the data of files are compressed by ZLIB, node by node, if that
+makes the node shorter. All operations are run in memory before OUT is made.
+--weak cannot be given too.
+
 With --pad, 0xFF follows the last node, up to the end of the flash. With
 --atomic a new file in the same folder is written, which takes the name of OUT
 when all has gone well: after a fault OUT is as it was.
 
 Examples:
   jffs2_image build --block 131072 --blocks 64 tree.txt flash.img
-  jffs2_image build --blocks 64 --pad --atomic tree.txt flash.img
+  jffs2_image build --blocks 64 --compress --pad tree.txt flash.img
 
 Exit status:
   0  done
@@ -455,8 +470,12 @@ Notes on standard error count damage, dirt and extended attributes.
 
 'compacted K of N nodes bytes B' is printed: IMAGE has N sound nodes, and OUT
 has K of them and B bytes. The whole image is judged before OUT is made: as a
-mount with --decompress, then S3, S7, and S2 if OUT needs more than --blocks. If
-nodes clash (M5), give IMAGE to decompress --clashes higher first.
+mount with --decompress, then S3, S7, and S2 if OUT needs more than --blocks.
+
+If nodes clash (M5), --clashes higher leaves out each node that clashes with one
+of a higher address, as Linux does, and compacts the others. Each is reported on
+standard error: 'left out A: clashes with B', with the addresses A and B in
+IMAGE, B the highest that clashes. Then the exit status is 3.
 
 IMAGE and OUT may be the same file, since IMAGE is held in memory before OUT is
 made. An IMAGE with findings is written over only with --force (I2 Findings). If
@@ -471,7 +490,7 @@ Exit status:
   0  done
   1  a fault, which standard error names
   2  the command line is wrong
-  3  IMAGE has findings or extended attributes";
+  3  IMAGE has findings or extended attributes, or nodes were left out";
 
 pub(crate) const EXTRACT_EPILOGUE: &str = "\
 DIR is made, and in it each directory, regular file and symlink of the image,
@@ -565,8 +584,10 @@ Exit status:
 
 pub(crate) const CUTS_EPILOGUE: &str = "\
 It plans the nodes that build would write for LISTING, or append with --on, and
-writes nothing. Each operation is written as a few nodes, and each node is one
-step of the file system. It prints a line for each node, in the order of their
+writes nothing. With --compress they are those of build --compress. With
+--decompress or --compress, IMAGE may have compressed data, which are left as
+they are. Each operation is written as a few nodes, and each node is one step of
+the file system. It prints a line for each node, in the order of their
 addresses:
 
   A N line L step S of T stands from B
@@ -586,8 +607,10 @@ Writing begins at R and ends at E, and W nodes are weak. The first operation
 that is refused is the last: the fault has the number of its line, and the lines
 of the operations before it are printed.
 
-Example:
+Examples:
   jffs2_image cuts --blocks 64 --on flash.img more.txt
+  jffs2_image cuts --blocks 64 --decompress --on dump.img more.txt
+  jffs2_image cuts --blocks 64 --compress tree.txt
 
 Exit status:
   0  done, and no node is weak
@@ -685,11 +708,12 @@ Exit status:
 
 pub(crate) const PACK_EPILOGUE: &str = "\
 It makes the image that build makes of the listing of DIR, byte for byte, and
-writes no listing. 'jffs2_image help listing' says which parts of DIR an image
-can hold, and 'jffs2_image help build' explains the options and the output.
-Things that are left out are reported on standard error, each with a line 'left
-out PATH: REASON', and the rest goes on. --owner and --time replace those of the
-folder: with them the image is the same for everybody at any time.
+writes no listing. With --compress it is that of build --compress. 'jffs2_image
+help listing' says which parts of DIR an image can hold, and 'jffs2_image help
+build' explains the options and the output. Things that are left out are
+reported on standard error, each with a line 'left out PATH: REASON', and the
+rest goes on. --owner and --time replace those of the folder: with them the
+image is the same for everybody at any time.
 
 OUT ends with the last node. Without --blocks the flash is as large as possible.
 With --pad, 0xFF follows the last node, up to the end of the flash, or without
@@ -702,7 +726,7 @@ DIR'.
 
 Examples:
   jffs2_image pack tree flash.img
-  jffs2_image pack --owner 0 0 --time 1000000000 --blocks 64 tree flash.img
+  jffs2_image pack --compress --owner 0 0 --time 1000000000 tree flash.img
   jffs2_image pack --block 131072 --pad --atomic tree flash.img
 
 Exit status:

@@ -1,14 +1,16 @@
 //! Worked examples of the definitions that the contracts cite.
-ghost use Rattle.std.specs.Prelude.{◌≡◌, true, false, [], ◌∷◌, Some, None, codes};
-ghost use Rattle.clap.specs.Words.{fault_of};
+ghost use Rattle.std.specs.Prelude.{◌≡◌, true, false, List, [], ◌∷◌, Some, None, codes, option_map};
+ghost use Rattle.clap.specs.Words.{Text, fault_of};
 ghost use Rattle.clap.specs.declared.error.ErrorKind.TheVariants.{ArgumentConflict, DisplayHelp, DisplayVersion, MissingSubcommand, MissingRequiredArgument, UnknownArgument, WrongNumberOfValues};
 ghost use Rattle.jnode.specs.declared.order.Endian.TheVariants.{Little, Big};
-ghost use Rattle.jcommand.specs.Worked.{b_of_a, c_of_a, cuts_of_a, folder_a, no_options, tree_of_a, two_blocks};
+ghost use Rattle.jcommand.specs.Worked.{b_of_a, c_of_a, cuts_of_a, folder_a, no_options, through_of_a, tree_of_a, two_blocks};
 ghost use Rattle.jcommand.specs.Parsed.{options_of, parsed_from, endian_of, decimal_number, owner_of, page_of};
 ghost use Rattle.jscan.specs.declared.page.Page.TheVariants.{P4096, P8192, P16384};
 ghost use Rattle.jcommand.specs.Commands.{program};
 ghost use Rattle.jcommand.specs.Sizes.{size_number};
 ghost use Rattle.jcommand.specs.declared.parsed.Command.TheVariants as command;
+ghost use Rattle.jcommand.specs.declared.request.Request.{Request};
+ghost use Rattle.jcommand.specs.Requests.{auto_from, request_from};
 
 /// The values of options.
 pub fn known_values()
@@ -93,6 +95,9 @@ pub fn known_requests()
     ensures made { parsed_from (codes "jffs2_image" ∷ codes "build" ∷ codes "--blocks" ∷ codes "2"
         ∷ codes "a" ∷ codes "b" ∷ [])
         ≡ Some (command.Build (record { target = two_blocks; listing = codes "a" })) }
+    ensures made_compressed { parsed_from (codes "jffs2_image" ∷ codes "build" ∷ codes "--compress"
+        ∷ codes "--blocks" ∷ codes "2" ∷ codes "a" ∷ codes "b" ∷ [])
+        ≡ Some (command.BuildCompressed (record { target = two_blocks; listing = codes "a" })) }
     ensures extended { parsed_from (codes "jffs2_image" ∷ codes "append" ∷ codes "a"
         ∷ codes "--block" ∷ codes "8192" ∷ codes "b" ∷ codes "--endian=big" ∷ codes "--page=16384"
         ∷ codes "c" ∷ codes "--blocks=3" ∷ [])
@@ -179,6 +184,12 @@ pub fn known_requests()
     ensures cut_alone { parsed_from (codes "jffs2_image" ∷ codes "cuts" ∷ codes "--page=8192"
         ∷ codes "--blocks=2" ∷ codes "a" ∷ [])
         ≡ Some (command.Cuts (record cuts_of_a { page = P8192 })) }
+    ensures cut_through { parsed_from (codes "jffs2_image" ∷ codes "cuts" ∷ codes "--decompress"
+        ∷ codes "--on=b" ∷ codes "--blocks=2" ∷ codes "a" ∷ [])
+        ≡ Some (command.CutsThrough (record through_of_a { on = Some (codes "b") })) }
+    ensures cut_compressed { parsed_from (codes "jffs2_image" ∷ codes "cuts" ∷ codes "--blocks=2"
+        ∷ codes "--page=8192" ∷ codes "a" ∷ codes "--compress" ∷ [])
+        ≡ Some (command.CutsThrough (record through_of_a { page = P8192; compress = true })) }
     ensures compressed { parsed_from (codes "jffs2_image" ∷ codes "compress" ∷ codes "a"
         ∷ codes "--endian=big" ∷ codes "b" ∷ [])
         ≡ Some (command.Compress (record b_of_a { options = options_of 65536 Big })) }
@@ -192,6 +203,9 @@ pub fn known_requests()
           blocks = Some
               2;
         })) }
+    ensures compacted_apart { parsed_from (codes "jffs2_image" ∷ codes "compact" ∷ codes "a"
+        ∷ codes "--clashes=higher" ∷ codes "b" ∷ [])
+        ≡ Some (command.CompactApart (record { conversion = b_of_a; blocks = None })) }
     ensures compared { parsed_from (codes "jffs2_image" ∷ codes "diff" ∷ codes "a"
         ∷ codes "--block=8192" ∷ codes "b" ∷ [])
         ≡ Some (command.Diff (record {
@@ -263,6 +277,9 @@ pub fn known_requests()
         })) }
     ensures packed { parsed_from (codes "jffs2_image" ∷ codes "pack" ∷ codes "a" ∷ codes "b" ∷ [])
         ≡ Some (command.Pack folder_a) }
+    ensures packed_compressed { parsed_from (codes "jffs2_image" ∷ codes "pack" ∷ codes "a"
+        ∷ codes "--compress" ∷ codes "b" ∷ [])
+        ≡ Some (command.PackCompressed folder_a) }
     ensures packed_for { parsed_from (codes "jffs2_image" ∷ codes "pack" ∷ codes "--owner"
         ∷ codes "0" ∷ codes "7" ∷ codes "--time=9" ∷ codes "--weak" ∷ codes "--blocks=2" ∷ codes "a"
         ∷ codes "b" ∷ [])
@@ -391,6 +408,76 @@ pub fn known_refusals()
         ∷ codes "-e" ∷ codes "4096" ∷ codes "a" ∷ []) ≡ ArgumentConflict ∷ [] }
     ensures unreadable_clashes { parsed_from (codes "jffs2_image" ∷ codes "decompress"
         ∷ codes "--clashes=lower" ∷ codes "a" ∷ codes "b" ∷ []) ≡ None }
+    ensures compacted_lower { parsed_from (codes "jffs2_image" ∷ codes "compact"
+        ∷ codes "--clashes=lower" ∷ codes "a" ∷ codes "b" ∷ []) ≡ None }
+    ensures weak_of_compressed { parsed_from (codes "jffs2_image" ∷ codes "build"
+        ∷ codes "--blocks=2" ∷ codes "--weak" ∷ codes "--compress" ∷ codes "a" ∷ codes "b" ∷ [])
+        ≡ None }
     ensures unreadable { parsed_from (codes "jffs2_image" ∷ codes "check" ∷ codes "--block=x"
         ∷ codes "--scan" ∷ codes "a" ∷ []) ≡ None }
+{}
+
+/// What words with `--auto` ask for.
+pub fn known_autos()
+    ensures tree { request_from (codes "jffs2_image" ∷ codes "ls" ∷ codes "-a" ∷ codes "a" ∷ [])
+        ≡ Some (record {
+          auto = true;
+          command = command.List (record {
+            options = no_options;
+            decompress = false;
+            image = codes "a";
+            path = None;
+          });
+        }) }
+    ensures scanned { request_from (codes "jffs2_image" ∷ codes "check" ∷ codes "--scan"
+        ∷ codes "--auto" ∷ codes "a" ∷ [])
+        ≡ Some (record {
+          auto = true;
+          command = command.Scan (record { options = no_options; image = codes "a" });
+        }) }
+    ensures compared { request_from (codes "jffs2_image" ∷ codes "diff" ∷ codes "a"
+        ∷ codes "--auto" ∷ codes "b" ∷ [])
+        ≡ Some (record {
+          auto = true;
+          command = command.Diff (record {
+            options = no_options;
+            decompress = false;
+            times = false;
+            first = codes "a";
+            second = codes "b";
+          });
+        }) }
+    ensures cut { request_from (codes "jffs2_image" ∷ codes "cuts" ∷ codes "-a"
+        ∷ codes "--blocks=2" ∷ codes "--on=b" ∷ codes "a" ∷ [])
+        ≡ Some (record {
+          auto = true;
+          command = command.Cuts (record cuts_of_a { on = Some (codes "b") });
+        }) }
+    ensures given { request_from (codes "jffs2_image" ∷ codes "info" ∷ codes "a" ∷ [])
+        ≡ Some (record { auto = false; command = command.Info (codes "a") }) }
+    ensures size { request_from (codes "jffs2_image" ∷ codes "ls" ∷ codes "--auto"
+        ∷ codes "--block=65536" ∷ codes "a" ∷ []) ≡ None }
+    ensures letter { request_from (codes "jffs2_image" ∷ codes "ls" ∷ codes "-a" ∷ codes "-l"
+        ∷ codes "a" ∷ []) ≡ None }
+    ensures order { request_from (codes "jffs2_image" ∷ codes "map" ∷ codes "--endian=little"
+        ∷ codes "a" ∷ codes "--auto" ∷ []) ≡ None }
+    ensures decompressed { request_from (codes "jffs2_image" ∷ codes "ls" ∷ codes "--auto"
+        ∷ codes "--decompress" ∷ codes "a" ∷ []) ≡ None }
+    ensures cut_alone { request_from (codes "jffs2_image" ∷ codes "cuts" ∷ codes "--auto"
+        ∷ codes "--blocks=2" ∷ codes "a" ∷ []) ≡ None }
+    ensures not_of_build { fault_of program (codes "jffs2_image" ∷ codes "build"
+        ∷ codes "--auto" ∷ codes "--blocks=2" ∷ codes "a" ∷ codes "b" ∷ [])
+        ≡ UnknownArgument ∷ [] }
+{}
+
+/// What is asked for is the command of the words. Without `--auto` among them it is that command
+/// alone, with the options that it is given.
+pub fn requests_are_parsed()
+    ensures command { (args : List Text) (asked : Request Text) → request_from args ≡ Some asked
+        → parsed_from args ≡ Some asked.command }
+    ensures auto { (args : List Text) (asked : Request Text) → request_from args ≡ Some asked
+        → asked.auto ≡ auto_from args }
+    ensures plain { (args : List Text) → auto_from args ≡ false
+        → request_from args
+        ≡ option_map (λ c. record { auto = false; command = c }) (parsed_from args) }
 {}

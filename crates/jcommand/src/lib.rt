@@ -8,8 +8,10 @@
 //! - `commands`: the program, its subcommands, and the words that each one takes;
 //!   `specs/Commands.antt` has the same as clap sees it.
 //! - `help`: the texts of the help.
-//! - `parsed`: what clap's matches ask for, `specs/Parsed.antt`.
-//! - `command_line`: `asked`, which takes the words to a `Command`, or to the text that answers
+//! - `parsed`: commands, with what they are given; `matching`: the command that clap's matches ask
+//!   for, `specs/Parsed.antt`.
+//! - `request`: a command whose options may be found in its image, `specs/Requests.antt`.
+//! - `command_line`: `asked`, which takes the words to a `Request`, or to the text that answers
 //!   them; `specs/Refused.antt`.
 //! - `outcome`: how the program ends, and its exit status; `specs/Status.antt`.
 //! - `laws`: worked command lines.
@@ -19,14 +21,17 @@ mod command_line;
 mod commands;
 mod help;
 pub mod laws;
+mod matching;
 mod outcome;
 mod parsed;
+mod request;
 mod sizes;
 
 pub use crate::command_line::{RequestFault, asked};
 pub use crate::outcome::{Outcome, status};
 pub use crate::parsed::{
-    Appending, Building, Check, Command, Compaction, Comparison, Conversion, Cuts, Examination,
-    Extraction, FileContent, FolderListing, Image, Mapping, Options, Owner, Packing, Placing,
-    Target, TreeListing, Updating,
+    Appending, Building, Check, Command, Compaction, Comparison, Conversion, Cuts, CutsThrough,
+    Examination, Extraction, FileContent, FolderListing, Image, Mapping, Options, Owner, Packing,
+    Placing, Target, TreeListing, Updating,
 };
+pub use crate::request::Request;

@@ -1,10 +1,7 @@
-//! What the matches of the program's command line ask for.
-ghost use Rattle.std.specs.Prelude.{◌≡◌, codes, map, option_map};
-ghost use Rattle.clap.specs.Words.{found_of, rows_of, all_of, first_of};
-ghost use Rattle.jcommand.specs.Parsed.{append_in, build_in, cat_in, check_in, command_view, compact_in, conversion_in, conversion_view, cuts_in, damage_in, decimal_number, decompress_in, diff_in, endian_of, extract_in, folder_in, folder_view, if_given, image_in, image_view, info_in, is_apart, is_given, ls_in, map_in, number_option, options_in, order_asked, order_in, order_named, owner_number, owner_of, pack_in, page_of, parsed, placing_in, target_in, target_view, update_in};
+//! What a command line asks for.
+ghost use Rattle.std.specs.Prelude.{◌≡◌};
+ghost use Rattle.jcommand.specs.Parsed.{order_asked};
 
-use crate::sizes::size;
-use clap::ArgMatches;
 use jnode::Endian;
 use jscan::{Geometry, Page};
 
@@ -90,6 +87,19 @@ pub struct Cuts<T> {
     pub options: Options,
     pub blocks: u32,
     pub page: Page,
+    /// The image, if one is given.
+    pub on: Option<T>,
+    pub listing: T,
+}
+
+/// What is written of a listing on an image that is mounted through its compression, or on an empty
+/// one; with `compress`, in nodes that are compressed if that makes them shorter.
+#[derive(Clone, Copy)]
+pub struct CutsThrough<T> {
+    pub options: Options,
+    pub blocks: u32,
+    pub page: Page,
+    pub compress: bool,
     /// The image, if one is given.
     pub on: Option<T>,
     pub listing: T,
@@ -227,12 +237,16 @@ pub enum Command<T> {
     Map(Mapping<T>),
     /// `build`.
     Build(Building<T>),
+    /// `build --compress`: the same in nodes that are compressed if that makes them shorter.
+    BuildCompressed(Building<T>),
     /// `append`.
     Append(Appending<T>),
     /// `update`.
     Update(Updating<T>),
     /// `cuts`: what stands after a stop of writing.
     Cuts(Cuts<T>),
+    /// `cuts --decompress` and `cuts --compress`: the same through compression.
+    CutsThrough(CutsThrough<T>),
     /// `decompress`: an image of the same nodes, whose data are not compressed.
     Decompress(Conversion<T>),
     /// `decompress --clashes higher`: the same without those that one of a higher address clashes
@@ -242,12 +256,17 @@ pub enum Command<T> {
     Compress(Conversion<T>),
     /// `compact`.
     Compact(Compaction<T>),
+    /// `compact --clashes higher`: the same without the nodes that one of a higher address clashes
+    /// with.
+    CompactApart(Compaction<T>),
     /// `extract`.
     Extract(Extraction<T>),
     /// `listing`.
     Listing(FolderListing<T>),
     /// `pack`.
     Pack(Packing<T>),
+    /// `pack --compress`: the same in nodes that are compressed if that makes them shorter.
+    PackCompressed(Packing<T>),
 }
 
 impl<T> Command<T> {
@@ -264,451 +283,22 @@ impl<T> Command<T> {
             Command::Diff(asked) => asked.options.endian,
             Command::Damage(asked) => asked.options.endian,
             Command::Map(asked) => asked.options.endian,
-            Command::Build(asked) => asked.target.options.endian,
+            Command::Build(asked) | Command::BuildCompressed(asked) => {
+                asked.target.options.endian
+            }
             Command::Append(asked) => asked.target.options.endian,
             Command::Update(asked) => asked.options.endian,
             Command::Cuts(asked) => asked.options.endian,
+            Command::CutsThrough(asked) => asked.options.endian,
             Command::Decompress(asked) | Command::Apart(asked) | Command::Compress(asked) => {
                 asked.options.endian
             }
-            Command::Compact(asked) => asked.conversion.options.endian,
+            Command::Compact(asked) | Command::CompactApart(asked) => {
+                asked.conversion.options.endian
+            }
             Command::Extract(asked) => asked.options.endian,
-            Command::Pack(asked) => asked.options.endian,
+            Command::Pack(asked) | Command::PackCompressed(asked) => asked.options.endian,
             Command::Info { .. } | Command::Listing(_) => Endian::Little,
         }
-    }
-}
-
-/// A number below 2^32 in decimal digits.
-pub(crate) fn number(text: &str) -> Option<u32>
-    ensures { result ≡ decimal_number text.now }
-{
-    if text.is_empty() {
-        return None;
-    }
-    let mut n = 0u64;
-    for byte in text.as_bytes() {
-        if !byte.is_ascii_digit() {
-            return None;
-        }
-        let more = 10 * n + u64::from(*byte - b'0');
-        if more >= 0x1_0000_0000 {
-            return None;
-        }
-        n = more;
-    }
-    Some(n as u32)
-}
-
-/// A byte order by its name.
-pub(crate) fn endian(text: &str) -> Option<Endian>
-    ensures { result ≡ endian_of text.now }
-{
-    match text {
-        "little" => Some(Endian::Little),
-        "big" => Some(Endian::Big),
-        _ => None,
-    }
-}
-
-/// A page by its size in bytes.
-pub(crate) fn page(text: &str) -> Option<Page>
-    ensures { result ≡ page_of text.now }
-{
-    match text {
-        "4096" => Some(Page::P4096),
-        "8192" => Some(Page::P8192),
-        "16384" => Some(Page::P16384),
-        _ => None,
-    }
-}
-
-/// The number of a user or a group.
-pub(crate) fn owner_number(text: &str) -> Option<u16>
-    ensures { result ≡ owner_number text.now }
-{
-    let n = number(text)?;
-    if n > 65535 { None } else { Some(n as u16) }
-}
-
-/// The value of an option or a word.
-pub(crate) fn text_at<'a>(found: &ArgMatches<'a>, id: &str) -> Option<&'a str>
-    ensures { option_map (λ s. s.now) result ≡ first_of id.now (rows_of (found_of found.now)) }
-{
-    found.get_str(id)
-}
-
-fn number_at(found: &ArgMatches<'_>, id: &str) -> Option<u32>
-    ensures { result ≡ number_option id.now (rows_of (found_of found.now)) }
-{
-    number(text_at(found, id)?)
-}
-
-/// Whether a flag is given.
-fn is_given(found: &ArgMatches<'_>, id: &str) -> bool
-    ensures { result ≡ is_given id.now (rows_of (found_of found.now)) }
-{
-    match text_at(found, id) {
-        Some(text) => text == "true",
-        None => false,
-    }
-}
-
-/// The byte order of this name, or little.
-fn order_named(name: Option<&str>) -> Option<Endian>
-    ensures { result ≡ order_named (option_map (λ n. n.now) name.entry) }
-{
-    match name {
-        Some(text) => endian(text),
-        None => Some(Endian::Little),
-    }
-}
-
-/// The byte order by one of its options, of which two say nothing.
-pub(crate) fn order_at(found: &ArgMatches<'_>) -> Option<Endian>
-    ensures { result ≡ order_in (rows_of (found_of found.now)) }
-{
-    let named = text_at(found, "endian");
-    let little = is_given(found, "little-endian");
-    let big = is_given(found, "big-endian");
-    match (little, big) {
-        (false, false) => order_named(named),
-        (true, false) if named.is_none() => Some(Endian::Little),
-        (false, true) if named.is_none() => Some(Endian::Big),
-        _ => None,
-    }
-}
-
-fn options_at(found: &ArgMatches<'_>) -> Option<Options>
-    ensures { result ≡ options_in (rows_of (found_of found.now)) }
-{
-    let block = size(text_at(found, "block")?)?;
-    let endian = order_at(found)?;
-    Some(Options {
-        geometry: Geometry { block },
-        endian,
-    })
-}
-
-/// What is done about the file that is written.
-fn placing_at(found: &ArgMatches<'_>) -> Placing
-    ensures { result ≡ placing_in (rows_of (found_of found.now)) }
-{
-    Placing {
-        pad: is_given(found, "pad"),
-        atomic: is_given(found, "atomic"),
-    }
-}
-
-/// The options and the image that a subcommand reads.
-fn image_at<'a>(found: &ArgMatches<'a>) -> Option<Image<&'a str>>
-    ensures { option_map image_view result ≡ image_in (rows_of (found_of found.now)) }
-{
-    Some(Image {
-        options: options_at(found)?,
-        image: text_at(found, "IMAGE")?,
-    })
-}
-
-fn check_at<'a>(found: &ArgMatches<'a>) -> Option<Command<&'a str>>
-    ensures { option_map command_view result ≡ check_in (rows_of (found_of found.now)) }
-{
-    let asked = image_at(found)?;
-    if is_given(found, "scan") {
-        return Some(Command::Scan(asked));
-    }
-    let check = Check {
-        options: asked.options,
-        shape: is_given(found, "shape"),
-        image: asked.image,
-    };
-    Some(match is_given(found, "decompress") {
-        true => Command::CheckThrough(check),
-        false => Command::Check(check),
-    })
-}
-
-fn ls_at<'a>(found: &ArgMatches<'a>) -> Option<Command<&'a str>>
-    ensures { option_map command_view result ≡ ls_in (rows_of (found_of found.now)) }
-{
-    let Image { options, image } = image_at(found)?;
-    Some(Command::List(TreeListing {
-        options,
-        decompress: is_given(found, "decompress"),
-        image,
-        path: text_at(found, "PATH"),
-    }))
-}
-
-fn cat_at<'a>(found: &ArgMatches<'a>) -> Option<Command<&'a str>>
-    ensures { option_map command_view result ≡ cat_in (rows_of (found_of found.now)) }
-{
-    let Image { options, image } = image_at(found)?;
-    Some(Command::Cat(FileContent {
-        options,
-        decompress: is_given(found, "decompress"),
-        image,
-        path: text_at(found, "PATH")?,
-    }))
-}
-
-fn info_at<'a>(found: &ArgMatches<'a>) -> Option<Command<&'a str>>
-    ensures { option_map command_view result ≡ info_in (rows_of (found_of found.now)) }
-{
-    Some(Command::Info {
-        image: text_at(found, "IMAGE")?,
-    })
-}
-
-fn diff_at<'a>(found: &ArgMatches<'a>) -> Option<Command<&'a str>>
-    ensures { option_map command_view result ≡ diff_in (rows_of (found_of found.now)) }
-{
-    Some(Command::Diff(Comparison {
-        options: options_at(found)?,
-        decompress: is_given(found, "decompress"),
-        times: is_given(found, "times"),
-        first: text_at(found, "A")?,
-        second: text_at(found, "B")?,
-    }))
-}
-
-fn damage_at<'a>(found: &ArgMatches<'a>) -> Option<Command<&'a str>>
-    ensures { option_map command_view result ≡ damage_in (rows_of (found_of found.now)) }
-{
-    let Image { options, image } = image_at(found)?;
-    Some(Command::Damage(Examination {
-        options,
-        decompress: is_given(found, "decompress"),
-        image,
-    }))
-}
-
-fn map_at<'a>(found: &ArgMatches<'a>) -> Option<Command<&'a str>>
-    ensures { option_map command_view result ≡ map_in (rows_of (found_of found.now)) }
-{
-    let Image { options, image } = image_at(found)?;
-    Some(Command::Map(Mapping {
-        options,
-        svg: is_given(found, "svg"),
-        image,
-    }))
-}
-
-/// The image that a subcommand writes.
-fn target_at<'a>(found: &ArgMatches<'a>) -> Option<Target<&'a str>>
-    ensures { option_map target_view result ≡ target_in (rows_of (found_of found.now)) }
-{
-    Some(Target {
-        options: options_at(found)?,
-        blocks: number_at(found, "blocks")?,
-        page: page(text_at(found, "page")?)?,
-        weak: is_given(found, "weak"),
-        placing: placing_at(found),
-        output: text_at(found, "OUT")?,
-    })
-}
-
-fn build_at<'a>(found: &ArgMatches<'a>) -> Option<Command<&'a str>>
-    ensures { option_map command_view result ≡ build_in (rows_of (found_of found.now)) }
-{
-    Some(Command::Build(Building {
-        target: target_at(found)?,
-        listing: text_at(found, "LISTING")?,
-    }))
-}
-
-fn append_at<'a>(found: &ArgMatches<'a>) -> Option<Command<&'a str>>
-    ensures { option_map command_view result ≡ append_in (rows_of (found_of found.now)) }
-{
-    Some(Command::Append(Appending {
-        target: target_at(found)?,
-        decompress: is_given(found, "decompress"),
-        image: text_at(found, "IMAGE")?,
-        listing: text_at(found, "LISTING")?,
-    }))
-}
-
-fn update_at<'a>(found: &ArgMatches<'a>) -> Option<Command<&'a str>>
-    ensures { option_map command_view result ≡ update_in (rows_of (found_of found.now)) }
-{
-    Some(Command::Update(Updating {
-        options: options_at(found)?,
-        blocks: number_if_given(found, "blocks")?,
-        page: page(text_at(found, "page")?)?,
-        plain: is_given(found, "plain"),
-        tail: is_given(found, "tail"),
-        placing: placing_at(found),
-        image: text_at(found, "IMAGE")?,
-        listing: text_at(found, "LISTING")?,
-        output: text_at(found, "OUT")?,
-    }))
-}
-
-fn cuts_at<'a>(found: &ArgMatches<'a>) -> Option<Command<&'a str>>
-    ensures { option_map command_view result ≡ cuts_in (rows_of (found_of found.now)) }
-{
-    Some(Command::Cuts(Cuts {
-        options: options_at(found)?,
-        blocks: number_at(found, "blocks")?,
-        page: page(text_at(found, "page")?)?,
-        on: text_at(found, "on"),
-        listing: text_at(found, "LISTING")?,
-    }))
-}
-
-/// An image, and the one that is made of it.
-fn conversion_at<'a>(found: &ArgMatches<'a>) -> Option<Conversion<&'a str>>
-    ensures { option_map conversion_view result ≡ conversion_in (rows_of (found_of found.now)) }
-{
-    let Image { options, image } = image_at(found)?;
-    Some(Conversion {
-        options,
-        force: is_given(found, "force"),
-        placing: placing_at(found),
-        image,
-        output: text_at(found, "OUT")?,
-    })
-}
-
-/// Whether nodes that clash are left out, by the rule that is given.
-pub(crate) fn apart(rule: Option<&str>) -> Option<bool>
-    ensures { result ≡ is_apart (option_map (λ r. r.now) rule.entry) }
-{
-    match rule {
-        None => Some(false),
-        Some("higher") => Some(true),
-        Some(_) => None,
-    }
-}
-
-fn decompress_at<'a>(found: &ArgMatches<'a>) -> Option<Command<&'a str>>
-    ensures { option_map command_view result ≡ decompress_in (rows_of (found_of found.now)) }
-{
-    let asked = conversion_at(found)?;
-    match apart(text_at(found, "clashes"))? {
-        true => Some(Command::Apart(asked)),
-        false => Some(Command::Decompress(asked)),
-    }
-}
-
-fn compact_at<'a>(found: &ArgMatches<'a>) -> Option<Command<&'a str>>
-    ensures { option_map command_view result ≡ compact_in (rows_of (found_of found.now)) }
-{
-    Some(Command::Compact(Compaction {
-        conversion: conversion_at(found)?,
-        blocks: number_if_given(found, "blocks")?,
-    }))
-}
-
-fn extract_at<'a>(found: &ArgMatches<'a>) -> Option<Command<&'a str>>
-    ensures { option_map command_view result ≡ extract_in (rows_of (found_of found.now)) }
-{
-    let Image { options, image } = image_at(found)?;
-    Some(Command::Extract(Extraction {
-        options,
-        decompress: is_given(found, "decompress"),
-        owners: is_given(found, "owners"),
-        quiet: is_given(found, "quiet"),
-        image,
-        folder: text_at(found, "DIR")?,
-        path: text_at(found, "PATH"),
-    }))
-}
-
-/// The values of an option, if it is given.
-pub(crate) fn texts_at<'f, 'a>(found: &'f ArgMatches<'a>, id: &str) -> Option<&'f [&'a str]>
-    ensures { option_map (λ s. map (λ v. v.now) s.now) result
-        ≡ all_of id.now (rows_of (found_of found.now)) }
-{
-    found.get_strs(id)
-}
-
-/// An owner by its two numbers.
-fn owner_from(numbers: &[&str]) -> Option<Owner>
-    ensures { result ≡ owner_of (map (λ n. n.now) numbers.now) }
-{
-    match numbers {
-        [uid, gid] => Some(Owner {
-            uid: owner_number(uid)?,
-            gid: owner_number(gid)?,
-        }),
-        _ => None,
-    }
-}
-
-/// The owner, where one is given.
-fn owner_at(found: &ArgMatches<'_>) -> Option<Option<Owner>>
-    ensures { result ≡ if_given (all_of (codes "owner") (rows_of (found_of found.now))) owner_of }
-{
-    match texts_at(found, "owner") {
-        None => Some(None),
-        Some(numbers) => Some(Some(owner_from(numbers)?)),
-    }
-}
-
-/// The number that an option has, where it is given.
-fn number_if_given(found: &ArgMatches<'_>, id: &str) -> Option<Option<u32>>
-    ensures { result ≡ if_given (first_of id.now (rows_of (found_of found.now))) decimal_number }
-{
-    match text_at(found, id) {
-        None => Some(None),
-        Some(text) => Some(Some(number(text)?)),
-    }
-}
-
-/// A folder, and the owner and the time of all that it holds, where they are given.
-fn folder_at<'a>(found: &ArgMatches<'a>) -> Option<FolderListing<&'a str>>
-    ensures { option_map folder_view result ≡ folder_in (rows_of (found_of found.now)) }
-{
-    Some(FolderListing {
-        owner: owner_at(found)?,
-        time: number_if_given(found, "time")?,
-        quiet: is_given(found, "quiet"),
-        folder: text_at(found, "DIR")?,
-    })
-}
-
-fn pack_at<'a>(found: &ArgMatches<'a>) -> Option<Command<&'a str>>
-    ensures { option_map command_view result ≡ pack_in (rows_of (found_of found.now)) }
-{
-    let folder = folder_at(found)?;
-    Some(Command::Pack(Packing {
-        options: options_at(found)?,
-        blocks: number_if_given(found, "blocks")?,
-        page: page(text_at(found, "page")?)?,
-        weak: is_given(found, "weak"),
-        placing: placing_at(found),
-        owner: folder.owner,
-        time: folder.time,
-        quiet: folder.quiet,
-        folder: folder.folder,
-        output: text_at(found, "OUT")?,
-    }))
-}
-
-/// What the subcommand asks for, or nothing where a value can't be read.
-#[tactic(auto, unfolding(crate::specs::Parsed::parsed))]
-pub(crate) fn parsed_of<'a>(name: &str, found: &ArgMatches<'a>) -> Option<Command<&'a str>>
-    ensures { option_map command_view result ≡ parsed name.now (rows_of (found_of found.now)) }
-{
-    match name {
-        "check" => check_at(found),
-        "ls" => ls_at(found),
-        "cat" => cat_at(found),
-        "build" => build_at(found),
-        "append" => append_at(found),
-        "update" => update_at(found),
-        "decompress" => decompress_at(found),
-        "extract" => extract_at(found),
-        "listing" => Some(Command::Listing(folder_at(found)?)),
-        "info" => info_at(found),
-        "cuts" => cuts_at(found),
-        "compress" => Some(Command::Compress(conversion_at(found)?)),
-        "compact" => compact_at(found),
-        "diff" => diff_at(found),
-        "damage" => damage_at(found),
-        "map" => map_at(found),
-        "pack" => pack_at(found),
-        _ => None,
     }
 }

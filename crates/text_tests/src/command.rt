@@ -3,6 +3,7 @@
 
 mod command_lines;
 mod decompressing;
+mod finding;
 mod folders;
 mod growth;
 mod packing;

@@ -5,9 +5,9 @@ use crate::checks::{equal, equal_at, expect, expect_at};
 use crate::command::packing::shown_packing;
 use crate::command::updating::{shown_mapping, shown_updating};
 use jcommand::{
-    Appending, Building, Check, Command, Compaction, Comparison, Conversion, Cuts, Examination,
-    Extraction, FileContent, FolderListing, Image, Options, Outcome, Owner, Placing, RequestFault,
-    Target, TreeListing, asked, status,
+    Appending, Building, Check, Command, Compaction, Comparison, Conversion, Cuts, CutsThrough,
+    Examination, Extraction, FileContent, FolderListing, Image, Options, Outcome, Owner, Placing,
+    Request, RequestFault, Target, TreeListing, asked, status,
 };
 use jnode::Endian;
 use std::alloc::{AllocError, Global};
@@ -65,8 +65,8 @@ fn shown_target(
     format!(in alloc; "{flash} {between} {output}{mark}{placing}")
 }
 
-fn shown_building(alloc: Global, asked: Building<&str>) -> Result<String, AllocError> {
-    shown_target(alloc, "build", asked.target, asked.listing, false)
+fn shown_building(alloc: Global, name: &str, asked: Building<&str>) -> Result<String, AllocError> {
+    shown_target(alloc, name, asked.target, asked.listing, false)
 }
 
 fn shown_appending(alloc: Global, asked: Appending<&str>) -> Result<String, AllocError> {
@@ -150,6 +150,23 @@ fn shown_cuts(alloc: Global, asked: Cuts<&str>) -> Result<String, AllocError> {
     format!(in alloc; "cuts {block} {is_big} {blocks} {page} {on} {listing}")
 }
 
+/// And through compression.
+fn shown_cuts_through(alloc: Global, asked: CutsThrough<&str>) -> Result<String, AllocError> {
+    let CutsThrough {
+        options,
+        blocks,
+        page,
+        compress,
+        on,
+        listing,
+    } = asked;
+    let command = shown_options(alloc, "through cuts", options)?;
+    let page = page.size();
+    let on = on.unwrap_or("-");
+    let compressed = if compress { " compressed" } else { "" };
+    format!(in alloc; "{command} {blocks} {page} {on} {listing}{compressed}")
+}
+
 fn shown_comparison(alloc: Global, asked: Comparison<&str>) -> Result<String, AllocError> {
     let Comparison {
         options,
@@ -210,8 +227,12 @@ fn shown_copy(alloc: Global, name: &str, asked: Conversion<&str>) -> Result<Stri
 }
 
 /// The same with the number of blocks; `-` where it is not given.
-fn shown_compaction(alloc: Global, asked: Compaction<&str>) -> Result<String, AllocError> {
-    let copy = shown_copy(alloc, "compact", asked.conversion)?;
+fn shown_compaction(
+    alloc: Global,
+    name: &str,
+    asked: Compaction<&str>,
+) -> Result<String, AllocError> {
+    let copy = shown_copy(alloc, name, asked.conversion)?;
     match asked.blocks {
         Some(blocks) => format!(in alloc; "{copy} {blocks}"),
         None => format!(in alloc; "{copy} -"),
@@ -220,7 +241,7 @@ fn shown_compaction(alloc: Global, asked: Compaction<&str>) -> Result<String, Al
 
 /// A command as its name, the size of a block, the byte order, its other values in the order of the
 /// command's help, and its marks.
-fn shown(alloc: Global, command: Command<&str>) -> Result<String, AllocError> {
+pub(crate) fn shown(alloc: Global, command: Command<&str>) -> Result<String, AllocError> {
     match command {
         Command::Scan(asked) => shown_scan(alloc, asked),
         Command::Check(asked) => shown_check(alloc, asked, false),
@@ -231,24 +252,38 @@ fn shown(alloc: Global, command: Command<&str>) -> Result<String, AllocError> {
         Command::Diff(asked) => shown_comparison(alloc, asked),
         Command::Damage(asked) => shown_examination(alloc, asked),
         Command::Map(asked) => shown_mapping(alloc, asked),
-        Command::Build(asked) => shown_building(alloc, asked),
+        Command::Build(asked) => shown_building(alloc, "build", asked),
+        Command::BuildCompressed(asked) => shown_building(alloc, "compressed build", asked),
         Command::Append(asked) => shown_appending(alloc, asked),
         Command::Update(asked) => shown_updating(alloc, asked),
         Command::Cuts(asked) => shown_cuts(alloc, asked),
+        Command::CutsThrough(asked) => shown_cuts_through(alloc, asked),
         Command::Decompress(asked) => shown_copy(alloc, "decompress", asked),
         Command::Apart(asked) => shown_copy(alloc, "apart", asked),
         Command::Compress(asked) => shown_copy(alloc, "compress", asked),
-        Command::Compact(asked) => shown_compaction(alloc, asked),
+        Command::Compact(asked) => shown_compaction(alloc, "compact", asked),
+        Command::CompactApart(asked) => shown_compaction(alloc, "compact apart", asked),
         Command::Extract(asked) => shown_extraction(alloc, asked),
         Command::Listing(asked) => shown_listing(alloc, asked),
-        Command::Pack(asked) => shown_packing(alloc, asked),
+        Command::Pack(asked) => shown_packing(alloc, "pack", asked),
+        Command::PackCompressed(asked) => shown_packing(alloc, "compressed pack", asked),
+    }
+}
+
+/// A command, and whether its options are found.
+fn shown_request(alloc: Global, request: Request<&str>) -> Result<String, AllocError> {
+    let command = shown(alloc, request.command)?;
+    if request.auto {
+        format!(in alloc; "auto {command}")
+    } else {
+        Ok(command)
     }
 }
 
 /// What the words ask for, or `help` or `wrong` and the text that answers them.
 fn answer(alloc: Global, args: &[&str]) -> Result<String, AllocError> {
     match asked(alloc, args) {
-        Ok(command) => shown(alloc, command),
+        Ok(request) => shown_request(alloc, request),
         Err(RequestFault::Help { text }) => format!(in alloc; "help {text}"),
         Err(RequestFault::Usage { text }) => format!(in alloc; "wrong {text}"),
         Err(RequestFault::OutOfMemory) => String::from_str(alloc, "no memory"),

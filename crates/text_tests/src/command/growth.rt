@@ -5,7 +5,31 @@ use jcommand::{Command, RequestFault, asked};
 use std::alloc::Global;
 
 /// Words, and what they ask for.
-const LINES: [(&[&str], &str); 22] = [
+const LINES: [(&[&str], &str); 26] = [
+    (
+        &["t", "build", "--compress", "a.txt", "b.img", "--blocks=8"],
+        "compressed build",
+    ),
+    (
+        &[
+            "t",
+            "cuts",
+            "--blocks=8",
+            "--compress",
+            "--on",
+            "a.img",
+            "b",
+        ],
+        "cuts through",
+    ),
+    (
+        &["t", "compact", "--clashes=higher", "a.img", "b.img"],
+        "compact apart",
+    ),
+    (
+        &["t", "pack", "--compress", "a", "b.img"],
+        "compressed pack",
+    ),
     (&["t", "check", "--scan", "--block=4096", "a.img"], "scan"),
     (&["t", "check", "--endian", "big", "a.img"], "check"),
     (&["t", "check", "--decompress", "a.img"], "through"),
@@ -64,23 +88,27 @@ fn name_of(command: &Command<&str>) -> &'static str {
         Command::Damage(_) => "damage",
         Command::Map(_) => "map",
         Command::Build(_) => "build",
+        Command::BuildCompressed(_) => "compressed build",
         Command::Append(_) => "append",
         Command::Update(_) => "update",
         Command::Cuts(_) => "cuts",
+        Command::CutsThrough(_) => "cuts through",
         Command::Decompress(_) => "decompress",
         Command::Apart(_) => "apart",
         Command::Compress(_) => "compress",
         Command::Compact(_) => "compact",
+        Command::CompactApart(_) => "compact apart",
         Command::Extract(_) => "extract",
         Command::Listing(_) => "listing",
         Command::Pack(_) => "pack",
+        Command::PackCompressed(_) => "compressed pack",
     }
 }
 
 /// What the words ask for.
 fn asked_name(alloc: Global, words: &[&str]) -> &'static str {
     match asked(alloc, words) {
-        Ok(command) => name_of(&command),
+        Ok(request) => name_of(&request.command),
         Err(RequestFault::Help { .. }) => "help",
         Err(RequestFault::Usage { .. }) => "wrong",
         Err(RequestFault::OutOfMemory) => "no memory",

@@ -9,7 +9,11 @@ use std::test::Fail;
 
 /// What is to be packed, as the values in the order of the command's help; `-` for one that may be
 /// left out and is.
-pub(crate) fn shown_packing(alloc: Global, asked: Packing<&str>) -> Result<String, AllocError> {
+pub(crate) fn shown_packing(
+    alloc: Global,
+    name: &str,
+    asked: Packing<&str>,
+) -> Result<String, AllocError> {
     let Options { geometry, endian } = asked.options;
     let block = geometry.block;
     let order = order_name(endian);
@@ -32,11 +36,19 @@ pub(crate) fn shown_packing(alloc: Global, asked: Packing<&str>) -> Result<Strin
     let output = asked.output;
     let flash = format!(in alloc; "{block} {order} {blocks} {page}")?;
     let placing = placing_mark(asked.placing);
-    format!(in alloc; "pack {flash} {owner} {time} {folder} {output}{weak}{quiet}{placing}")
+    format!(in alloc; "{name} {flash} {owner} {time} {folder} {output}{weak}{quiet}{placing}")
 }
 
 /// Lines that ask for an image of a folder, and what they ask for.
-const PACKED: [(&str, &str); 8] = [
+const PACKED: [(&str, &str); 10] = [
+    (
+        "t pack --compress a b.img",
+        "compressed pack 65536 little - 4096 - - - a b.img",
+    ),
+    (
+        "t pack --blocks=8 --pad a --owner 0 7 --compress b.img --time 9 --atomic",
+        "compressed pack 65536 little 8 4096 0 7 9 a b.img padded atomic",
+    ),
     ("t pack a b.img", "pack 65536 little - 4096 - - - a b.img"),
     (
         "t pack a --blocks 8 b.img --time 0",
@@ -83,7 +95,31 @@ fn args_that_pack(rt: HostRuntime) -> Result<(), Fail> {
 }
 
 /// Lines of other commands that say what is done about the file that is written.
-const PLACED: [(&str, &str); 11] = [
+const PLACED: [(&str, &str); 17] = [
+    (
+        "t build --blocks 8 --compress a.txt b.img",
+        "compressed build 65536 little 8 4096 a.txt b.img",
+    ),
+    (
+        "t build --pad --page=8192 --compress --endian=big --blocks 8 --atomic a.txt b.img",
+        "compressed build 65536 big 8 8192 a.txt b.img padded atomic",
+    ),
+    (
+        "t cuts --compress --blocks 8 a.txt",
+        "through cuts 65536 little 8 4096 - a.txt compressed",
+    ),
+    (
+        "t cuts --decompress --blocks 8 --on a.img --page 16384 b.txt --endian big",
+        "through cuts 65536 big 8 16384 a.img b.txt",
+    ),
+    (
+        "t cuts --on a.img --decompress --blocks 8 --compress --block 8192 b.txt",
+        "through cuts 8192 little 8 4096 a.img b.txt compressed",
+    ),
+    (
+        "t compact --clashes higher --blocks 8 a.img b.img --force",
+        "compact apart 65536 little a.img b.img forced 8",
+    ),
     (
         "t build --blocks 8 --pad a.txt b.img",
         "build 65536 little 8 4096 a.txt b.img padded",
@@ -144,7 +180,14 @@ fn args_that_place(rt: HostRuntime) -> Result<(), Fail> {
 }
 
 /// Lines that ask for nothing, and a part of the text that says why.
-const WRONG: [(&str, &str); 26] = [
+const WRONG: [(&str, &str); 29] = [
+    ("t build --weak --compress --blocks 8 a.txt b.img", "--weak"),
+    ("t pack --compress a --weak b.img", "--weak"),
+    ("t compact --clashes lower a.img b.img", "higher"),
+    (
+        "t compact --clashes higher --blocks x a.img b.img",
+        "--blocks <N>",
+    ),
     ("t pack", "<DIR>"),
     ("t pack a", "<OUT>"),
     ("t pack a b c", "'c'"),
@@ -182,7 +225,6 @@ const WRONG: [(&str, &str); 26] = [
     ("t compact a.img", "<OUT>"),
     ("t compact --weak a.img b.img", "--weak"),
     ("t compact --page 4096 a.img b.img", "--page"),
-    ("t compact --clashes higher a.img b.img", "--clashes"),
     ("t compact --blocks=x a.img b.img", "'x' for '--blocks <N>'"),
     ("t extract --atomic a.img b", "--atomic"),
     ("t cuts --atomic --blocks 8 a", "--atomic"),
@@ -218,12 +260,9 @@ const HELP: [(&str, &str); 9] = [
     ),
     ("t decompress --help", "--atomic"),
     ("t compress --help", "--atomic"),
-    ("t --help", "jffs2_image pack tree flash.img"),
+    ("t --help", "jffs2_image pack --compress tree flash.img"),
     ("t --help", "damage a loss"),
-    (
-        "t --help",
-        "extract, listing, pack or decompress --clashes left",
-    ),
+    ("t --help", "extract, listing, pack or --clashes left"),
 ];
 
 fn help() -> &'static [(&'static str, &'static str)] {

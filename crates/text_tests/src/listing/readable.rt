@@ -62,6 +62,10 @@ fn listings() -> &'static [(&'static [u8], &'static str)] {
             b"time 7\nowner 1 65535\nfile 0622 /\\x61\\x20 host\\x20a\\x5c\\xc3\xa4\nfile 0 /b -\n",
             "3: 7 file 622 1 65535 /a\\x20 host a\\\u{e4}\n4: 7 file 0 1 65535 /b -\n",
         ),
+        (
+            b"time 7\nowner 1 65535\nput 0622 /\\x61\\x20 host\\x20a\nremove-if /\\x62\nput 0 /c -\n",
+            "3: 7 put 622 1 65535 /a\\x20 host a\n4: 7 remove-if /b\n5: 7 put 0 1 65535 /c -\n",
+        ),
     ]
 }
 
@@ -208,6 +212,11 @@ fn files() -> &'static [(&'static [u8], &'static str, &'static str)] {
             b"time 3\nowner 5 6\nfile 600 /b \\x67",
             "g: 3 file 600 5 6 /b xyz",
             "g: 3 file 600 5 6 /b xyz",
+        ),
+        (
+            b"time 3\nowner 5 6\nput 600 /b \\x67",
+            "g: 3 put 600 5 6 /b xyz",
+            "g: 3 put 600 5 6 /b xyz",
         ),
         (
             b"owner 5 6\ndevice b 640 259 65537 /c",

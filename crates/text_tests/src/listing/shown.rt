@@ -238,6 +238,18 @@ pub fn show_line(out: &mut String, line: &Line<'_>) -> Result<(), AllocError> {
             show_object(out, "file", (*time, *mode, *uid, *gid), path)?;
             write!(out, " {name}")?;
         }
+        Action::Put {
+            time,
+            path,
+            mode,
+            uid,
+            gid,
+            file,
+        } => {
+            let name = file.as_str();
+            show_object(out, "put", (*time, *mode, *uid, *gid), path)?;
+            write!(out, " {name}")?;
+        }
         Action::Part {
             time,
             path,

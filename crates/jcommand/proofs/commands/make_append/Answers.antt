@@ -2,7 +2,8 @@ use Rattle.jcommand.proofs.commands.make_append.Goals as goal
 
 pub returns : goal.returns
 returns c =
-    let placed = c.add_placing.ensures _ c.make_noting-command.ensures in
+    let found = c.add_auto.ensures _ c.make_noting-command.ensures in
+    let placed = c.add_placing-command.ensures _ found in
     let first = c.add_arg-command.ensures _ _ placed c.make_flag-decompress.ensures in
     let second = c.add_arg.ensures _ _ first c.make_word-image.ensures in
     let third = c.add_arg-2.ensures _ _ second c.make_word-listing.ensures in

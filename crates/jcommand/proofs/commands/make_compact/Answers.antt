@@ -2,8 +2,9 @@ use Rattle.jcommand.proofs.commands.make_compact.Goals as goal
 
 pub returns : goal.returns
 returns c =
-    let first = c.add_arg.ensures _ _ c.make_plain-command.ensures c.make_optional-blocks.ensures in
-    let placed = c.add_placing-command.ensures _ first in
-    let second = c.add_arg-2.ensures _ _ placed c.make_flag-force.ensures in
-    let third = c.add_arg-3.ensures _ _ second c.make_word-image.ensures in
-    c.add_arg-4.ensures _ _ third c.make_word-output.ensures
+    let first = c.add_arg.ensures _ _ c.make_reader-command.ensures c.make_optional-blocks.ensures in
+    let second = c.add_arg-2.ensures _ _ first c.make_optional-clashes.ensures in
+    let placed = c.add_placing-command.ensures _ second in
+    let third = c.add_arg-3.ensures _ _ placed c.make_flag-force.ensures in
+    let fourth = c.add_arg-4.ensures _ _ third c.make_word-image.ensures in
+    c.add_arg-5.ensures _ _ fourth c.make_word-output.ensures

@@ -135,3 +135,11 @@ returns-clause-order_and_letter c = refl
 pub returns-clause-two_sizes : goal.returns-clause-two_sizes
 unfolding clap_on_literals program parsed parsed_from
 returns-clause-two_sizes c = refl
+
+pub returns-clause-compacted_lower : goal.returns-clause-compacted_lower
+unfolding clap_on_literals program parsed parsed_from
+returns-clause-compacted_lower c = refl
+
+pub returns-clause-weak_of_compressed : goal.returns-clause-weak_of_compressed
+unfolding clap_on_literals program parsed parsed_from
+returns-clause-weak_of_compressed c = refl

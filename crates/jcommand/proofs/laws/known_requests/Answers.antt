@@ -159,3 +159,23 @@ returns-clause-by_letters c = refl
 pub returns-clause-by_long_names : goal.returns-clause-by_long_names
 unfolding clap_on_literals program parsed parsed_from
 returns-clause-by_long_names c = refl
+
+pub returns-clause-made_compressed : goal.returns-clause-made_compressed
+unfolding clap_on_literals program parsed parsed_from
+returns-clause-made_compressed c = refl
+
+pub returns-clause-cut_through : goal.returns-clause-cut_through
+unfolding clap_on_literals program parsed parsed_from
+returns-clause-cut_through c = refl
+
+pub returns-clause-cut_compressed : goal.returns-clause-cut_compressed
+unfolding clap_on_literals program parsed parsed_from
+returns-clause-cut_compressed c = refl
+
+pub returns-clause-compacted_apart : goal.returns-clause-compacted_apart
+unfolding clap_on_literals program parsed parsed_from
+returns-clause-compacted_apart c = refl
+
+pub returns-clause-packed_compressed : goal.returns-clause-packed_compressed
+unfolding clap_on_literals program parsed parsed_from
+returns-clause-packed_compressed c = refl

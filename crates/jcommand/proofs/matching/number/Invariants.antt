@@ -1,6 +1,6 @@
 use Rattle.std.proofs.Common.{◌≡◌, ◌<◌, ◌^◌, drop}
 use Rattle.jcommand.specs.Parsed.{decimal_from}
-use Rattle.jcommand.proofs.parsed.number.Given as goal
+use Rattle.jcommand.proofs.matching.number.Given as goal
 
 abbrev pub invariant-loop-byte : goal.invariant-loop-byte
 invariant-loop-byte l = record {

@@ -1,0 +1,176 @@
+//! A command, and the options that are found in the image that it reads.
+ghost use Rattle.std.specs.Prelude.{◌≡◌, true, false, option_map};
+ghost use Rattle.jcommand.specs.Parsed.{command_view};
+ghost use Rattle.jcommand.specs.Requests.{image_read, with_options, writes_image};
+
+use crate::parsed::{
+    Appending, Check, Command, Compaction, Comparison, Conversion, Cuts, CutsThrough, Examination,
+    Extraction, FileContent, Image, Mapping, Options, Target, TreeListing, Updating,
+};
+
+/// What a command line asks for. Files, folders and paths are named by texts `T`.
+#[derive(Clone, Copy)]
+pub struct Request<T> {
+    /// The options of the command are those that its image shows, and its data are decompressed.
+    pub auto: bool,
+    pub command: Command<T>,
+}
+
+/// `append` with these options, which decompresses the image.
+fn extended<'a>(asked: Appending<&'a str>, options: Options) -> Appending<&'a str>
+    ensures target { result.target ≡ record asked.entry.target { options = options } }
+    ensures decompress { result.decompress ≡ true }
+    ensures image { result.image ≡ asked.entry.image }
+    ensures listing { result.listing ≡ asked.entry.listing }
+{
+    Appending {
+        target: Target {
+            options,
+            ..asked.target
+        },
+        decompress: true,
+        ..asked
+    }
+}
+
+/// `cuts` with these options, through the compression of the image.
+fn through<'a>(asked: Cuts<&'a str>, options: Options) -> CutsThrough<&'a str>
+    ensures { result ≡ record {
+      options = options;
+      blocks = asked.entry.blocks;
+      page = asked.entry.page;
+      compress = false;
+      on = asked.entry.on;
+      listing = asked.entry.listing;
+    } }
+{
+    CutsThrough {
+        options,
+        blocks: asked.blocks,
+        page: asked.page,
+        compress: false,
+        on: asked.on,
+        listing: asked.listing,
+    }
+}
+
+/// `compact` with these options.
+fn compacted<'a>(asked: Compaction<&'a str>, options: Options) -> Compaction<&'a str>
+    ensures { result ≡ record {
+      conversion = record asked.entry.conversion { options = options };
+      blocks = asked.entry.blocks;
+    } }
+{
+    Compaction {
+        conversion: Conversion {
+            options,
+            ..asked.conversion
+        },
+        blocks: asked.blocks,
+    }
+}
+
+impl<'a> Command<&'a str> {
+    /// The image that options are found in: the one that is read, and of two the first.
+    pub fn image(&self) -> Option<&'a str>
+        ensures { option_map (λ n. n.now) result ≡ image_read (command_view self.now) }
+    {
+        match self {
+            Command::Scan(asked) => Some(asked.image),
+            Command::Check(asked) | Command::CheckThrough(asked) => Some(asked.image),
+            Command::List(asked) => Some(asked.image),
+            Command::Cat(asked) => Some(asked.image),
+            Command::Diff(asked) => Some(asked.first),
+            Command::Damage(asked) => Some(asked.image),
+            Command::Map(asked) => Some(asked.image),
+            Command::Append(asked) => Some(asked.image),
+            Command::Update(asked) => Some(asked.image),
+            Command::Cuts(asked) => asked.on,
+            Command::CutsThrough(asked) => asked.on,
+            Command::Decompress(asked) | Command::Apart(asked) | Command::Compress(asked) => {
+                Some(asked.image)
+            }
+            Command::Compact(asked) | Command::CompactApart(asked) => Some(asked.conversion.image),
+            Command::Extract(asked) => Some(asked.image),
+            Command::Info { .. }
+            | Command::Build(_)
+            | Command::BuildCompressed(_)
+            | Command::Listing(_)
+            | Command::Pack(_)
+            | Command::PackCompressed(_) => None,
+        }
+    }
+
+    /// Whether it writes an image.
+    pub fn writes_image(&self) -> bool
+        ensures { result ≡ writes_image (command_view self.now) }
+    {
+        match self {
+            Command::Build(_)
+            | Command::BuildCompressed(_)
+            | Command::Append(_)
+            | Command::Update(_)
+            | Command::Decompress(_)
+            | Command::Apart(_)
+            | Command::Compress(_)
+            | Command::Compact(_)
+            | Command::CompactApart(_)
+            | Command::Pack(_)
+            | Command::PackCompressed(_) => true,
+            _ => false,
+        }
+    }
+
+    /// The same with these options and with `--decompress`, where it reads an image.
+    pub fn with_options(self, options: Options) -> Command<&'a str>
+        ensures { command_view result ≡ with_options options (command_view self.entry) }
+    {
+        let decompress = true;
+        match self {
+            Command::Scan(it) => Command::Scan(Image { options, ..it }),
+            Command::Check(it) => Command::CheckThrough(Check { options, ..it }),
+            Command::CheckThrough(it) => Command::CheckThrough(Check { options, ..it }),
+            Command::List(it) => Command::List(TreeListing {
+                options,
+                decompress,
+                ..it
+            }),
+            Command::Cat(it) => Command::Cat(FileContent {
+                options,
+                decompress,
+                ..it
+            }),
+            Command::Diff(it) => Command::Diff(Comparison {
+                options,
+                decompress,
+                ..it
+            }),
+            Command::Damage(it) => Command::Damage(Examination {
+                options,
+                decompress,
+                ..it
+            }),
+            Command::Map(it) => Command::Map(Mapping { options, ..it }),
+            Command::Append(it) => Command::Append(extended(it, options)),
+            Command::Update(it) => Command::Update(Updating { options, ..it }),
+            Command::Cuts(it) => Command::CutsThrough(through(it, options)),
+            Command::CutsThrough(it) => Command::CutsThrough(CutsThrough { options, ..it }),
+            Command::Decompress(it) => Command::Decompress(Conversion { options, ..it }),
+            Command::Apart(it) => Command::Apart(Conversion { options, ..it }),
+            Command::Compress(it) => Command::Compress(Conversion { options, ..it }),
+            Command::Compact(it) => Command::Compact(compacted(it, options)),
+            Command::CompactApart(it) => Command::CompactApart(compacted(it, options)),
+            Command::Extract(it) => Command::Extract(Extraction {
+                options,
+                decompress,
+                ..it
+            }),
+            Command::Info { image } => Command::Info { image },
+            Command::Build(it) => Command::Build(it),
+            Command::BuildCompressed(it) => Command::BuildCompressed(it),
+            Command::Listing(it) => Command::Listing(it),
+            Command::Pack(it) => Command::Pack(it),
+            Command::PackCompressed(it) => Command::PackCompressed(it),
+        }
+    }
+}
