@@ -57,11 +57,11 @@ fresh_point e flash size blocks base image at x size_is blocks_is base_is is =
 
 -- ---- one more operation
 
-abbrev is_weak_one : Standing → Bool
+abbrev pub is_weak_one : Standing → Bool
 is_weak_one standing = is_some standing.weak
 
 -- no more are weak than there are
-weak_most : (list : List Standing) → weak_count list ≤ length list
+pub weak_most : (list : List Standing) → weak_count list ≤ length list
 weak_most [] = omega arith
 weak_most (standing ∷ list) = elim (cases_Bool (is_some standing.weak)) [
   | inl weak ↦

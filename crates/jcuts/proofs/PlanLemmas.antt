@@ -52,7 +52,7 @@ nodes_written page e x (s ∷ steps) can = (
 )
 
 -- those that fit end within the flash
-ends_below : (limit bound : ℕ) (ps : List (ℕ × ℕ)) → bound < limit → IsTrue (list_all (λ place. nat_le (place.0 + place.1) bound) ps) → EndsBelow limit ps
+pub ends_below : (limit bound : ℕ) (ps : List (ℕ × ℕ)) → bound < limit → IsTrue (list_all (λ place. nat_le (place.0 + place.1) bound) ps) → EndsBelow limit ps
 ends_below limit bound [] small fits = tt
 ends_below limit bound (place ∷ ps) small fits =
     let both = and_parts (nat_le (place.0 + place.1) bound) (list_all (λ (place : ℕ × ℕ). nat_le (place.0 + place.1) bound) ps) fits in
@@ -60,7 +60,7 @@ ends_below limit bound (place ∷ ps) small fits =
     (omega arith, ends_below limit bound ps small both.1)
 
 -- each node takes a byte at least
-nodes_most : (size from : ℕ) (nodes : List (List ℕ)) → size % 4 ≡ 0 → AllByRecursion (FitsBlock size) nodes → from + length nodes ≤ end_of_all size from nodes
+pub nodes_most : (size from : ℕ) (nodes : List (List ℕ)) → size % 4 ≡ 0 → AllByRecursion (FitsBlock size) nodes → from + length nodes ≤ end_of_all size from nodes
 nodes_most size from [] words ok = omega arith
 nodes_most size from (node ∷ nodes) words ok =
     let len : ℕ = length node in

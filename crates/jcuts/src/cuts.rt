@@ -18,9 +18,9 @@ use std::alloc::{AllocError, Global};
 
 /// How many nodes are told, and how many of them are weak.
 #[derive(Clone, Copy, Debug, PartialEq, Eq)]
-pub(crate) struct Counts {
-    pub(crate) nodes: usize,
-    pub(crate) weak: usize,
+pub struct Counts {
+    pub nodes: usize,
+    pub weak: usize,
 }
 
 /// Why not all is told.
@@ -39,7 +39,7 @@ pub enum CutsFault {
 }
 
 /// How many of these nodes are weak.
-fn count_weak(nodes: &[Standing]) -> usize
+pub fn count_weak(nodes: &[Standing]) -> usize
     ensures { result ≡ weak_count nodes.now }
 {
     nodes

@@ -7,6 +7,9 @@
 //! that stand from the address of a stop, or from one below it, is the number that the stop leaves
 //! whole; and a node has a line on a weak cut exactly where it has one.
 //!
+//! What tells the lines of other sessions uses `standings_in`, `count_weak`, `put_nodes`, `put_end`
+//! and `without_sink`.
+//!
 //! `specs/Standing.antt` says from where on a node stands, `specs/Planning.antt` what planning an
 //! operation promises, `specs/Lines.antt` what the lines are, and `specs/Telling.antt` what is told
 //! of the first operations on a base. `laws` has what follows, and `examples` has worked nodes.
@@ -21,7 +24,8 @@ mod planning;
 mod standing;
 pub mod through_laws;
 
-pub use crate::cuts::{CutsFault, put_cuts};
+pub use crate::cuts::{Counts, CutsFault, count_weak, put_cuts};
 pub use crate::held::Held;
-pub use crate::lines::{StepNode, Telling};
-pub use crate::standing::Standing;
+pub use crate::lines::{StepNode, Telling, put_end, put_nodes};
+pub use crate::planning::without_sink;
+pub use crate::standing::{Standing, standings_in};

@@ -81,7 +81,7 @@ fn write_told(text: &mut LineBuffer, telling: Telling, node: &StepNode)
 }
 
 /// Puts what is told of the nodes of one operation, whose line has this number.
-pub(crate) fn put_nodes<T: Sink>(
+pub fn put_nodes<T: Sink>(
     sink: &mut T,
     telling: Telling,
     line: usize,
@@ -125,7 +125,7 @@ fn write_end(text: &mut LineBuffer, ops: usize, nodes: usize, from: u32, end: u3
 }
 
 /// Puts the last line, where nodes are told.
-pub(crate) fn put_end<T: Sink>(
+pub fn put_end<T: Sink>(
     sink: &mut T,
     telling: Telling,
     ops: usize,

@@ -17,7 +17,7 @@ use std::alloc::Global;
 pub(crate) type Plan<'a, E> = Session<'a, E, Held>;
 
 /// A fault of a log whose sink keeps what it takes: where that fails, memory is wanting.
-fn without_sink(fault: SessionFault) -> SessionFault
+pub fn without_sink(fault: SessionFault) -> SessionFault
     ensures { result ≡ without_sink fault }
 {
     match fault {

@@ -50,7 +50,7 @@ fn standing_in<E: Order>(out: &[u8], from: u32, place: Place) -> Standing
 }
 
 /// The nodes at places of bytes that go out from an address on.
-pub(crate) fn standings_in<E: Order>(
+pub fn standings_in<E: Order>(
     alloc: Global,
     out: &[u8],
     from: u32,

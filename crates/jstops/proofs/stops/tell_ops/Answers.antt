@@ -1,0 +1,124 @@
+use Rattle.std.proofs.Common.{rules, ◌≡◌, ◌∙◌, ◌+◌, ◌<◌, ◌≤◌, ℕ, suc, List, [], ◌++◌, Ok, Err, length, get_or, refl, subst, arith}
+use Rattle.jcuts.specs.Cuts.{Asked}
+use Rattle.jstops.specs.Planned.{Forming, HeldPoint, forming_of, held_point_of}
+use Rattle.jstops.specs.Stops.{TellsStop}
+use Rattle.jstops.proofs.StopLemmas.{Told, all_told, next_fits, none_told, told_next, told_stop}
+use Rattle.jstops.proofs.stops.tell_ops.Goals as goal
+
+pub loop-accepted-init : goal.loop-accepted-init
+loop-accepted-init g c =
+    let a = c.args in
+    let asked : Asked = record { telling = a.telling; ops = a.ops.now; lines = a.lines.now } in
+    record {
+      within = omega arith;
+      ready = c.requires.ready;
+      forming = refl;
+      forms = [];
+      told = none_told (forming_of a.plan.now) asked (held_point_of a.plan.now) (g.T.Sink.taken a.sink.now) (g.T.Sink.failures a.sink.now) a.plan.now.few;
+    }
+
+pub tell_op-requires : goal.tell_op-requires
+tell_op-requires g c = c.loop-accepted.invariant.ready
+
+pub overflow_add-nodes : goal.overflow_add-nodes
+overflow_add-nodes g c =
+    let l = c.loop-accepted in
+    let inv = l.invariant in
+    let a = c.args in
+    let n : ℕ = l.accepted in
+    let o = c.index-ops-accepted.result in
+    let t = c.tell_op.new.plan in
+    let line : ℕ = get_or a.lines.now n 0 in
+    let below : n < length a.ops.now = search rules in
+    let is : o ≡ get_or a.ops.now n o = search rules in
+    let asked : Asked = record { telling = a.telling; ops = a.ops.now; lines = a.lines.now } in
+    let at : HeldPoint = held_point_of l.plan in
+    let to : HeldPoint = held_point_of t in
+    let did = subst (λ (f : Forming). TellsStop f (record { telling = a.telling; op = o; line = line }) at to (record { old = g.T.Sink.taken l.sink; new = g.T.Sink.taken c.tell_op.new.sink; before = g.T.Sink.failures l.sink; now = g.T.Sink.failures c.tell_op.new.sink }) (Ok c.in-Ok.more))
+    inv.forming c.in-Ok.ensures.tells in
+    let fit = next_fits (forming_of a.plan.now) asked (held_point_of a.plan.now) n o o inv.forms at to line (g.T.Sink.taken a.sink.now) (g.T.Sink.taken l.sink) (g.T.Sink.taken c.tell_op.new.sink)
+    (g.T.Sink.failures a.sink.now) (g.T.Sink.failures l.sink) (g.T.Sink.failures c.tell_op.new.sink) (record { nodes = l.nodes; weak = l.weak }) c.in-Ok.more t.block t.blocks
+    below c.requires.numbered is refl inv.told did t.flash (t.going c.in-Ok.ensures.ready.whole).within in
+    let small : l.nodes + c.in-Ok.more.nodes ≤ 268435456 = fit.0 in
+    omega (arith, small)
+
+pub overflow_add-weak : goal.overflow_add-weak
+overflow_add-weak g c =
+    let l = c.loop-accepted in
+    let inv = l.invariant in
+    let a = c.args in
+    let n : ℕ = l.accepted in
+    let o = c.index-ops-accepted.result in
+    let t = c.tell_op.new.plan in
+    let line : ℕ = get_or a.lines.now n 0 in
+    let below : n < length a.ops.now = search rules in
+    let is : o ≡ get_or a.ops.now n o = search rules in
+    let asked : Asked = record { telling = a.telling; ops = a.ops.now; lines = a.lines.now } in
+    let at : HeldPoint = held_point_of l.plan in
+    let to : HeldPoint = held_point_of t in
+    let did = subst (λ (f : Forming). TellsStop f (record { telling = a.telling; op = o; line = line }) at to (record { old = g.T.Sink.taken l.sink; new = g.T.Sink.taken c.tell_op.new.sink; before = g.T.Sink.failures l.sink; now = g.T.Sink.failures c.tell_op.new.sink }) (Ok c.in-Ok.more))
+    inv.forming c.in-Ok.ensures.tells in
+    let fit = next_fits (forming_of a.plan.now) asked (held_point_of a.plan.now) n o o inv.forms at to line (g.T.Sink.taken a.sink.now) (g.T.Sink.taken l.sink) (g.T.Sink.taken c.tell_op.new.sink)
+    (g.T.Sink.failures a.sink.now) (g.T.Sink.failures l.sink) (g.T.Sink.failures c.tell_op.new.sink) (record { nodes = l.nodes; weak = l.weak }) c.in-Ok.more t.block t.blocks
+    below c.requires.numbered is refl inv.told did t.flash (t.going c.in-Ok.ensures.ready.whole).within in
+    let small : l.weak + c.in-Ok.more.weak ≤ 268435456 = fit.1 in
+    omega (arith, small)
+
+pub loop-accepted-preserved : goal.loop-accepted-preserved
+loop-accepted-preserved g c =
+    let l = c.loop-accepted in
+    let inv = l.invariant in
+    let a = c.args in
+    let n : ℕ = l.accepted in
+    let o = c.index-ops-accepted.result in
+    let t = c.tell_op.new.plan in
+    let line : ℕ = get_or a.lines.now n 0 in
+    let below : n < length a.ops.now = search rules in
+    let is : o ≡ get_or a.ops.now n o = search rules in
+    let asked : Asked = record { telling = a.telling; ops = a.ops.now; lines = a.lines.now } in
+    let at : HeldPoint = held_point_of l.plan in
+    let to : HeldPoint = held_point_of t in
+    let did = subst (λ (f : Forming). TellsStop f (record { telling = a.telling; op = o; line = line }) at to (record { old = g.T.Sink.taken l.sink; new = g.T.Sink.taken c.tell_op.new.sink; before = g.T.Sink.failures l.sink; now = g.T.Sink.failures c.tell_op.new.sink }) (Ok c.in-Ok.more))
+    inv.forming c.in-Ok.ensures.tells in
+    let next : suc n ≡ n + 1 = omega arith in
+    record {
+      within = omega arith;
+      ready = c.in-Ok.ensures.ready;
+      forming = c.in-Ok.ensures.forming ∙ inv.forming;
+      forms = inv.forms ++ did.1.forms;
+      told = subst (λ (i : ℕ). Told (forming_of a.plan.now) asked (held_point_of a.plan.now) i (inv.forms ++ did.1.forms) to
+          (record { old = g.T.Sink.taken a.sink.now; new = g.T.Sink.taken c.tell_op.new.sink; before = g.T.Sink.failures a.sink.now; now = g.T.Sink.failures c.tell_op.new.sink })
+          (record { nodes = l.nodes + c.in-Ok.more.nodes; weak = l.weak + c.in-Ok.more.weak })) next
+          (told_next (forming_of a.plan.now) asked (held_point_of a.plan.now) n o o inv.forms at to line (g.T.Sink.taken a.sink.now) (g.T.Sink.taken l.sink) (g.T.Sink.taken c.tell_op.new.sink)
+          (g.T.Sink.failures a.sink.now) (g.T.Sink.failures l.sink) (g.T.Sink.failures c.tell_op.new.sink) (record { nodes = l.nodes; weak = l.weak }) c.in-Ok.more below c.requires.numbered is refl inv.told did);
+    }
+
+pub returns-in-Err : goal.returns-in-Err
+returns-in-Err g c =
+    let l = c.loop-accepted in
+    let inv = l.invariant in
+    let a = c.args in
+    let n : ℕ = l.accepted in
+    let o = c.index-ops-accepted.result in
+    let t = c.tell_op.new.plan in
+    let line : ℕ = get_or a.lines.now n 0 in
+    let below : n < length a.ops.now = search rules in
+    let is : o ≡ get_or a.ops.now n o = search rules in
+    let asked : Asked = record { telling = a.telling; ops = a.ops.now; lines = a.lines.now } in
+    let at : HeldPoint = held_point_of l.plan in
+    let to : HeldPoint = held_point_of t in
+    let did = subst (λ (f : Forming). TellsStop f (record { telling = a.telling; op = o; line = line }) at to (record { old = g.T.Sink.taken l.sink; new = g.T.Sink.taken c.tell_op.new.sink; before = g.T.Sink.failures l.sink; now = g.T.Sink.failures c.tell_op.new.sink }) (Err c.in-Err.fault))
+    inv.forming c.in-Err.ensures.tells in
+    told_stop (forming_of a.plan.now) asked (held_point_of a.plan.now) n o o inv.forms at to line (g.T.Sink.taken a.sink.now) (g.T.Sink.taken l.sink) (g.T.Sink.taken c.tell_op.new.sink)
+    (g.T.Sink.failures a.sink.now) (g.T.Sink.failures l.sink) (g.T.Sink.failures c.tell_op.new.sink) (record { nodes = l.nodes; weak = l.weak }) c.in-Err.fault below c.requires.numbered is refl inv.told did
+
+pub returns : goal.returns
+returns g c =
+    let l = c.loop-accepted in
+    let inv = l.invariant in
+    let a = c.args in
+    let all : l.accepted ≡ length a.ops.now = search rules in (
+      inv.forms,
+      all_told (forming_of a.plan.now) (record { telling = a.telling; ops = a.ops.now; lines = a.lines.now }) (held_point_of a.plan.now) l.accepted inv.forms (held_point_of l.plan)
+          (record { old = g.T.Sink.taken a.sink.now; new = g.T.Sink.taken l.sink; before = g.T.Sink.failures a.sink.now; now = g.T.Sink.failures l.sink }) (record { nodes = l.nodes; weak = l.weak }) all inv.told,
+    )

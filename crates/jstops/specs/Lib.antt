@@ -1,0 +1,4 @@
+pub mod Planned
+pub mod FormLines
+pub mod Stops
+pub mod StopLaws
