@@ -1,0 +1,12 @@
+use Rattle.std.proofs.Common.{refl}
+use Rattle.std.specs.Fmt.{digits}
+use Rattle.jauto.specs.TakingText.{taken_line, unclear_line}
+use Rattle.jauto.proofs.laws.known_takings.Goals as goal
+
+pub returns-clause-taken_text : goal.returns-clause-taken_text
+unfolding digits taken_line
+returns-clause-taken_text c = refl
+
+pub returns-clause-unclear_text : goal.returns-clause-unclear_text
+unfolding digits unclear_line
+returns-clause-unclear_text c = refl

@@ -1,0 +1,4 @@
+pub mod AutoLaws
+pub mod Looking
+pub mod Taking
+pub mod TakingText
