@@ -1,0 +1,2 @@
+pub mod ForetoldLemmas
+pub mod ForetellLaws

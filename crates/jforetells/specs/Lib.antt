@@ -1,0 +1,3 @@
+pub mod ForetellLaws
+pub mod Foretelling
+pub mod ForetoldTexts
