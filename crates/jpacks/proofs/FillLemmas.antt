@@ -10,7 +10,7 @@ use Rattle.jmakes.specs.Making.{fill_length}
 use Rattle.jmakes.specs.declared.wanted.Filling.{Filling}
 use Rattle.jmakes.specs.declared.wanted.Filling.TheVariants as filling
 use Rattle.jpacks.specs.Packing.{blocks_packed, filling_packed}
-use Rattle.jpacks.proofs.FilledLemmas.{FillsWithin}
+use Rattle.jupdates.proofs.FilledLemmas.{FillsWithin, filled_long}
 
 -- up to the end of a block
 end_of_block : (size blocks n : ℕ) → 0 < size → n ≤ blocks * size → n + (size - n % size) % size ≤ blocks * size
@@ -33,9 +33,6 @@ end_by : (size blocks n : ℕ) (b : Bool) → (size == 0) ≡ b → n ≤ blocks
 end_by size blocks n true is within = omega (arith, within)
 end_by zero blocks n false is within = let no : ⊥ = cc in absurd no
 end_by (suc k) blocks n false is within = end_of_block (suc k) blocks n (omega arith) within
-
-filled_long : (bytes : List ℕ) (n : ℕ) → length (bytes ++ erased n) ≡ length bytes + n
-filled_long bytes n = length-append bytes (erased n) ∙ ap (λ (m : ℕ). length bytes + m) (length-replicate {A = ℕ} n 0xFF)
 
 pub packed_within : (pad : Bool) (size : ℕ) (given : Option ℕ) → FillsWithin (blocks_packed size given * size) (filling_packed pad size given)
 packed_within false size given bytes within = within

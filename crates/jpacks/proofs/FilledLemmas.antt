@@ -57,6 +57,7 @@ use Rattle.jtree.proofs.RoomLemmas.{AreAllAccepted, planned_at_most}
 use Rattle.jtree.proofs.TreeLemmas.{image_of_lines, lines_lawful}
 use Rattle.jmakes.specs.Making.{fill_length, filled_to}
 use Rattle.jmakes.specs.declared.wanted.Filling.{Filling}
+use Rattle.jupdates.proofs.FilledLemmas.{FillsWithin}
 
 -- ---- erased flash behind what is left
 
@@ -79,10 +80,6 @@ filled_left e size blocks base from out k image n room left = record {
     )
   ];
 }
-
--- a file is filled up to no more than a flash of so many bytes holds
-abbrev pub FillsWithin : ℕ → Option Filling → Type 0
-FillsWithin most to = (bytes : List ℕ) → length bytes ≤ most → length (filled_to to bytes) ≤ most
 
 all_left : (e : Endian) (size blocks : ℕ) (base : List ℕ) (from : ℕ) (out : List ℕ) (k : ℕ) (image : List ℕ) (to : Option Filling) → FillsWithin (blocks * size) to
     → IsLeft e size blocks base from out k image → IsLeft e size blocks base from out k (filled_to to image)

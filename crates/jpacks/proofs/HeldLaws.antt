@@ -1,11 +1,14 @@
--- The image that `pack` makes holds the tree of the folder.
+-- The image that `pack` makes holds the tree of the folder, compressed or not.
 use Rattle.std.proofs.Common.{◌≡◌, ◌∙◌, ◌⊎◌, ℕ, Bool, List, [], ◌∷◌, ◌++◌, Option, Some, None, Result, Ok, Err, ap, inl, inr, refl, subst, sym}
 use Rattle.std.specs.Prelude.{Contains, IfOk, IsOk, is_none}
 use Rattle.std.specs.Option.{option_map_or}
+use Rattle.std.proofs.lemmas.List.{append-nil}
 use Rattle.jnode.specs.declared.order.Endian.{Endian}
 use Rattle.jscan.specs.Pages.{page_size}
 use Rattle.jmount.specs.Mount.{Mount}
 use Rattle.jmount.specs.Mounts.{MountsAs, plain_nodes}
+use Rattle.jmount.specs.Tree.{State}
+use Rattle.jview.specs.Through.{MountsThroughAs}
 use Rattle.jlisting.specs.Listing.{lines_of}
 use Rattle.jlisting.specs.declared.line.Line.{Line}
 use Rattle.jlog.specs.Resuming.{resumes_by}
@@ -20,13 +23,15 @@ use Rattle.jbuild.specs.Operations.{ops_in}
 use Rattle.jbuild.specs.declared.emitting.EmitFault.TheVariants as emit
 use Rattle.jbuild.specs.declared.host_files.HostFiles.{HostFiles}
 use Rattle.jreport.specs.declared.cause.Plan.{Plan}
+use Rattle.jtree.specs.Holding.{HoldsTree}
 use Rattle.jtree.specs.Numbers.{HaveDeviceNumbers}
 use Rattle.jfolder.specs.Known.{Known}
 use Rattle.jfolder.specs.Text.{listing_text}
 use Rattle.jfolder.specs.declared.fault.ReadFault.{ReadFault}
 use Rattle.jfolder.specs.declared.found.Options.{Options}
 use Rattle.jfolder.specs.declared.reading.FolderTree.{FolderTree}
-use Rattle.jedge.specs.Acts.{answers}
+use Rattle.jcommand.specs.declared.parsed.Packing.{Packing}
+use Rattle.jedge.specs.Acts.{Act, answers}
 use Rattle.jedge.specs.Calls.{Answers, Did, Event, Keep, Read, ReadFolder}
 use Rattle.jedge.specs.Laws.{Happened}
 use Rattle.jedge.specs.Told.{Told}
@@ -48,14 +53,15 @@ use Rattle.jmakes.specs.Writing.{Done, Emission, Emits, EndsAs, ImageWanted, Not
 use Rattle.jmakes.specs.declared.wanted.CloseFault.{CloseFault}
 use Rattle.jmakes.specs.declared.wanted.CloseFault.TheVariants as close
 use Rattle.jmakes.specs.declared.wanted.Filling.{Filling}
-use Rattle.jpacks.specs.Held.{HoldsFolder, PackHoldsFolder, WasRead, all_written}
-use Rattle.jpacks.specs.Packing.{WereKept, image_packed, pack_act, writes_listed}
+use Rattle.jupdates.specs.Asked.{DeviceWanted}
+use Rattle.jupdates.specs.Commands.{updates_text}
+use Rattle.jupdates.proofs.ShownLemmas.{happened_in, kept_after, kept_in, same_answer, skipped, text_run}
+use Rattle.jpacks.specs.Held.{PackCompressedHoldsFolder, PackHoldsFolder, ShowsFolder, WasRead, all_written}
+use Rattle.jpacks.specs.Packing.{device_of_packing, image_packed, packs_folder}
 use Rattle.jpacks.proofs.FilledLemmas.{filled_holds}
 use Rattle.jpacks.proofs.FillLemmas.{packed_within}
+use Rattle.jpacks.proofs.PackedLemmas.{run_holds}
 use Rattle.jpacks.proofs.WrittenLemmas.{closed_written, created_written, looks_written, written_first, written_later}
-
-same_answer : {A F : Type 0} {x y : A} → ◌≡◌ {A = Result A F} (Ok x) (Ok y) → x ≡ y
-same_answer is = cc
 
 no_fault : {A F : Type 0} {x : A} {f : F} → ◌≡◌ {A = Result A F} (Ok x) (Err f) → ⊥
 no_fault is = cc
@@ -166,26 +172,6 @@ put_later : {wanted : ImageWanted} {files : List ℕ → List ℕ} {lines : List
     → AreLinesPut wanted files lines after → AreLinesPut wanted files lines events
 put_later written put = record { m = put.m; none = put.none; resumes = put.resumes; put = same_put refl written put.put }
 
-kept_in : (before files : HostFiles) (first last events : List Event) (name : List ℕ) → events ≡ first ++ last → IsFileKept before files first name → IsFileKept before files events name
-kept_in before files first last events name is kept = (
-  kept.0,
-  kept.1,
-  elim kept.2 [
-    | inl had ↦ inl had
-    | inr read ↦ inr (subst (λ (l : List Event). Happened (Did (Read name kept.0)) l) (sym is) (before_more _ first last read))
-  ],
-)
-
-kept_after : (before files : HostFiles) (first last events : List Event) (name : List ℕ) → events ≡ first ++ last → IsFileKept before files last name → IsFileKept before files events name
-kept_after before files first last events name is kept = (
-  kept.0,
-  kept.1,
-  elim kept.2 [
-    | inl had ↦ inl had
-    | inr read ↦ inr (subst (λ (l : List Event). Happened (Did (Read name kept.0)) l) (sym is) (after_more _ first last read))
-  ],
-)
-
 text_put : (wanted : ImageWanted) (before : HostFiles) (text : List ℕ) (events : List Event) (told : Told) → writes_text wanted None before text events (Ok told) → IsTextPut wanted before text events
 text_put wanted before text events told did =
     let lines = both_done did in
@@ -276,43 +262,102 @@ was_read name folder kept before files events keeps same is =
       | inr read ↦ inl read
     ])
 
-pub pack_holds_folder : PackHoldsFolder
-pack_holds_folder e asked events told did =
-    let wanted : ImageWanted = image_packed e asked in
+-- A folder was read, and its listing was written by an act, to which all goes that was written.
+record IsFolderListed (asked : Packing (List ℕ)) (writes : HostFiles → List ℕ → Act Told) (events : List Event) : Type 0 where
+  listed : Listed
+  before : HostFiles
+  first : List Event
+  during : List Event
+  told : Told
+  folder : IsFolderRead asked.folder asked.quiet (listing_settings asked.owner asked.time) events listed
+  were : (name : List ℕ) → read_of before name ≡ folder.kept name
+  wrote : writes before listed.text.items during (Ok told)
+  all : events ≡ first ++ during
+  written : all_written events ≡ all_written during
+
+folder_listed : (asked : Packing (List ℕ)) (writes : HostFiles → List ℕ → Act Told) (events : List Event) (told : Told) → packs_folder asked writes events (Ok told) → IsFolderListed asked writes events
+folder_listed asked writes events told did =
     let options = listing_settings asked.owner asked.time in
     let reads = both_done did in
     let read = folder_read asked.folder asked.quiet options reads.before reads.x reads.one in
     let kept = both_done reads.two in
-    let writes = both_done kept.two in
+    let rest = both_done kept.two in
     let were = kept.one.1 in
     let same : kept.x ≡ were.0 = same_answer were.1 in
-    let text = text_put wanted kept.x reads.x.text.items writes.before writes.x writes.one in
     let looked : all_written reads.before ≡ [] = looks_written reads.before ((reading_makes_nothing options asked.quiet asked.folder).1 reads.before (Ok reads.x) reads.one) in
-    let last : all_written writes.after ≡ [] = ap all_written writes.two.0 in
-    let put = put_later {events = events} (written_later reads.before reads.after reads.all looked ∙ (written_later kept.before kept.after kept.all (ap all_written kept.one.0) ∙ written_first writes.before writes.after writes.all last)) text.put in
-    let listed : lines_of (listing_text read.tree.root read.tree.items.items) ≡ Ok text.lines = ap lines_of (sym read.text) ∙ text.listed in
-    let files : List ℕ → List ℕ = part_contents text.files in
-    let size : ℕ = asked.options.geometry.block in
-    let blocks : ℕ = wanted.flash.blocks in
-    let is = filled_holds asked.page e size blocks put.put.accepted 0 put.put.failures put.put.places put.put.text files read.tree.root read.tree.items.items text.lines put.m wanted.file.filling
-    read.listable.fits read.listable.is_tree listed put.none put.resumes (packed_within asked.placing.pad size asked.blocks) put.put.emitted in
-    let image : all_written events ≡ filled_to wanted.file.filling put.put.text = put.put.written in
+    let tail : reads.after ≡ rest.before = skipped kept.before kept.after kept.all kept.one.0 ∙ (rest.all ∙ (ap (λ (l : List Event). rest.before ++ l) rest.two.0 ∙ append-nil rest.before)) in
     record {
-      known = read.known;
-      folder = read.tree;
-      lines = text.lines;
-      files = files;
+      listed = reads.x;
+      before = kept.x;
+      first = reads.before;
+      during = rest.before;
+      told = rest.x;
+      folder = record {
+        known = read.known;
+        tree = read.tree;
+        kept = read.kept;
+        looked = happened_in _ reads.all (before_more _ reads.before reads.after read.looked);
+        listable = read.listable;
+        text = read.text;
+        keeps = happened_in _ reads.all (before_more _ reads.before reads.after read.keeps);
+        are = read.are;
+      };
+      were = λ name. ap (λ (h : HostFiles). read_of h name) same ∙ (were.2 name ∙ sym (read.are name));
+      wrote = rest.one;
+      all = reads.all ∙ ap (λ (l : List Event). reads.before ++ l) tail;
+      written = written_later reads.before reads.after reads.all looked ∙ ap all_written tail;
+    }
+
+-- a file system that holds its tree is shown, where the bytes are those of the files
+folder_shown : (asked : Packing (List ℕ)) (writes : HostFiles → List ℕ → Act Told) (events : List Event) (of : IsFolderListed asked writes events) (lines : List Line) (files : HostFiles) (state : State)
+    → lines_of of.listed.text.items ≡ Ok lines → ((name : List ℕ) → Contains (files_named lines) name → IsFileKept of.before files of.during name)
+    → HoldsTree (part_contents files) of.folder.tree.root of.folder.tree.items.items state → ShowsFolder asked events state
+folder_shown asked writes events of lines files state listed kept holds = record {
+  known = of.folder.known;
+  folder = of.folder.tree;
+  lines = lines;
+  files = part_contents files;
+  looked = of.folder.looked;
+  tree = of.folder.listable;
+  listed = ap lines_of (sym of.folder.text) ∙ listed;
+  read = λ name within. was_read name asked.folder of.folder.kept of.before files events of.folder.keeps (of.were name)
+      (kept_after of.before files of.first of.during events name of.all (kept name within));
+  holds = holds;
+}
+
+pub pack_holds_folder : PackHoldsFolder
+unfolding folder_shown folder_listed
+pack_holds_folder e asked events told did =
+    let wanted : ImageWanted = image_packed e asked in
+    let of = folder_listed asked (writes_text wanted None) events told did in
+    let tree = of.folder.tree in
+    let text = text_put wanted of.before of.listed.text.items of.during of.told of.wrote in
+    let put = text.put in
+    let listed : lines_of (listing_text tree.root tree.items.items) ≡ Ok text.lines = ap lines_of (sym of.folder.text) ∙ text.listed in
+    let size : ℕ = asked.options.geometry.block in
+    let is = filled_holds asked.page e size wanted.flash.blocks put.put.accepted 0 put.put.failures put.put.places put.put.text (part_contents text.files) tree.root tree.items.items text.lines put.m wanted.file.filling
+    of.folder.listable.fits of.folder.listable.is_tree listed put.none put.resumes (packed_within asked.placing.pad size asked.blocks) put.put.emitted in
+    let image : all_written events ≡ filled_to wanted.file.filling put.put.text = of.written ∙ put.put.written in
+    record {
       state = is.0;
-      looked = subst (λ (l : List Event). Happened (Did (ReadFolder asked.folder asked.quiet read.known)) l) (sym reads.all) (before_more _ reads.before reads.after read.looked);
-      tree = read.listable;
-      listed = listed;
-      read = λ name within. was_read name asked.folder read.kept kept.x text.files events
-          (subst (λ (l : List Event). Happened (Did (Keep asked.folder read.kept)) l) (sym reads.all) (before_more _ reads.before reads.after read.keeps))
-          (ap (λ (h : HostFiles). read_of h name) same ∙ (were.2 name ∙ sym (read.are name)))
-          (kept_after kept.x text.files reads.before reads.after events name reads.all
-          (kept_after kept.x text.files kept.before kept.after reads.after name kept.all
-          (kept_in kept.x text.files writes.before writes.after kept.after name writes.all (text.kept name within))));
+      shows = folder_shown asked (writes_text wanted None) events of text.lines text.files is.0 text.listed text.kept is.2;
       mounts = subst (λ (l : List ℕ). MountsAs e size l is.0) (sym image) is.1;
-      holds = is.2;
-      numbered = subst (λ (l : List ℕ). HaveDeviceNumbers e (plain_nodes e size l) is.0 read.tree.items.items) (sym image) is.3;
+      numbered = subst (λ (l : List ℕ). HaveDeviceNumbers e (plain_nodes e size l) is.0 tree.items.items) (sym image) is.3;
+    }
+
+pub pack_compressed_holds_folder : PackCompressedHoldsFolder
+pack_compressed_holds_folder e asked events told did =
+    let wanted : DeviceWanted = device_of_packing asked in
+    let of = folder_listed asked (updates_text e wanted []) events told did in
+    let tree = of.folder.tree in
+    let ran = text_run e wanted [] of.before of.listed.text.items of.during of.told of.wrote in
+    let listed : lines_of (listing_text tree.root tree.items.items) ≡ Ok ran.lines = ap lines_of (sym of.folder.text) ∙ ran.lines_are in
+    let size : ℕ = asked.options.geometry.block in
+    let is = run_holds e wanted of.before of.listed.text.items of.during of.told tree.root tree.items.items ran of.folder.listable.fits of.folder.listable.is_tree listed (packed_within asked.placing.pad size asked.blocks) in
+    let image : all_written events ≡ all_written of.during = of.written in
+    record {
+      state = is.0;
+      shows = folder_shown asked (updates_text e wanted []) events of ran.lines ran.files is.0 ran.lines_are
+          (λ name within. kept_in of.before ran.files ran.looked ran.last of.during name ran.all (ran.kept name within)) is.2;
+      mounts = subst (λ (l : List ℕ). MountsThroughAs e size l is.0) (sym image) is.1;
     }

@@ -1,9 +1,10 @@
--- What the image that `pack` makes of a folder holds.
+-- What the image holds that `pack` makes of a folder, compressed or not.
 use Rattle.std.specs.Prelude.{◌≡◌, ◌⊎◌, ℕ, List, [], Contains, Option, Some, Ok}
 use Rattle.std.specs.List.{flat_map}
 use Rattle.jnode.specs.declared.order.Endian.{Endian}
 use Rattle.jmount.specs.Mounts.{MountsAs, plain_nodes}
 use Rattle.jmount.specs.Tree.{State}
+use Rattle.jview.specs.Through.{MountsThroughAs}
 use Rattle.jlisting.specs.Listing.{lines_of}
 use Rattle.jlisting.specs.declared.line.Line.{Line}
 use Rattle.jcommand.specs.declared.parsed.Packing.{Packing}
@@ -18,7 +19,7 @@ use Rattle.jtree.specs.Making.{Files}
 use Rattle.jtree.specs.Numbers.{HaveDeviceNumbers}
 use Rattle.jreads.specs.Named.{files_named}
 use Rattle.jfolders.specs.Reading.{IsListableTree, listing_settings}
-use Rattle.jpacks.specs.Packing.{pack_act}
+use Rattle.jpacks.specs.Packing.{pack_act, pack_compressed_act}
 
 -- what a call writes
 abbrev pub bytes_put : Call → List ℕ
@@ -39,31 +40,49 @@ WasRead events name bytes = Happened (Did (Read name bytes)) events
     ⊎ ((folder : List ℕ) × (kept : List ℕ → Option (List ℕ))
     × Happened (Did (Keep folder kept)) events × (kept name ≡ Some bytes))
 
--- rule: Listings: The image that `pack` makes holds the tree of the folder.
---   definitions: jpacks.Held.HoldsFolder
---   code: jpacks::packing::pack
---   laws: jpacks::laws::pack_holds_folder
--- All that was written mounts as a file system that holds the tree which was read of the folder,
--- and nothing else. Its files have the bytes that were read of them, and its nodes the numbers of
--- the tree's devices.
-pub record HoldsFolder (e : Endian) (asked : Packing (List ℕ)) (events : List Event) : Type
+-- A folder was read, and a file system holds the tree that was found there, and nothing else. Its
+-- files have the bytes that were read of them.
+pub record ShowsFolder (asked : Packing (List ℕ)) (events : List Event) (state : State) : Type
     0 where
   pub known : Known
   pub folder : FolderTree
   pub lines : List Line
   pub files : Files
-  pub state : State
   pub looked : Happened (Did (ReadFolder asked.folder asked.quiet known)) events
   pub tree : IsListableTree known (listing_settings asked.owner asked.time) folder
   pub listed : lines_of (listing_text folder.root folder.items.items) ≡ Ok lines
   pub read : (name : List ℕ) → Contains (files_named lines) name
       → WasRead events name (files name)
-  pub mounts : MountsAs e asked.options.geometry.block (all_written events) state
   pub holds : HoldsTree files folder.root folder.items.items state
+
+-- rule: Listings: The image that `pack` makes holds the tree of the folder.
+--   definitions: jpacks.Held.HoldsFolder, jpacks.Held.HoldsFolderPacked, jpacks.Held.ShowsFolder
+--   code: jpacks::packing::pack, jpacks::compressed::pack_compressed
+--   laws: jpacks::laws::pack_holds_folder, jpacks::laws::pack_compressed_holds_folder
+-- All that was written mounts as such a file system, and its nodes have the numbers of the tree's
+-- devices.
+pub record HoldsFolder (e : Endian) (asked : Packing (List ℕ)) (events : List Event) : Type
+    0 where
+  pub state : State
+  pub shows : ShowsFolder asked events state
+  pub mounts : MountsAs e asked.options.geometry.block (all_written events) state
   pub numbered : HaveDeviceNumbers e
-      (plain_nodes e asked.options.geometry.block (all_written events)) state folder.items.items
+      (plain_nodes e asked.options.geometry.block (all_written events)) state
+      shows.folder.items.items
 
 -- `pack` that ends without a fault has written such an image.
 abbrev pub PackHoldsFolder : Type 0
 PackHoldsFolder = (e : Endian) (asked : Packing (List ℕ)) (events : List Event) (told : Told)
     → pack_act e asked events (Ok told) → HoldsFolder e asked events
+
+-- All that was written mounts through its compression as such a file system.
+pub record HoldsFolderPacked (e : Endian) (asked : Packing (List ℕ)) (events : List Event) : Type
+    0 where
+  pub state : State
+  pub shows : ShowsFolder asked events state
+  pub mounts : MountsThroughAs e asked.options.geometry.block (all_written events) state
+
+-- `pack --compress` that ends without a fault has written such an image.
+abbrev pub PackCompressedHoldsFolder : Type 0
+PackCompressedHoldsFolder = (e : Endian) (asked : Packing (List ℕ)) (events : List Event)
+    (told : Told) → pack_compressed_act e asked events (Ok told) → HoldsFolderPacked e asked events

@@ -1,4 +1,4 @@
--- What is true of the act of `pack`.
+-- What is true of the acts of `pack` and `pack --compress`.
 use Rattle.std.specs.Prelude.{◌⊎◌, ℕ, List, Err}
 use Rattle.jnode.specs.declared.order.Endian.{Endian}
 use Rattle.jcommand.specs.declared.parsed.Packing.{Packing}
@@ -7,7 +7,7 @@ use Rattle.jedge.specs.declared.fault.Fault.{Fault}
 use Rattle.jfolders.specs.Laws.{BlamesCall}
 use Rattle.jmakes.specs.Blaming.{IsFileBlamed}
 use Rattle.jmakes.specs.Laws.{IsWriteBlamed, JudgesBeforeMaking, LeavesAtFault}
-use Rattle.jpacks.specs.Packing.{image_packed, pack_act}
+use Rattle.jpacks.specs.Packing.{file_of_packing, image_packed, pack_act, pack_compressed_act}
 
 -- with `--atomic`, any fault but that of the output leaves the files as they were
 abbrev pub PackLeavesFiles : Type 0
@@ -29,3 +29,13 @@ abbrev pub PackBlamed : Type 0
 PackBlamed = (e : Endian) (asked : Packing (List ℕ)) (events : List Event)
     (f : Fault) → pack_act e asked events (Err f)
     → IsPackBlamed (image_packed e asked).file.name f events
+
+-- ---- the same of `pack --compress`
+
+abbrev pub PackCompressedLeavesFiles : Type 0
+PackCompressedLeavesFiles = (e : Endian) (asked : Packing (List ℕ))
+    → LeavesAtFault (file_of_packing asked) (pack_compressed_act e asked)
+
+abbrev pub PackCompressedJudgedFirst : Type 0
+PackCompressedJudgedFirst = (e : Endian) (asked : Packing (List ℕ))
+    → JudgesBeforeMaking (file_of_packing asked) (pack_compressed_act e asked)

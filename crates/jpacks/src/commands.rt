@@ -1,16 +1,18 @@
-//! `pack` as the program runs it: its answer is told.
+//! `pack` and `pack --compress` as the program runs them: the answer is told.
 ghost use Rattle.std.specs.Prelude.{◌≡◌, ◌==◌, Ok, if◌then◌else◌};
 ghost use Rattle.jcommand.specs.Parsed.{packing_view};
 ghost use Rattle.jcommand.specs.declared.outcome.Outcome.{Outcome};
 ghost use Rattle.jedge.specs.Acts.{DoesFrom, seen_as};
 ghost use Rattle.jedge.specs.Commands.{ends, reported};
-ghost use Rattle.jpacks.specs.Packing.{pack_act};
+ghost use Rattle.jpacks.specs.Packing.{pack_act, pack_compressed_act};
 ghost use Rattle.jpacks.specs.Seen.{packed_seen};
 
+use crate::compressed::pack_compressed;
 use crate::packing::{Packed, pack};
 use jcommand::{Outcome, Packing};
 use jedge::fault::Fault;
 use jedge::host::Host;
+use jedge::reporting::report;
 use jfolders::host::FolderHost;
 use jmakes::host::FileHost;
 use jmakes::reporting::report_written;
@@ -52,4 +54,16 @@ pub fn run_pack<E: Order, H: FolderHost + FilesHost + FileHost>(
 {
     let answer = pack::<E, H>(host, asked);
     report_packed(host, answer)
+}
+
+/// `pack --compress`.
+pub fn run_pack_compressed<E: Order, H: FolderHost + FilesHost + FileHost>(
+    host: &mut H,
+    asked: Packing<&str>,
+) -> Outcome
+    ensures { DoesFrom (H.history host.old) (H.history host.new)
+        (reported (pack_compressed_act E.order (packing_view asked.entry))) (Ok result) }
+{
+    let answer = pack_compressed::<E, H>(host, asked);
+    report(host, answer)
 }

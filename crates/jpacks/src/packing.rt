@@ -1,8 +1,9 @@
 //! The folder is read whole, and its listing is written on an empty base.
-ghost use Rattle.std.specs.Prelude.{◌≡◌};
+ghost use Rattle.std.specs.Prelude.{◌≡◌, None};
 ghost use Rattle.jnode.specs.declared.order.Endian.{Endian};
 ghost use Rattle.jcommand.specs.Parsed.{packing_view};
 ghost use Rattle.jedge.specs.Acts.{DoesFrom, seen_as};
+ghost use Rattle.jmakes.specs.Commands.{writes_text};
 ghost use Rattle.jmakes.specs.Seen.{image_to_write};
 ghost use Rattle.jpacks.specs.Packing.{blocks_packed, filling_packed, most_packed, image_packed, pack_act, writes_listed};
 ghost use Rattle.jpacks.specs.Seen.{packed_seen};
@@ -64,7 +65,7 @@ pub fn filling_of(pad: bool, block: u32, given: Option<u32>) -> Option<Filling>
 }
 
 /// The image that is asked for.
-fn image_of<'a>(asked: Packing<&'a str>) -> ImageToWrite<'a>
+pub(crate) fn image_of<'a>(asked: Packing<&'a str>) -> ImageToWrite<'a>
     ensures { (e : Endian) → image_to_write e result ≡ image_packed e (packing_view asked.entry) }
 {
     let block = asked.options.geometry.block;
@@ -90,7 +91,8 @@ fn write_listed<E: Order, H: FolderHost + FilesHost + FileHost>(
     listed: Listed,
 ) -> Result<Packed, Fault>
     ensures { DoesFrom (H.history host.old) (H.history host.new)
-        (writes_listed (image_to_write E.order image.entry) listed) (seen_as packed_seen result) }
+        (writes_listed (writes_text (image_to_write E.order image.entry) None) listed)
+        (seen_as packed_seen result) }
 {
     let Listed {
         text,

@@ -1,4 +1,4 @@
--- Laws of `update`: what comes before the file is made only looks.
+-- Laws of `update` and `build --compress`: what comes before the file is made only looks.
 use Rattle.std.proofs.Common.{◌≡◌, ◌⊎◌, ℕ, Bool, true, List, [], ◌++◌, Option, None, Some, Result, Ok, Err, refl, sym, ap, subst, ◌∙◌, inl, inr}
 use Rattle.std.proofs.lemmas.List.{append-nil}
 use Rattle.std.specs.Prelude.{IsTrue, length}
@@ -16,8 +16,7 @@ use Rattle.jedge.specs.Laws.{LooksOnly}
 use Rattle.jedge.specs.Told.{Told}
 use Rattle.jedge.specs.declared.fault.Fault.{Fault}
 use Rattle.jedge.specs.declared.fault.Fault.TheVariants as fault
-use Rattle.jedge.proofs.LookingLemmas.{answers_looks, loads_looks, then_looks}
-use Rattle.jreads.specs.Named.{loads_listed}
+use Rattle.jedge.proofs.LookingLemmas.{answers_looks, loads_looks}
 use Rattle.jreads.proofs.LookLemmas.{loads_named_looks}
 use Rattle.jmakes.specs.Laws.{ComesLate, JudgesBeforeMaking, LeavesAtFault}
 use Rattle.jmakes.specs.Leaving.{LeavesFiles}
@@ -26,9 +25,9 @@ use Rattle.jmakes.specs.Writing.{EndsAs, Numbered, ending_of, plan_on}
 use Rattle.jmakes.proofs.BlamingLemmas.{made_blamed, makes_blamed}
 use Rattle.jmakes.proofs.LawLemmas.{then_judges, then_leaves}
 use Rattle.jmakes.proofs.LeavingLemmas.{makes_leave}
-use Rattle.jupdates.specs.Asked.{DeviceWanted, device_wanted}
-use Rattle.jupdates.specs.Commands.{updates_lines, updates_text}
-use Rattle.jupdates.specs.Laws.{UpdateIsJudged, UpdateLeavesFiles}
+use Rattle.jupdates.specs.Asked.{DeviceWanted, device_built, device_wanted}
+use Rattle.jupdates.specs.Commands.{updates_lines, updates_listing, updates_text}
+use Rattle.jupdates.specs.Laws.{BuildCompressedIsJudged, BuildCompressedLeavesFiles, UpdateIsJudged, UpdateLeavesFiles}
 use Rattle.jupdates.specs.Updating.{PutsImage, RunsOnDevice, ends_well, prints_updated, ran_of, updates_mounted, writes_device}
 use Rattle.jupdates.proofs.EndLemmas.{printed_by_output, update_late, update_unnamed}
 
@@ -77,17 +76,17 @@ mounted_leaves : (e : Endian) (wanted : DeviceWanted) (m : Mount) (of : Numbered
 mounted_leaves e wanted m of told = then_leaves wanted.file _ _ (answers_looks _) (λ (from : ℕ).
     then_leaves wanted.file _ _ (answers_looks _) (λ (run : DeviceDone). write_leaves wanted m.image of.numbers run told))
 
-lines_leave : (e : Endian) (u : Updating (List ℕ)) (image : List ℕ) (files : List ℕ → List ℕ) (lines : List Line) → LeavesAtFault (device_wanted u image).file (updates_lines e u image files lines)
-lines_leave e u image files lines = then_leaves (device_wanted u image).file _ _ (answers_looks _) (λ (of : Numbered).
-    then_leaves (device_wanted u image).file _ _ (answers_looks _) (λ (others : Option ℕ).
-    then_leaves (device_wanted u image).file _ _ (answers_looks _) (λ (m : Mount). mounted_leaves e (device_wanted u image) m of (shown_told others m))))
+lines_leave : (e : Endian) (wanted : DeviceWanted) (image : List ℕ) (files : List ℕ → List ℕ) (lines : List Line) → LeavesAtFault wanted.file (updates_lines e wanted image files lines)
+lines_leave e wanted image files lines = then_leaves wanted.file _ _ (answers_looks _) (λ (of : Numbered).
+    then_leaves wanted.file _ _ (answers_looks _) (λ (others : Option ℕ).
+    then_leaves wanted.file _ _ (answers_looks _) (λ (m : Mount). mounted_leaves e wanted m of (shown_told others m))))
 
-listed_looks : (lines : List Line) → Rattle.jedge.specs.Laws.MakesNothing (loads_listed lines)
-listed_looks lines = then_looks _ _ (answers_looks _) (λ (none : HostFiles). loads_named_looks lines none)
+pub text_leaves : (e : Endian) (wanted : DeviceWanted) (image : List ℕ) (before : HostFiles) (text : List ℕ) → LeavesAtFault wanted.file (updates_text e wanted image before text)
+text_leaves e wanted image before text = then_leaves wanted.file _ _ (answers_looks _) (λ (lines : List Line).
+    then_leaves wanted.file _ _ (loads_named_looks lines before) (λ (files : HostFiles). lines_leave e wanted image (part_contents files) lines))
 
-text_leaves : (e : Endian) (u : Updating (List ℕ)) (image text : List ℕ) → LeavesAtFault (device_wanted u image).file (updates_text e u image text)
-text_leaves e u image text = then_leaves (device_wanted u image).file _ _ (answers_looks _) (λ (lines : List Line).
-    then_leaves (device_wanted u image).file _ _ (listed_looks lines) (λ (files : HostFiles). lines_leave e u image (part_contents files) lines))
+listing_leaves : (e : Endian) (wanted : DeviceWanted) (image text : List ℕ) → LeavesAtFault wanted.file (updates_listing e wanted image text)
+listing_leaves e wanted image text = then_leaves wanted.file _ _ (answers_looks _) (λ (none : HostFiles). text_leaves e wanted image none text)
 
 -- the file, before it is known up to where it is filled
 abbrev pub file_updated : Updating (List ℕ) → WantedFile
@@ -96,7 +95,10 @@ file_updated u = record { name = u.output; atomic = u.placing.atomic; filling = 
 pub update_leaves_files : UpdateLeavesFiles
 update_leaves_files e u events f atomic other did =
     then_leaves (file_updated u) _ _ (loads_looks u.image) (λ (image : List ℕ).
-    then_leaves (file_updated u) _ _ (loads_looks u.listing) (λ (text : List ℕ). text_leaves e u image text)) events f atomic other did
+    then_leaves (file_updated u) _ _ (loads_looks u.listing) (λ (text : List ℕ). listing_leaves e (device_wanted u image) image text)) events f atomic other did
+
+pub build_compressed_leaves_files : BuildCompressedLeavesFiles
+build_compressed_leaves_files e b = then_leaves (device_built b.target).file _ _ (loads_looks b.listing) (λ (text : List ℕ). listing_leaves e (device_built b.target) [] text)
 
 -- ---- all is judged before a file is made
 
@@ -125,16 +127,22 @@ run_judges e wanted m of told events f (GoesOn run before after did more is) =
 mounted_judges : (e : Endian) (wanted : DeviceWanted) (m : Mount) (of : Numbered) (told : Told) → JudgesBeforeMaking wanted.file (updates_mounted e wanted m of told)
 mounted_judges e wanted m of told = then_judges wanted.file _ _ (answers_looks _) (λ (from : ℕ). run_judges e wanted m of told)
 
-lines_judge : (e : Endian) (u : Updating (List ℕ)) (image : List ℕ) (files : List ℕ → List ℕ) (lines : List Line) → JudgesBeforeMaking (device_wanted u image).file (updates_lines e u image files lines)
-lines_judge e u image files lines = then_judges (device_wanted u image).file _ _ (answers_looks _) (λ (of : Numbered).
-    then_judges (device_wanted u image).file _ _ (answers_looks _) (λ (others : Option ℕ).
-    then_judges (device_wanted u image).file _ _ (answers_looks _) (λ (m : Mount). mounted_judges e (device_wanted u image) m of (shown_told others m))))
+lines_judge : (e : Endian) (wanted : DeviceWanted) (image : List ℕ) (files : List ℕ → List ℕ) (lines : List Line) → JudgesBeforeMaking wanted.file (updates_lines e wanted image files lines)
+lines_judge e wanted image files lines = then_judges wanted.file _ _ (answers_looks _) (λ (of : Numbered).
+    then_judges wanted.file _ _ (answers_looks _) (λ (others : Option ℕ).
+    then_judges wanted.file _ _ (answers_looks _) (λ (m : Mount). mounted_judges e wanted m of (shown_told others m))))
 
-text_judges : (e : Endian) (u : Updating (List ℕ)) (image text : List ℕ) → JudgesBeforeMaking (device_wanted u image).file (updates_text e u image text)
-text_judges e u image text = then_judges (device_wanted u image).file _ _ (answers_looks _) (λ (lines : List Line).
-    then_judges (device_wanted u image).file _ _ (listed_looks lines) (λ (files : HostFiles). lines_judge e u image (part_contents files) lines))
+pub text_judges : (e : Endian) (wanted : DeviceWanted) (image : List ℕ) (before : HostFiles) (text : List ℕ) → JudgesBeforeMaking wanted.file (updates_text e wanted image before text)
+text_judges e wanted image before text = then_judges wanted.file _ _ (answers_looks _) (λ (lines : List Line).
+    then_judges wanted.file _ _ (loads_named_looks lines before) (λ (files : HostFiles). lines_judge e wanted image (part_contents files) lines))
+
+listing_judges : (e : Endian) (wanted : DeviceWanted) (image text : List ℕ) → JudgesBeforeMaking wanted.file (updates_listing e wanted image text)
+listing_judges e wanted image text = then_judges wanted.file _ _ (answers_looks _) (λ (none : HostFiles). text_judges e wanted image none text)
 
 pub update_is_judged : UpdateIsJudged
 update_is_judged e u events f did =
     then_judges (file_updated u) _ _ (loads_looks u.image) (λ (image : List ℕ).
-    then_judges (file_updated u) _ _ (loads_looks u.listing) (λ (text : List ℕ). text_judges e u image text)) events f did
+    then_judges (file_updated u) _ _ (loads_looks u.listing) (λ (text : List ℕ). listing_judges e (device_wanted u image) image text)) events f did
+
+pub build_compressed_is_judged : BuildCompressedIsJudged
+build_compressed_is_judged e b = then_judges (device_built b.target).file _ _ (loads_looks b.listing) (λ (text : List ℕ). listing_judges e (device_built b.target) [] text)

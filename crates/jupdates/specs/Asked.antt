@@ -1,10 +1,12 @@
--- What is asked of `update`.
-use Rattle.std.specs.Prelude.{◌*◌, ◌==◌, ℕ, Bool, List, Option, Some, None, if◌then◌else◌}
+-- What is asked of `update` and `build --compress`.
+use Rattle.std.specs.Prelude.{◌*◌, ◌==◌, ℕ, Bool, false, List, Option, Some, None, if◌then◌else◌}
 use Rattle.jscan.specs.Image.{block_count}
 use Rattle.jlog.specs.declared.start.Flash.{Flash}
+use Rattle.jcommand.specs.declared.parsed.Target.{Target}
 use Rattle.jcommand.specs.declared.parsed.Updating.{Updating}
 use Rattle.jdevice.specs.declared.running.DevicePlan.{DevicePlan}
 use Rattle.jmakes.specs.Making.{WantedFile, wanted_file}
+use Rattle.jmakes.specs.Writing.{file_asked, flash_of_asked}
 use Rattle.jmakes.specs.declared.wanted.Filling.{Filling}
 use Rattle.jmakes.specs.declared.wanted.Filling.TheVariants as filling
 use Rattle.jupdates.specs.declared.asked.DeviceToWrite.{DeviceToWrite}
@@ -13,6 +15,8 @@ use Rattle.jupdates.specs.declared.asked.DeviceToWrite.{DeviceToWrite}
 pub record DeviceWanted : Type 0 where
   pub on : DevicePlan
   pub file : WantedFile
+
+-- ---- of an image that is read
 
 -- as many blocks as are asked for, or as the image has or begins
 abbrev pub blocks_asked : Option ℕ → ℕ → List ℕ → ℕ
@@ -41,6 +45,19 @@ device_wanted u image = record {
     filling = filling_updated u.placing.pad (flash_updated u image);
   };
 }
+
+-- ---- of a new image
+
+-- a flash that is blank, which new nodes go to compressed where that is shorter, and this file
+abbrev pub device_packed : Flash → WantedFile → DeviceWanted
+device_packed flash file =
+    record { on = record { flash = flash; plain = false; tail = false }; file = file }
+
+-- those that `build` is asked for
+abbrev pub device_built : Target (List ℕ) → DeviceWanted
+device_built target = device_packed (flash_of_asked target) (file_asked target)
+
+-- ---- as the code has it
 
 abbrev pub device_to_write : DeviceToWrite → DeviceWanted
 device_to_write device = record { on = device.on; file = wanted_file device.file }

@@ -1,11 +1,11 @@
 //! What is asked for.
 ghost use Rattle.std.specs.Prelude.{◌≡◌, ◌≤◌, length};
 ghost use Rattle.jscan.specs.Image.{greatest_image};
-ghost use Rattle.jcommand.specs.Parsed.{updating_view};
+ghost use Rattle.jcommand.specs.Parsed.{target_view, updating_view};
 ghost use Rattle.jmakes.specs.Making.{wanted_file};
-ghost use Rattle.jupdates.specs.Asked.{blocks_asked, device_to_write, device_wanted, filling_updated, flash_updated};
+ghost use Rattle.jupdates.specs.Asked.{blocks_asked, device_built, device_packed, device_to_write, device_wanted, filling_updated, flash_updated};
 
-use jcommand::Updating;
+use jcommand::{Target, Updating};
 use jdevice::DevicePlan;
 use jlog::Flash;
 use jmakes::wanted::{Filling, Wanted};
@@ -75,4 +75,35 @@ pub fn device_of<'a>(asked: Updating<&'a str>, image: &[u8]) -> DeviceToWrite<'a
             filling: filling_of(asked.placing.pad, flash),
         },
     }
+}
+
+/// A blank flash, which new nodes go to compressed where that is shorter, and this file.
+pub fn device_packed<'a>(flash: Flash, file: Wanted<'a>) -> DeviceToWrite<'a>
+    ensures { device_to_write result ≡ device_packed flash (wanted_file file.entry) }
+{
+    DeviceToWrite {
+        on: DevicePlan {
+            flash,
+            plain: false,
+            tail: false,
+        },
+        file,
+    }
+}
+
+/// The same of what `build` is asked for.
+pub fn device_built<'a>(target: Target<&'a str>) -> DeviceToWrite<'a>
+    ensures { device_to_write result ≡ device_built (target_view target.entry) }
+{
+    let flash = Flash {
+        geometry: target.options.geometry,
+        blocks: target.blocks,
+        page: target.page,
+    };
+    let file = Wanted {
+        name: target.output,
+        atomic: target.placing.atomic,
+        filling: filling_of(target.placing.pad, flash),
+    };
+    device_packed(flash, file)
 }

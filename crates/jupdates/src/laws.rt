@@ -1,5 +1,5 @@
-//! Laws of the act. Each function's contract is a law, and its body is empty.
-ghost use Rattle.jupdates.specs.Laws.{UpdateIsJudged, UpdateLeavesFiles, UpdateShowsOps};
+//! Laws of the acts. Each function's contract is a law, and its body is empty.
+ghost use Rattle.jupdates.specs.Laws.{BuildCompressedIsJudged, BuildCompressedLeavesFiles, BuildCompressedNotesNothing, BuildCompressedShowsOps, UpdateIsJudged, UpdateLeavesFiles, UpdateShowsOps};
 
 /// With `--atomic`, a fault leaves the files of the host as they were, and what was made is
 /// removed, or that failed. But the fault of standard output comes when the file has its name.
@@ -18,4 +18,22 @@ pub fn update_is_judged()
 /// makes of the file system that the image shows.
 pub fn update_shows_ops()
     ensures { UpdateShowsOps }
+{}
+
+/// With `--atomic`, a fault leaves the files of the host as they were, as one of `update` does.
+pub fn build_compressed_leaves_files()
+    ensures { BuildCompressedLeavesFiles }
+{}
+
+/// Nothing is made, and no file changed, at any fault but those of the file that is made and of
+/// writing it.
+pub fn build_compressed_is_judged()
+    ensures { BuildCompressedIsJudged }
+{}
+
+/// What is written where it ends well, also filled up, mounts through its compression as what the
+/// listing makes of an empty file system. Nothing is noted of it.
+pub fn build_compressed_shows_ops()
+    ensures shows { BuildCompressedShowsOps }
+    ensures notes { BuildCompressedNotesNothing }
 {}
