@@ -7,10 +7,14 @@ use Rattle.jnode.specs.declared.order.Endian.{Endian}
 use Rattle.jexpand.specs.declared.fault.ConvertFault.{ConvertFault}
 use Rattle.jexpand.specs.declared.fault.ConvertFault.TheVariants as convert
 use Rattle.jmount.specs.Mount.{Mount}
-use Rattle.jcollect.specs.PlanningThrough.{IsUnplannedThrough}
+use Rattle.jthrough.specs.Addressed.{addressed_nodes}
+use Rattle.jcollect.specs.Planning.{IsNoPlan}
+use Rattle.jcollect.specs.PlanningApart.{IsUnplannedApart}
 use Rattle.jcollect.specs.Tiles.{copied_image}
 use Rattle.jcollect.specs.declared.fault.CollectFault.{CollectFault}
 use Rattle.jcollect.specs.declared.fault.CollectFault.TheVariants as collect
+use Rattle.jcollect.specs.declared.fault.ThroughFault.{ThroughFault}
+use Rattle.jcollect.specs.declared.fault.ThroughFault.TheVariants as through
 use Rattle.jconvert.specs.Compressing.{compress_fault}
 use Rattle.jconvert.specs.Converting.{FaultOwes, convert_fault, converted_image}
 use Rattle.jreport.specs.declared.reason.Reason.{Reason}
@@ -30,7 +34,8 @@ use Rattle.jmakes.specs.declared.wanted.Filling.{Filling}
 use Rattle.jremakes.specs.Asked.{AskedRemaking, IsFindingsOf, MayBeReplaced, gives, takes_original}
 use Rattle.jremakes.specs.Judging.{ArePartedOf, IsCompressible, IsConvertible}
 use Rattle.jremakes.specs.Compacting.{IsCompactable, collect_refusal, compact_blocks}
-use Rattle.jremakes.specs.Laws.{Apart, Compact, Compress, Decompress, IsUnwrittenBlamed, RemadeIsBlamed}
+use Rattle.jremakes.specs.CompactingApart.{IsCompactableApart, apart_refusal}
+use Rattle.jremakes.specs.Laws.{Apart, Compact, CompactApart, Compress, Decompress, IsUnwrittenBlamed, RemadeIsBlamed}
 use Rattle.jremakes.specs.Putting.{ComesTo, PutsAll, PutsCompressed, PutsNodes, TakesMemory, TellsLine, end_reason, remakes, unwritten_by, unwritten_for_memory}
 use Rattle.jremakes.specs.declared.remaking.Unput.{Unput}
 use Rattle.jremakes.specs.declared.remaking.Unput.TheVariants as unput
@@ -126,13 +131,13 @@ parted_blames e size image events (fault.Refused why) is = of_bytes why is.1 tt
 parted_blames e size image events fault.Output is = absurd is.1
 parted_blames e size image events fault.OutOfMemory is = tt
 
-collect_of_bytes : (e : Endian) (size blocks : ℕ) (m : Mount) (refused : CollectFault) → IsUnplannedThrough e size blocks m refused → IsOfBytes (collect_refusal size blocks refused)
-collect_of_bytes e size blocks m collect.ReadOnly is = tt
-collect_of_bytes e size blocks m collect.Geometry is = tt
-collect_of_bytes e size blocks m (collect.TooLong addr) is = tt
-collect_of_bytes e size blocks m (collect.Full needed free) is = tt
-collect_of_bytes e size blocks m collect.Sink is = absurd is
-collect_of_bytes e size blocks m collect.OutOfMemory is = tt
+collect_of_bytes : (ns : List (ℕ × NodeRef)) (e : Endian) (size blocks : ℕ) (m : Mount) (refused : CollectFault) → IsNoPlan ns e size blocks m refused → IsOfBytes (collect_refusal size blocks refused)
+collect_of_bytes ns e size blocks m collect.ReadOnly is = tt
+collect_of_bytes ns e size blocks m collect.Geometry is = tt
+collect_of_bytes ns e size blocks m (collect.TooLong addr) is = tt
+collect_of_bytes ns e size blocks m (collect.Full needed free) is = tt
+collect_of_bytes ns e size blocks m collect.Sink is = absurd is
+collect_of_bytes ns e size blocks m collect.OutOfMemory is = tt
 
 compactable_blames : (e : Endian) (size blocks : ℕ) (image : List ℕ) → BlamesFailed (answers (IsCompactable e size blocks image))
 compactable_blames e size blocks image events (fault.File file) is = absurd is.1
@@ -141,9 +146,23 @@ compactable_blames e size blocks image events (fault.NoNodes of others) is = tt
 compactable_blames e size blocks image events (fault.NoSpace folder) is = absurd is.1
 compactable_blames e size blocks image events (fault.Findings of findings) is = tt
 compactable_blames e size blocks image events (fault.Refused why) (none, inl is) = of_bytes why is.1 (view_of is.0)
-compactable_blames e size blocks image events (fault.Refused why) (none, inr is) = of_bytes why is.2 (collect_of_bytes e size blocks is.0 is.1 is.4)
+compactable_blames e size blocks image events (fault.Refused why) (none, inr is) = of_bytes why is.2 (collect_of_bytes (addressed_nodes e size is.0.image) e size blocks is.0 is.1 is.4)
 compactable_blames e size blocks image events fault.Output is = absurd is.1
 compactable_blames e size blocks image events fault.OutOfMemory is = tt
+
+apart_of_bytes : (e : Endian) (size blocks : ℕ) (image : List ℕ) (refused : ThroughFault) → IsUnplannedApart e size blocks image refused → IsOfBytes (apart_refusal size blocks refused)
+apart_of_bytes e size blocks image (through.Unmounted why) is = view_of why
+apart_of_bytes e size blocks image (through.Uncollected why) is = collect_of_bytes is.0 e size blocks is.2 why is.4
+
+compactable_apart_blames : (e : Endian) (size blocks : ℕ) (image : List ℕ) → BlamesFailed (answers (IsCompactableApart e size blocks image))
+compactable_apart_blames e size blocks image events (fault.File file) is = absurd is.1
+compactable_apart_blames e size blocks image events (fault.NotRead file) is = absurd is.1
+compactable_apart_blames e size blocks image events (fault.NoNodes of others) is = tt
+compactable_apart_blames e size blocks image events (fault.NoSpace folder) is = absurd is.1
+compactable_apart_blames e size blocks image events (fault.Findings of findings) is = tt
+compactable_apart_blames e size blocks image events (fault.Refused why) is = of_bytes why is.1.1 (apart_of_bytes e size blocks image is.1.0 is.1.2)
+compactable_apart_blames e size blocks image events fault.Output is = absurd is.1
+compactable_apart_blames e size blocks image events fault.OutOfMemory is = tt
 
 memory_blames : BlamesFailed (answers TakesMemory)
 memory_blames events f is = subst (λ (h : Fault). BlamesEvent h events) (sym is.1) tt
@@ -272,6 +291,17 @@ remade_is_blamed (Compact asked given) events f did =
     let name = asked.output.name in
     then_blamed name (takes_original e asked) _ (by_event name (takes_original e asked) (takes_blames e asked)) (λ (image : List ℕ).
     then_blamed name (answers (IsCompactable e size blocks image)) _ (by_event name (answers (IsCompactable e size blocks image)) (compactable_blames e size blocks image)) (λ plan.
+    then_blamed name (answers TakesMemory) _ (memory_at name) (λ _.
+    then_blamed name (remakes asked.output (PutsAll (copied_image e size image plan.addresses) (tt {0}))) _
+    (remakes_blamed asked.output (PutsAll (copied_image e size image plan.addresses) (tt {0})) (all_fails (copied_image e size image plan.addresses) (tt {0}))) (λ _.
+    line_at name _ _)))) events f did
+remade_is_blamed (CompactApart asked given) events f did =
+    let e = asked.options.endian in
+    let size = asked.options.geometry.block in
+    let blocks : ℕ = compact_blocks size given in
+    let name = asked.output.name in
+    then_blamed name (takes_original e asked) _ (by_event name (takes_original e asked) (takes_blames e asked)) (λ (image : List ℕ).
+    then_blamed name (answers (IsCompactableApart e size blocks image)) _ (by_event name (answers (IsCompactableApart e size blocks image)) (compactable_apart_blames e size blocks image)) (λ plan.
     then_blamed name (answers TakesMemory) _ (memory_at name) (λ _.
     then_blamed name (remakes asked.output (PutsAll (copied_image e size image plan.addresses) (tt {0}))) _
     (remakes_blamed asked.output (PutsAll (copied_image e size image plan.addresses) (tt {0})) (all_fails (copied_image e size image plan.addresses) (tt {0}))) (λ _.

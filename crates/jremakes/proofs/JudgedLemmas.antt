@@ -14,7 +14,8 @@ use Rattle.jmakes.specs.Making.{compares_names}
 use Rattle.jremakes.specs.Asked.{AskedRemaking, MayBeReplaced, WouldReplace, gives, takes_original}
 use Rattle.jremakes.specs.Judging.{IsCompressible, IsConvertible}
 use Rattle.jremakes.specs.Compacting.{IsCompactable, compact_blocks}
-use Rattle.jremakes.specs.Laws.{Apart, Compact, Compress, Decompress, IsAcceptedBy, JudgedIsRemade, MakesJudged, RemakeCommand, asked_by}
+use Rattle.jremakes.specs.CompactingApart.{IsCompactableApart}
+use Rattle.jremakes.specs.Laws.{Apart, Compact, CompactApart, Compress, Decompress, IsAcceptedBy, JudgedIsRemade, MakesJudged, RemakeCommand, asked_by}
 
 -- ---- the image is taken
 
@@ -132,4 +133,8 @@ judged_is_remade (Apart asked) events result (GoesOn image before after did more
 judged_is_remade (Compact asked blocks) events result (Ends f did is) = inl (takes_looks asked.options.endian asked events (Err f) did)
 judged_is_remade (Compact asked blocks) events result (GoesOn image before after did more is) = law_at (Compact asked blocks) is
     (accepted_law (Compact asked blocks) (IsCompactable asked.options.endian asked.options.geometry.block (compact_blocks asked.options.geometry.block blocks) image) _ before after image result
+    (λ x judged. (x, judged)) (takes_looks asked.options.endian asked before (Ok image) did) (takes_taken asked.options.endian asked before image did) more)
+judged_is_remade (CompactApart asked blocks) events result (Ends f did is) = inl (takes_looks asked.options.endian asked events (Err f) did)
+judged_is_remade (CompactApart asked blocks) events result (GoesOn image before after did more is) = law_at (CompactApart asked blocks) is
+    (accepted_law (CompactApart asked blocks) (IsCompactableApart asked.options.endian asked.options.geometry.block (compact_blocks asked.options.geometry.block blocks) image) _ before after image result
     (λ x judged. (x, judged)) (takes_looks asked.options.endian asked before (Ok image) did) (takes_taken asked.options.endian asked before image did) more)

@@ -14,7 +14,7 @@ use Rattle.jmakes.specs.Leaving.{EndsUnnamed, LeavesFiles}
 use Rattle.jmakes.specs.Making.{FileSaying, WantedFile}
 use Rattle.jmakes.specs.declared.wanted.CloseFault.{CloseFault}
 use Rattle.jremakes.proofs.JudgedLemmas.{takes_looks}
-use Rattle.jremakes.specs.Laws.{Apart, Compact, Compress, Decompress, RemadeIsLeft}
+use Rattle.jremakes.specs.Laws.{Apart, Compact, CompactApart, Compress, Decompress, RemadeIsLeft}
 use Rattle.jremakes.specs.Putting.{ComesTo, TellsLine, remakes}
 use Rattle.jremakes.specs.declared.remaking.Unput.{Unput}
 use Rattle.jremakes.specs.declared.remaking.Unput.TheVariants as unput
@@ -105,5 +105,8 @@ remade_is_left (Apart asked) events f atomic not did =
     then_left _ _ (takes_looks asked.options.endian asked) (λ (image : List ℕ). then_left _ _ (answers_looks _) (λ told. then_left _ _ (answers_looks _) (λ parted. then_left _ _ (answers_looks _)
     (λ _. last_left asked.output _ _ atomic (λ x events f did. prints_output _ _ events f did))))) events f not did
 remade_is_left (Compact asked blocks) events f atomic not did =
+    then_left _ _ (takes_looks asked.options.endian asked) (λ (image : List ℕ). then_left _ _ (answers_looks _) (λ plan. then_left _ _ (answers_looks _)
+    (λ _. last_left asked.output _ _ atomic (λ x events f did. prints_output _ _ events f did)))) events f not did
+remade_is_left (CompactApart asked blocks) events f atomic not did =
     then_left _ _ (takes_looks asked.options.endian asked) (λ (image : List ℕ). then_left _ _ (answers_looks _) (λ plan. then_left _ _ (answers_looks _)
     (λ _. last_left asked.output _ _ atomic (λ x events f did. prints_output _ _ events f did)))) events f not did

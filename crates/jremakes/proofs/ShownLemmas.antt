@@ -5,11 +5,15 @@ use Rattle.std.proofs.lemmas.List.{append-nil}
 use Rattle.jnode.specs.declared.order.Endian.{Endian}
 use Rattle.jmount.specs.Mount.{Mount}
 use Rattle.jexpand.specs.Expanded.{unpacked_bytes}
+use Rattle.jclash.specs.declared.parting.LeftOut.{LeftOut}
+use Rattle.jcollect.proofs.ApartLemmas.{planned_apart_shows}
 use Rattle.jcollect.proofs.CompactThroughLemmas.{planned_shows}
+use Rattle.jcollect.specs.PlanningApart.{ShowsApart}
 use Rattle.jcollect.specs.PlanningThrough.{ShowsCompact}
 use Rattle.jcollect.specs.Tiles.{copied_image}
+use Rattle.jreport.specs.FoundIn.{found_in}
 use Rattle.jedge.proofs.BlamingLemmas.{before_more}
-use Rattle.jedge.specs.Acts.{Act, Then, Ends, GoesOn, answers, prints_put}
+use Rattle.jedge.specs.Acts.{Act, Then, Ends, GoesOn, and_closed, answers, prints_put}
 use Rattle.jedge.specs.Calls.{Event, Did, Read}
 use Rattle.jedge.specs.Laws.{Happened}
 use Rattle.jedge.specs.Told.{Told}
@@ -19,10 +23,11 @@ use Rattle.jmakes.specs.declared.wanted.CloseFault.{CloseFault}
 use Rattle.jmakes.specs.declared.wanted.Filling.{Filling}
 use Rattle.jremakes.proofs.JudgedLemmas.{IsTakenIn, takes_taken}
 use Rattle.jremakes.specs.Asked.{AskedRemaking}
-use Rattle.jremakes.specs.Commands.{compacts, remade_told}
+use Rattle.jremakes.specs.Commands.{compacts, compacts_apart}
 use Rattle.jremakes.specs.Compacting.{CompactPlan, IsCompactPlan, IsCompactable, compact_blocks}
-use Rattle.jremakes.specs.Laws.{CompactedShowsTree, ShowsWhatWasRead, WentOut}
-use Rattle.jremakes.specs.Putting.{ComesTo, PutsAll, TakesMemory, remakes}
+use Rattle.jremakes.specs.CompactingApart.{compacted_apart_told}
+use Rattle.jremakes.specs.Laws.{CompactedApartShows, CompactedShowsTree, ShowsWhatStays, ShowsWhatWasRead, WentOut}
+use Rattle.jremakes.specs.Putting.{ComesTo, PutsAll, TakesMemory, TellsLine, remakes}
 use Rattle.jremakes.specs.declared.remaking.Unput.{Unput}
 use Rattle.jremakes.specs.declared.remaking.Unput.TheVariants as unput
 
@@ -98,43 +103,42 @@ plan_shows e size blocks image plan is =
     subst (λ (l : List ℕ). ShowsCompact e size l (copied_image e size l plan.addresses)) is.1.0
     (planned_shows e size blocks held m plan.addresses plan.nodes plan.bytes (record { mount = is.1.1; contents = ([], sym (append-nil held)) }) is.2)
 
--- the file that is made shows the tree of an image
-record ShowsImage (e : Endian) (size : ℕ) (file : WantedFile) (image : List ℕ) (events : List Event) : Type 0 where
+-- a file is made of which this holds
+record MakesOf (Shows : List ℕ → Type 0) (file : WantedFile) (events : List Event) : Type 0 where
   out : List ℕ
-  shows : ShowsCompact e size image out
+  shows : Shows out
   put : WentOut (filled_to file.filling out) events
 
-abbrev lines_on : Endian → ℕ → WantedFile → List ℕ → CompactPlan → (Unit {0} → Act Told) → Act Told
-lines_on e size file image plan next = Then (remakes file (PutsAll (copied_image e size image plan.addresses) (tt {0}))) next
+made_after : (Shows : List ℕ → Type 0) (file : WantedFile) {events : List Event} (xs ys : List Event) → events ≡ xs ++ ys → MakesOf Shows file ys → MakesOf Shows file events
+made_after Shows file xs ys is made = record {
+  out = made.out;
+  shows = made.shows;
+  put = went_at _ is (went_after _ xs ys made.put);
+}
 
-put_shown : (e : Endian) (size : ℕ) (file : WantedFile) (image : List ℕ) (plan : CompactPlan) (next : Unit {0} → Act Told) (events : List Event) (told : Told)
-    → ShowsCompact e size image (copied_image e size image plan.addresses) → lines_on e size file image plan next events (Ok told) → ShowsImage e size file image events
-put_shown e size file image plan next events told shows (Ends f did is) = let no : ⊥ = cc in absurd no
-put_shown e size file image plan next events told shows (GoesOn x before after did more is) = record {
-  out = copied_image e size image plan.addresses;
+-- where the image goes out whole, and then the line
+abbrev lines_on : WantedFile → List ℕ → (Unit {0} → Act Told) → Act Told
+lines_on file out next = Then (remakes file (PutsAll out (tt {0}))) next
+
+put_made : (Shows : List ℕ → Type 0) (file : WantedFile) (out : List ℕ) (next : Unit {0} → Act Told) (events : List Event) (told : Told) → Shows out
+    → lines_on file out next events (Ok told) → MakesOf Shows file events
+put_made Shows file out next events told shows (Ends f did is) = let no : ⊥ = cc in absurd no
+put_made Shows file out next events told shows (GoesOn x before after did more is) = record {
+  out = out;
   shows = shows;
   put = went_at _ is (went_before _ before after (remakes_went _ file before x did));
 }
 
-shown_after : (e : Endian) (size : ℕ) (file : WantedFile) (image : List ℕ) {events : List Event} (xs ys : List Event) → events ≡ xs ++ ys → ShowsImage e size file image ys → ShowsImage e size file image events
-shown_after e size file image xs ys is shown = record {
-  out = shown.out;
-  shows = shown.shows;
-  put = went_at _ is (went_after _ xs ys shown.put);
-}
-
-memory_shown : (e : Endian) (size : ℕ) (file : WantedFile) (image : List ℕ) (plan : CompactPlan) (next : Unit {0} → Act Told) (events : List Event) (told : Told)
-    → ShowsCompact e size image (copied_image e size image plan.addresses) → Then (answers TakesMemory) (λ _. lines_on e size file image plan next) events (Ok told)
-    → ShowsImage e size file image events
-memory_shown e size file image plan next events told shows (Ends f did is) = let no : ⊥ = cc in absurd no
-memory_shown e size file image plan next events told shows (GoesOn x before after did more is) =
-    shown_after e size file image before after is (put_shown e size file image plan next after told shows more)
+memory_made : (Shows : List ℕ → Type 0) (file : WantedFile) (out : List ℕ) (next : Unit {0} → Act Told) (events : List Event) (told : Told) → Shows out
+    → Then (answers TakesMemory) (λ _. lines_on file out next) events (Ok told) → MakesOf Shows file events
+memory_made Shows file out next events told shows (Ends f did is) = let no : ⊥ = cc in absurd no
+memory_made Shows file out next events told shows (GoesOn x before after did more is) = made_after Shows file before after is (put_made Shows file out next after told shows more)
 
 compacts_shown : (e : Endian) (size blocks : ℕ) (file : WantedFile) (image : List ℕ) (events : List Event) (told : Told) → compacts e size blocks file image events (Ok told)
-    → ShowsImage e size file image events
+    → MakesOf (ShowsCompact e size image) file events
 compacts_shown e size blocks file image events told (Ends f did is) = let no : ⊥ = cc in absurd no
-compacts_shown e size blocks file image events told (GoesOn plan before after did more is) = shown_after e size file image before after is
-    (memory_shown e size file image plan _ after told (plan_shows e size blocks image plan did.1) more)
+compacts_shown e size blocks file image events told (GoesOn plan before after did more is) = made_after (ShowsCompact e size image) file before after is
+    (memory_made (ShowsCompact e size image) file (copied_image e size image plan.addresses) _ after told (plan_shows e size blocks image plan did.1) more)
 
 pub compacted_shows_tree : CompactedShowsTree
 compacted_shows_tree asked blocks events told (Ends f did is) = let no : ⊥ = cc in absurd no
@@ -148,4 +152,55 @@ compacted_shows_tree asked blocks events told (GoesOn image before after did mor
       read = subst (λ (l : List Event). Happened (Did (Read asked.image image)) l) (sym is) (before_more _ before after taken.read);
       shows = shown.shows;
       put = went_at _ is (went_after _ before after shown.put);
+    }
+
+-- ---- without nodes that clash
+
+-- what is told of an act that answers is told behind each of its steps
+line_told : {A : Type 0} (line : List ℕ) (x y : A) (events : List Event) → prints_put (TellsLine line x) events (Ok y) → y ≡ x
+line_told line x y events is = put_told line x y is.text is.failures is.answer is.closed is.says is.comes_to
+  where
+    put_told : {A : Type 0} (line : List ℕ) (x y : A) (text : List ℕ) (failures : ℕ) (answer : Result A Fault) (closed : Result Unit Fault) → TellsLine line x text answer
+        → Ok y ≡ and_closed answer closed → y ≡ x
+    put_told line x y text failures (Ok z) (Ok _) says is = let alike : y ≡ z = cc in alike ∙ says.1
+    put_told line x y text failures (Ok z) (Err g) says is = let no : ⊥ = cc in absurd no
+    put_told line x y text failures (Err g) closed says is = let no : ⊥ = cc in absurd no
+
+then_told : {A : Type 0} (first : Act A) (next : A → Act Told) (told : Told) → ((x : A) (events : List Event) (y : Told) → next x events (Ok y) → y ≡ told)
+    → (events : List Event) (y : Told) → Then first next events (Ok y) → y ≡ told
+then_told first next told one events y (Ends f did is) = let no : ⊥ = cc in absurd no
+then_told first next told one events y (GoesOn x before after did more is) = one x after y more
+
+record ShowsStaying (e : Endian) (size : ℕ) (file : WantedFile) (image : List ℕ) (events : List Event) (told : Told) : Type 0 where
+  left : List LeftOut
+  made : MakesOf (ShowsApart e size image left) file events
+  told_is : told ≡ compacted_apart_told left (found_in e size image)
+
+apart_shown : (e : Endian) (size blocks : ℕ) (file : WantedFile) (image : List ℕ) (events : List Event) (told : Told) → compacts_apart e size blocks file image events (Ok told)
+    → ShowsStaying e size file image events told
+apart_shown e size blocks file image events told (Ends f did is) = let no : ⊥ = cc in absurd no
+apart_shown e size blocks file image events told (GoesOn plan before after did more is) =
+    let Shows : List ℕ → Type 0 = ShowsApart e size image plan.left in
+    let says : Told = compacted_apart_told plan.left (found_in e size image) in record {
+      left = plan.left;
+      made = made_after Shows file before after is
+          (memory_made Shows file (copied_image e size image plan.addresses) _ after told
+          (planned_apart_shows e size blocks image plan.left plan.addresses plan.nodes plan.bytes did.1) more);
+      told_is = then_told _ _ says (λ _ events y did. then_told _ _ says (λ _ events y did. line_told _ says y events did) events y did) after told more;
+    }
+
+pub compacted_apart_shows : CompactedApartShows
+compacted_apart_shows asked blocks events told (Ends f did is) = let no : ⊥ = cc in absurd no
+compacted_apart_shows asked blocks events told (GoesOn image before after did more is) =
+    let e = asked.options.endian in
+    let size : ℕ = asked.options.geometry.block in
+    let taken = takes_taken e asked before image did in
+    let shown = apart_shown e size (compact_blocks size blocks) asked.output image after told more in record {
+      image = image;
+      left = shown.left;
+      out = shown.made.out;
+      read = subst (λ (l : List Event). Happened (Did (Read asked.image image)) l) (sym is) (before_more _ before after taken.read);
+      shows = shown.made.shows;
+      put = went_at _ is (went_after _ before after shown.made.put);
+      told_is = shown.told_is;
     }

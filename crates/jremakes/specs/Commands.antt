@@ -11,6 +11,7 @@ use Rattle.jedge.specs.Told.{Told}
 use Rattle.jmakes.specs.Making.{WantedFile}
 use Rattle.jremakes.specs.Asked.{AskedRemaking, takes_original}
 use Rattle.jremakes.specs.Compacting.{IsCompactable, compact_blocks, compacted_line}
+use Rattle.jremakes.specs.CompactingApart.{IsCompactableApart, compacted_apart_told}
 use Rattle.jremakes.specs.Judging.{ArePartedOf, IsCompressible, IsConvertible}
 use Rattle.jremakes.specs.Leaving.{compacted_told, left_out_told}
 use Rattle.jremakes.specs.Putting.{PutsAll, PutsCompressed, PutsNodes, TakesMemory, TellsLine, remakes}
@@ -108,3 +109,26 @@ compacts_file e asked blocks = Then (takes_original e asked)
 
 abbrev pub compact_act : AskedRemaking → Option ℕ → Act Told
 compact_act asked blocks = compacts_file asked.options.endian asked blocks
+
+-- ---- `compact --clashes higher`
+
+-- The same of one of which nodes may clash: those that matter go out of the nodes that stay, and of
+-- each that is left out standard error is told.
+abbrev pub compacts_apart : Endian → ℕ → ℕ → WantedFile → List ℕ → Act Told
+compacts_apart e size blocks file image =
+    Then (answers (IsCompactableApart e size blocks image)) (λ plan.
+    Then (answers TakesMemory) (λ _.
+    Then (remakes file (PutsAll (copied_image e size image plan.addresses) (tt {0}))) (λ _.
+    prints_put (TellsLine (compacted_line (length plan.addresses) plan.nodes plan.bytes)
+    (compacted_apart_told plan.left (found_in e size image))))))
+
+-- rule: Building and extending: `compact --clashes higher`, as an act.
+--   definitions: jremakes.Commands.compact_apart_act
+--   code: jremakes::compact_apart::compact_apart
+abbrev pub compacts_file_apart : Endian → AskedRemaking → Option ℕ → Act Told
+compacts_file_apart e asked blocks = Then (takes_original e asked)
+    (compacts_apart e asked.options.geometry.block
+    (compact_blocks asked.options.geometry.block blocks) asked.output)
+
+abbrev pub compact_apart_act : AskedRemaking → Option ℕ → Act Told
+compact_apart_act asked blocks = compacts_file_apart asked.options.endian asked blocks

@@ -1,8 +1,11 @@
 -- What is true of the acts of all commands that make an image of another one.
 use Rattle.std.specs.Prelude.{◌≡◌, ◌⊎◌, ◌++◌, Bool, true, List, ℕ, Option, None, Result, Ok, Err}
+use Rattle.jclash.specs.declared.parting.LeftOut.{LeftOut}
+use Rattle.jcollect.specs.PlanningApart.{ShowsApart}
 use Rattle.jcollect.specs.PlanningThrough.{ShowsCompact}
 use Rattle.jconvert.specs.Compressing.{compress_fault}
 use Rattle.jconvert.specs.Converting.{convert_fault}
+use Rattle.jreport.specs.FoundIn.{found_in}
 use Rattle.jreport.specs.NoNodes.{HasNoNode}
 use Rattle.jreport.specs.declared.reason.Reason.{Reason}
 use Rattle.jedge.specs.Acts.{Act}
@@ -15,8 +18,9 @@ use Rattle.jmakes.specs.Blaming.{HasFailedWriting, IsFileBlamed}
 use Rattle.jmakes.specs.Leaving.{LeavesFiles}
 use Rattle.jmakes.specs.Making.{filled_to, written_out}
 use Rattle.jremakes.specs.Asked.{AskedRemaking, WouldReplace}
-use Rattle.jremakes.specs.Commands.{apart_act, compact_act, compress_act, decompress_act}
+use Rattle.jremakes.specs.Commands.{apart_act, compact_act, compact_apart_act, compress_act, decompress_act}
 use Rattle.jremakes.specs.Compacting.{CompactPlan, IsCompactPlan, compact_blocks}
+use Rattle.jremakes.specs.CompactingApart.{CompactApartPlan, IsCompactApartPlan, compacted_apart_told}
 use Rattle.jremakes.specs.Putting.{unwritten_by}
 
 -- a command, and what is asked of it
@@ -25,18 +29,21 @@ pub data RemakeCommand : Type 0 where
   Compress : AskedRemaking → RemakeCommand
   Apart : AskedRemaking → RemakeCommand
   Compact : AskedRemaking → Option ℕ → RemakeCommand
+  CompactApart : AskedRemaking → Option ℕ → RemakeCommand
 
 abbrev pub remake_act_of : RemakeCommand → Act Told
 remake_act_of (Decompress asked) = decompress_act asked
 remake_act_of (Compress asked) = compress_act asked
 remake_act_of (Apart asked) = apart_act asked
 remake_act_of (Compact asked blocks) = compact_act asked blocks
+remake_act_of (CompactApart asked blocks) = compact_apart_act asked blocks
 
 abbrev pub asked_by : RemakeCommand → AskedRemaking
 asked_by (Decompress asked) = asked
 asked_by (Compress asked) = asked
 asked_by (Apart asked) = asked
 asked_by (Compact asked blocks) = asked
+asked_by (CompactApart asked blocks) = asked
 
 -- ---- all is judged before a file is made
 
@@ -50,6 +57,9 @@ IsAcceptedBy (Apart asked) image =
     convert_fault asked.options.endian asked.options.geometry.block image ≡ None
 IsAcceptedBy (Compact asked blocks) image = (plan : CompactPlan)
     × IsCompactPlan asked.options.endian asked.options.geometry.block
+    (compact_blocks asked.options.geometry.block blocks) image plan
+IsAcceptedBy (CompactApart asked blocks) image = (plan : CompactApartPlan)
+    × IsCompactApartPlan asked.options.endian asked.options.geometry.block
     (compact_blocks asked.options.geometry.block blocks) image plan
 
 -- The host told whether the image is the file that is made, and gave its bytes; it has a node, may
@@ -120,3 +130,20 @@ pub record ShowsWhatWasRead (asked : AskedRemaking) (events : List Event) : Type
 abbrev pub CompactedShowsTree : Type 0
 CompactedShowsTree = (asked : AskedRemaking) (blocks : Option ℕ) (events : List Event) (told : Told)
     → compact_act asked blocks events (Ok told) → ShowsWhatWasRead asked events
+
+-- The same of one whose nodes clash: it shows the tree that the nodes that stay make, and of each
+-- that is left out standard error is told.
+pub record ShowsWhatStays (asked : AskedRemaking) (events : List Event) (told : Told) : Type 0 where
+  pub image : List ℕ
+  pub left : List LeftOut
+  pub out : List ℕ
+  pub read : Happened (Did (Read asked.image image)) events
+  pub shows : ShowsApart asked.options.endian asked.options.geometry.block image left out
+  pub put : WentOut (filled_to asked.output.filling out) events
+  pub told_is : told ≡ compacted_apart_told left
+      (found_in asked.options.endian asked.options.geometry.block image)
+
+abbrev pub CompactedApartShows : Type 0
+CompactedApartShows = (asked : AskedRemaking) (blocks : Option ℕ) (events : List Event)
+    (told : Told) → compact_apart_act asked blocks events (Ok told)
+    → ShowsWhatStays asked events told

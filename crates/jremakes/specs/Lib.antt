@@ -1,5 +1,6 @@
 pub mod Asked
 pub mod Compacting
+pub mod CompactingApart
 pub mod Judging
 pub mod Leaving
 pub mod Putting

@@ -3,14 +3,15 @@ ghost use Rattle.std.specs.Prelude.{◌≡◌, Ok};
 ghost use Rattle.jedge.specs.Acts.{DoesFrom};
 ghost use Rattle.jedge.specs.Commands.{reported};
 ghost use Rattle.jremakes.specs.Asked.{remaking_of};
-ghost use Rattle.jremakes.specs.Commands.{apart_act, compact_act, compress_act, decompress_act};
+ghost use Rattle.jremakes.specs.Commands.{apart_act, compact_act, compact_apart_act, compress_act, decompress_act};
 
 use crate::apart::apart;
 use crate::asked::Remaking;
 use crate::compact::compact;
+use crate::compact_apart::compact_apart;
 use crate::compress::compress;
 use crate::decompress::decompress;
-use crate::leaving::{report_apart, report_compacted};
+use crate::leaving::{report_apart, report_compacted, report_compacted_apart};
 use jcommand::Outcome;
 use jedge::reporting::report;
 use jmakes::host::FileHost;
@@ -58,4 +59,18 @@ pub fn run_compact<E: Order, H: FileHost>(
 {
     let answer = compact::<E, H>(host, asked, blocks);
     report_compacted(host, answer)
+}
+
+/// `compact --clashes higher`, to a flash of so many blocks, or else to the greatest.
+pub fn run_compact_apart<E: Order, H: FileHost>(
+    host: &mut H,
+    asked: Remaking<'_>,
+    blocks: Option<u32>,
+) -> Outcome
+    requires { asked.options.endian ≡ E.order }
+    ensures { DoesFrom (H.history host.old) (H.history host.new)
+        (reported (compact_apart_act (remaking_of asked.entry) blocks)) (Ok result) }
+{
+    let answer = compact_apart::<E, H>(host, asked, blocks);
+    report_compacted_apart(host, answer)
 }

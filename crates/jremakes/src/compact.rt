@@ -46,7 +46,7 @@ fn put_image<E: Order, S: Sink>(
 }
 
 /// Makes the file of it.
-fn make_image<E: Order, H: FileHost>(
+pub(crate) fn make_image<E: Order, H: FileHost>(
     host: &mut H,
     file: Wanted<'_>,
     name: String,

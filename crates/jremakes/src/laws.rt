@@ -1,6 +1,6 @@
 //! Laws of the acts. Each function's contract is a law, and its body is empty.
 
-ghost use Rattle.jremakes.specs.Laws.{CompactedShowsTree, JudgedIsRemade, RemadeIsBlamed, RemadeIsLeft};
+ghost use Rattle.jremakes.specs.Laws.{CompactedApartShows, CompactedShowsTree, JudgedIsRemade, RemadeIsBlamed, RemadeIsLeft};
 
 /// No call changes a file before the image is read and judged: one that has no node, that has
 /// findings and would be replaced, or that can't be converted or compacted, is not gone on with.
@@ -24,4 +24,11 @@ pub fn remade_is_blamed()
 /// shows the same tree, mounts, and has no findings, all through its compression.
 pub fn compacted_shows_tree()
     ensures { CompactedShowsTree }
+{}
+
+/// What `compact --clashes higher` writes is an image of just those nodes that matter of the ones
+/// that stay: it shows the tree that these make, no two of its nodes clash, and it has no findings.
+/// Each node that is left out is told.
+pub fn compacted_apart_shows()
+    ensures { CompactedApartShows }
 {}

@@ -3,9 +3,11 @@ ghost use Rattle.std.specs.Prelude.{◌≡◌, ◌++◌, Ok, Some};
 ghost use Rattle.flashbase.specs.Sinks.{PutsTo};
 ghost use Rattle.jedge.specs.Acts.{DoesFrom, says, seen_as};
 ghost use Rattle.jedge.specs.Commands.{ends};
+ghost use Rattle.jremakes.specs.CompactingApart.{apart_compacted_told, compacted_apart_noted};
 ghost use Rattle.jremakes.specs.Leaving.{apart_told, findings_line, clashing_line, clashing_lines, compacted_noted, compacted_notes, compacted_told, leaves_none, left_attributes_line, left_attributes_lines, left_out_noted};
 
 use crate::apart::ApartDone;
+use crate::compact_apart::ApartCompacted;
 use flashbase::{DeviceFault, Sink};
 use jcommand::Outcome;
 use jconvert::LeftOut;
@@ -174,6 +176,59 @@ pub(crate) fn report_compacted<H: Host>(host: &mut H, answer: Result<Found, Faul
         Ok(found) => {
             say_compacted(host, found);
             Outcome::of(either(found.noted, found.attributes))
+        }
+        Err(fault) => report(host, Err(fault)),
+    }
+}
+
+/// Puts the lines of nodes that are left out, and the notes on what else does not go out.
+fn put_left_found<T: Sink>(sink: &mut T, left: &[LeftOut], found: Found) -> Result<(), DeviceFault>
+    ensures { PutsTo T.Sink sink.old sink.new
+        (clashing_lines left.now ++ compacted_notes found) result }
+{
+    match put_lines(sink, left) {
+        Ok(()) => put_found(sink, found),
+        Err(fault) => Err(fault),
+    }
+}
+
+/// Says both.
+fn say_left_found<H: Host>(host: &mut H, left: &[LeftOut], found: Found)
+    ensures { DoesFrom (H.history host.old) (H.history host.new)
+        (says (Some (clashing_lines left.now ++ compacted_notes found))) (Ok result) }
+{
+    let mut errors = host.errors();
+    let _ = put_left_found(&mut errors, left, found);
+    host.close_errors(errors);
+}
+
+/// Says what there is of them.
+fn say_compacted_apart<H: Host>(host: &mut H, left: &[LeftOut], found: Found)
+    ensures { DoesFrom (H.history host.old) (H.history host.new)
+        (says (compacted_apart_noted left.now found)) (Ok result) }
+{
+    if left.is_empty() {
+        say_compacted(host, found);
+    } else {
+        say_left_found(host, left, found);
+    }
+}
+
+/// Tells on standard error which nodes were left out of an image that was compacted, and what was
+/// found in it, or why none was; and how the program ends with it.
+pub(crate) fn report_compacted_apart<H: Host>(
+    host: &mut H,
+    answer: Result<ApartCompacted, Fault>,
+) -> Outcome
+    ensures { DoesFrom (H.history host.old) (H.history host.new)
+        (ends (seen_as apart_compacted_told answer)) (Ok result) }
+{
+    match answer {
+        Ok(done) => {
+            let left = done.left.as_slice();
+            say_compacted_apart(host, left, done.found);
+            let found = either(done.found.noted, done.found.attributes);
+            Outcome::of(either(left.len() as u64, found))
         }
         Err(fault) => report(host, Err(fault)),
     }

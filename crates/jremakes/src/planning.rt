@@ -5,8 +5,9 @@ ghost use Rattle.jcollect.specs.Planning.{MayPut};
 ghost use Rattle.jcollect.specs.declared.fault.CollectFault.{CollectFault};
 ghost use Rattle.jedge.specs.Acts.{seen_as};
 ghost use Rattle.jremakes.specs.Compacting.{IsCompactable, collect_refusal, compact_blocks, compact_plan};
+ghost use Rattle.jremakes.specs.CompactingApart.{IsCompactableApart, apart_refusal, compact_apart_plan};
 
-use jcollect::{CollectFault, Plan, plan_through};
+use jcollect::{CollectFault, Plan, PlanApart, ThroughFault, plan_apart, plan_through};
 use jconvert::ConvertFault;
 use jedge::fault::Fault;
 use jedge::mounting::view_refusal;
@@ -89,5 +90,34 @@ pub(crate) fn plan<E: Order>(
     match plan_through::<E>(alloc, &mounted, geometry, &contents, blocks) {
         Ok(plan) => Ok(plan),
         Err(fault) => Err(Fault::Refused(collect_refusal(geometry, blocks, fault))),
+    }
+}
+
+/// Why the nodes that stay of one do not go out to a flash of so many blocks.
+fn apart_refusal(geometry: Geometry, blocks: u32, fault: ThroughFault) -> ProgramFault<'static>
+    ensures { result ≡ apart_refusal geometry.block blocks fault }
+{
+    match fault {
+        ThroughFault::Unmounted(why) => view_refusal(why),
+        ThroughFault::Uncollected(why) => collect_refusal(geometry, blocks, why),
+    }
+}
+
+/// Which nodes of an image go to a flash of so many blocks, of those that stay where some clash.
+pub(crate) fn plan_staying<E: Order>(
+    alloc: Global,
+    image: &[u8],
+    geometry: Geometry,
+    blocks: u32,
+) -> Result<PlanApart, Fault>
+    ensures planned { IsCompactableApart E.order geometry.block blocks image.now
+        (seen_as compact_apart_plan result) }
+    ensures scannable { OnOk result (IsScannable geometry.block image.now) }
+    ensures may { IfOk result
+        (λ planned. MayPut E.order geometry.block image.now planned.plan.addresses.items) }
+{
+    match plan_apart::<E>(alloc, image, geometry, blocks) {
+        Ok(planned) => Ok(planned),
+        Err(fault) => Err(Fault::Refused(apart_refusal(geometry, blocks, fault))),
     }
 }
