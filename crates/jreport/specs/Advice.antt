@@ -61,7 +61,7 @@ read_method_name compr =
 unfoldable pub compressed_note : ℕ → List ℕ
 compressed_note compr = codes "the image is compressed (" ++ read_method_name compr
     ++ codes "); decompress writes one that is not, without damaged nodes; "
-    ++ codes "ls, cat, extract, diff, damage and append take --decompress"
+    ++ codes "ls, cat, check, extract, diff, damage, cuts and append take --decompress"
 
 -- what is said of a method that is not read
 abbrev pub unread_method : ℕ → List ℕ

@@ -127,7 +127,7 @@ fn push_method_note(line: &mut LineBuffer, compr: u8)
         line.push_text(b"the image is compressed (");
         line.push_text(read_method_name(compr));
         line.push_text(b"); decompress writes one that is not, without damaged nodes; ");
-        line.push_text(b"ls, cat, extract, diff, damage and append take --decompress");
+        line.push_text(b"ls, cat, check, extract, diff, damage, cuts and append take --decompress");
     } else {
         line.push_text(b"method ");
         line.push_decimal(u64::from(compr));

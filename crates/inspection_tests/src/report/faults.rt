@@ -272,16 +272,16 @@ fn texts_of_a_listing(rt: HostRuntime) {
 }
 
 const RTIME_NOTE: &str = "the image is compressed (rtime); decompress writes one that is not, \
-    without damaged nodes; ls, cat, extract, diff, damage and append take --decompress";
+    without damaged nodes; ls, cat, check, extract, diff, damage, cuts and append take --decompress";
 
 const ZLIB_NOTE: &str = "the image is compressed (zlib); decompress writes one that is not, \
-    without damaged nodes; ls, cat, extract, diff, damage and append take --decompress";
+    without damaged nodes; ls, cat, check, extract, diff, damage, cuts and append take --decompress";
 
 const LZO_NOTE: &str = "the image is compressed (lzo); decompress writes one that is not, \
-    without damaged nodes; ls, cat, extract, diff, damage and append take --decompress";
+    without damaged nodes; ls, cat, check, extract, diff, damage, cuts and append take --decompress";
 
 const LZMA_NOTE: &str = "the image is compressed (lzma); decompress writes one that is not, \
-    without damaged nodes; ls, cat, extract, diff, damage and append take --decompress";
+    without damaged nodes; ls, cat, check, extract, diff, damage, cuts and append take --decompress";
 
 /// The numbers of methods of compression, and what is noted of an image that has data of one.
 fn methods() -> &'static [(u8, &'static str)] {
