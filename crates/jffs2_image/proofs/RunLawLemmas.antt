@@ -1,11 +1,18 @@
 -- What is true of all commands, by what is true of the acts of each crate's commands.
-use Rattle.std.proofs.Common.{None, Some}
+use Rattle.std.proofs.Common.{◌≡◌, List, [], Option, None, Ok, Err, Some, refl, subst, sym}
 use Rattle.std.specs.Prelude.{string_bytes}
 use Rattle.clap.specs.Words.{Text}
 use Rattle.jcommand.specs.declared.command_line.RequestFault.{RequestFault}
 use Rattle.jcommand.specs.declared.command_line.RequestFault.TheVariants as refused
 use Rattle.jcommand.specs.declared.parsed.Command.{Command}
 use Rattle.jcommand.specs.declared.parsed.Command.TheVariants as command
+use Rattle.jcommand.specs.declared.parsed.Options.{Options}
+use Rattle.jcommand.specs.Requests.{with_options, writes_image}
+use Rattle.jauto.proofs.AutoLemmas.{auto_does_as_given, auto_looks, looking_makes_nothing}
+use Rattle.jedge.specs.Acts.{Ends, GoesOn}
+use Rattle.jedge.specs.Calls.{Event}
+use Rattle.jedge.specs.declared.fault.Fault.{Fault}
+use Rattle.jedge.specs.declared.fault.Fault.TheVariants as fault
 use Rattle.jedge.specs.Commands.{Cat, Check, Damage, Diff, Info, Ls, reported}
 use Rattle.jedge.specs.Laws.{MakesNothing}
 use Rattle.jedge.proofs.LookingLemmas as looking
@@ -15,15 +22,18 @@ use Rattle.jreads.proofs.LookLemmas.{cuts_read_only}
 use Rattle.jreads.proofs.ScanLawLemmas.{scan_reads_only}
 use Rattle.jfolders.specs.Reading.{listing_settings}
 use Rattle.jfolders.proofs.ReadLaws.{reading_makes_nothing}
+use Rattle.jforetells.proofs.ForetellLaws.{cuts_through_reads_only}
 use Rattle.jmakes.specs.Commands.{Append, Build}
 use Rattle.jmakes.specs.Writing.{image_asked}
+use Rattle.jmakes.specs.Leaving.{LeavesFiles}
 use Rattle.jmakes.proofs.CommandLaws.{atomic_leaves_files}
-use Rattle.jpacks.proofs.PackLaws.{pack_leaves_files}
-use Rattle.jupdates.proofs.UpdateLaws.{update_leaves_files}
-use Rattle.jremakes.specs.Laws.{Apart, Compact, Compress, Decompress}
+use Rattle.jmakes.proofs.LeavingLemmas.{looks_quiet, quiet_then}
+use Rattle.jpacks.proofs.PackLaws.{pack_compressed_leaves_files, pack_leaves_files}
+use Rattle.jupdates.proofs.UpdateLaws.{build_compressed_leaves_files, update_leaves_files}
+use Rattle.jremakes.specs.Laws.{Apart, Compact, CompactApart, Compress, Decompress}
 use Rattle.jremakes.proofs.LeftLemmas.{remade_is_left}
-use Rattle.jffs2_image.specs.RunLaws.{AtomicCommandsLeaveFiles, IsPrintedOnly, PrintingMakesNothing, product_of}
-use Rattle.jffs2_image.specs.Running.{command_act, refused_act, remaking_asked}
+use Rattle.jffs2_image.specs.RunLaws.{AtomicCommandsLeaveFiles, AutoDoesAsGiven, IsAtomic, IsPrintedOnly, PrintingMakesNothing, Product, product_of}
+use Rattle.jffs2_image.specs.Running.{command_act, found_act, image_looked, refused_act, remaking_asked}
 
 -- ---- nothing is made
 
@@ -38,47 +48,111 @@ command_looks (command.Diff d) is = looking.reads_only (Diff d)
 command_looks (command.Damage x) is = looking.reads_only (Damage x.options x.decompress x.image)
 command_looks (command.Map m) is = inspects_only (MapNodes m.options m.svg m.image)
 command_looks (command.Build b) is = absurd is
+command_looks (command.BuildCompressed b) is = absurd is
 command_looks (command.Append a) is = absurd is
 command_looks (command.Update u) is = absurd is
 command_looks (command.Cuts c) is = cuts_read_only c.options c.blocks c.page c.on c.listing
+command_looks (command.CutsThrough c) is = cuts_through_reads_only c.options.endian c
 command_looks (command.Decompress c) is = absurd is
 command_looks (command.Apart c) is = absurd is
 command_looks (command.Compress c) is = absurd is
 command_looks (command.Compact c) is = absurd is
+command_looks (command.CompactApart c) is = absurd is
 command_looks (command.Extract x) is = absurd is
 command_looks (command.Listing l) is = (reading_makes_nothing (listing_settings l.owner l.time) l.quiet l.folder).0
 command_looks (command.Pack p) is = absurd is
+command_looks (command.PackCompressed p) is = absurd is
 
 refused_looks : (why : RequestFault) → MakesNothing (refused_act why)
 refused_looks (refused.Help text) = looking.reported_looks _ (looking.prints_looks _)
 refused_looks (refused.Usage text) = looking.then_looks _ _ (λ events r said. looking.said_looks (Some (string_bytes text)) events said) (λ _. looking.answers_looks _)
 refused_looks refused.OutOfMemory = looking.reported_looks _ (looking.answers_looks _)
 
+-- what a command makes beside what it prints is the same with other options
+product_kept : (o : Options) (asked : Command Text) → product_of asked ≡ product_of (with_options o asked)
+product_kept o (command.Scan x) = refl
+product_kept o (command.Check x) = refl
+product_kept o (command.CheckThrough x) = refl
+product_kept o (command.List x) = refl
+product_kept o (command.Cat x) = refl
+product_kept o (command.Info x) = refl
+product_kept o (command.Diff x) = refl
+product_kept o (command.Damage x) = refl
+product_kept o (command.Map x) = refl
+product_kept o (command.Build x) = refl
+product_kept o (command.BuildCompressed x) = refl
+product_kept o (command.Append x) = refl
+product_kept o (command.Update x) = refl
+product_kept o (command.Cuts x) = refl
+product_kept o (command.CutsThrough x) = refl
+product_kept o (command.Decompress x) = refl
+product_kept o (command.Apart x) = refl
+product_kept o (command.Compress x) = refl
+product_kept o (command.Compact x) = refl
+product_kept o (command.CompactApart x) = refl
+product_kept o (command.Extract x) = refl
+product_kept o (command.Listing x) = refl
+product_kept o (command.Pack x) = refl
+product_kept o (command.PackCompressed x) = refl
+
+found_looks : (image : Option Text) (asked : Command Text) → IsPrintedOnly (product_of asked) → MakesNothing (reported (found_act image asked))
+found_looks None asked is = command_looks asked is
+found_looks (Some image) asked is = auto_looks (writes_image asked) image _ (λ (o : Options).
+    command_looks (with_options o asked) (subst (λ (p : Product). IsPrintedOnly p) (product_kept o asked) is))
+
 pub printing_makes_nothing : PrintingMakesNothing
-printing_makes_nothing = (command_looks, refused_looks)
+printing_makes_nothing = (λ asked is. found_looks (image_looked asked) asked.command is, refused_looks)
+
+-- ---- with `--auto`
+
+pub command_does_as_given : AutoDoesAsGiven
+command_does_as_given asked image events result did =
+    auto_does_as_given (writes_image asked) image (λ (o : Options). command_act (with_options o asked)) events result did
 
 -- ---- with `--atomic`, a fault leaves the files as they were
 
-pub atomic_commands_leave_files : AtomicCommandsLeaveFiles
-atomic_commands_leave_files (command.Scan i) events f atomic other did = absurd atomic
-atomic_commands_leave_files (command.Check c) events f atomic other did = absurd atomic
-atomic_commands_leave_files (command.CheckThrough c) events f atomic other did = absurd atomic
-atomic_commands_leave_files (command.List l) events f atomic other did = absurd atomic
-atomic_commands_leave_files (command.Cat c) events f atomic other did = absurd atomic
-atomic_commands_leave_files (command.Info image) events f atomic other did = absurd atomic
-atomic_commands_leave_files (command.Diff d) events f atomic other did = absurd atomic
-atomic_commands_leave_files (command.Damage x) events f atomic other did = absurd atomic
-atomic_commands_leave_files (command.Map m) events f atomic other did = absurd atomic
-atomic_commands_leave_files (command.Build b) events f atomic other did =
+command_leaves : (asked : Command Text) (events : List Event) (f : Fault) → IsAtomic (product_of asked) → (f ≡ fault.Output → ⊥) → command_act asked events (Err f) → LeavesFiles events
+command_leaves (command.Scan i) events f atomic other did = absurd atomic
+command_leaves (command.Check c) events f atomic other did = absurd atomic
+command_leaves (command.CheckThrough c) events f atomic other did = absurd atomic
+command_leaves (command.List l) events f atomic other did = absurd atomic
+command_leaves (command.Cat c) events f atomic other did = absurd atomic
+command_leaves (command.Info image) events f atomic other did = absurd atomic
+command_leaves (command.Diff d) events f atomic other did = absurd atomic
+command_leaves (command.Damage x) events f atomic other did = absurd atomic
+command_leaves (command.Map m) events f atomic other did = absurd atomic
+command_leaves (command.Build b) events f atomic other did =
     atomic_leaves_files (Build (image_asked b.target.options.endian b.target) b.listing) events f atomic other did
-atomic_commands_leave_files (command.Append a) events f atomic other did =
+command_leaves (command.BuildCompressed b) events f atomic other did = build_compressed_leaves_files b.target.options.endian b events f atomic other did
+command_leaves (command.Append a) events f atomic other did =
     atomic_leaves_files (Append (image_asked a.target.options.endian a.target) a.decompress a.image a.listing) events f atomic other did
-atomic_commands_leave_files (command.Update u) events f atomic other did = update_leaves_files u.options.endian u events f atomic other did
-atomic_commands_leave_files (command.Cuts c) events f atomic other did = absurd atomic
-atomic_commands_leave_files (command.Decompress c) events f atomic other did = remade_is_left (Decompress (remaking_asked None c)) events f atomic other did
-atomic_commands_leave_files (command.Apart c) events f atomic other did = remade_is_left (Apart (remaking_asked None c)) events f atomic other did
-atomic_commands_leave_files (command.Compress c) events f atomic other did = remade_is_left (Compress (remaking_asked None c)) events f atomic other did
-atomic_commands_leave_files (command.Compact c) events f atomic other did = remade_is_left (Compact (remaking_asked c.blocks c.conversion) c.blocks) events f atomic other did
-atomic_commands_leave_files (command.Extract x) events f atomic other did = absurd atomic
-atomic_commands_leave_files (command.Listing l) events f atomic other did = absurd atomic
-atomic_commands_leave_files (command.Pack p) events f atomic other did = pack_leaves_files p.options.endian p events f atomic other did
+command_leaves (command.Update u) events f atomic other did = update_leaves_files u.options.endian u events f atomic other did
+command_leaves (command.Cuts c) events f atomic other did = absurd atomic
+command_leaves (command.CutsThrough c) events f atomic other did = absurd atomic
+command_leaves (command.Decompress c) events f atomic other did = remade_is_left (Decompress (remaking_asked None c)) events f atomic other did
+command_leaves (command.Apart c) events f atomic other did = remade_is_left (Apart (remaking_asked None c)) events f atomic other did
+command_leaves (command.Compress c) events f atomic other did = remade_is_left (Compress (remaking_asked None c)) events f atomic other did
+command_leaves (command.Compact c) events f atomic other did = remade_is_left (Compact (remaking_asked c.blocks c.conversion) c.blocks) events f atomic other did
+command_leaves (command.CompactApart c) events f atomic other did = remade_is_left (CompactApart (remaking_asked c.blocks c.conversion) c.blocks) events f atomic other did
+command_leaves (command.Extract x) events f atomic other did = absurd atomic
+command_leaves (command.Listing l) events f atomic other did = absurd atomic
+command_leaves (command.Pack p) events f atomic other did = pack_leaves_files p.options.endian p events f atomic other did
+command_leaves (command.PackCompressed p) events f atomic other did = pack_compressed_leaves_files p.options.endian p events f atomic other did
+
+found_leaves : (image : Text) (asked : Command Text) (events : List Event) (f : Fault) → IsAtomic (product_of asked) → (f ≡ fault.Output → ⊥)
+    → found_act (Some image) asked events (Err f) → LeavesFiles events
+found_leaves image asked events f atomic other (Ends g did is) =
+    let quiet = looks_quiet [] events (looking_makes_nothing (writes_image asked) image events (Err g) did) in record { others = quiet.others; removed = quiet.removed }
+found_leaves image asked events f atomic other (GoesOn o before after did more is) =
+    let rest = command_leaves (with_options o asked) after f (subst (λ (p : Product). IsAtomic p) (product_kept o asked) atomic) other more in
+    let looked = looks_quiet [] before (looking_makes_nothing (writes_image asked) image before (Ok o) did) in
+    let quiet = quiet_then [] before after looked (record { others = rest.others; removed = rest.removed }) in
+    subst (λ (l : List Event). LeavesFiles l) (sym is) (record { others = quiet.others; removed = quiet.removed })
+
+image_leaves : (image : Option Text) (asked : Command Text) (events : List Event) (f : Fault) → IsAtomic (product_of asked) → (f ≡ fault.Output → ⊥)
+    → found_act image asked events (Err f) → LeavesFiles events
+image_leaves None asked events f atomic other did = command_leaves asked events f atomic other did
+image_leaves (Some image) asked events f atomic other did = found_leaves image asked events f atomic other did
+
+pub atomic_commands_leave_files : AtomicCommandsLeaveFiles
+atomic_commands_leave_files asked events f atomic other did = image_leaves (image_looked asked) asked.command events f atomic other did

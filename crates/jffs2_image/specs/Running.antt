@@ -1,8 +1,9 @@
 -- What the program does: its words ask for something, and the host does it. Each command's act is
 -- in the crate that has the command.
-use Rattle.std.specs.Prelude.{◌≡◌, ◌⊎◌, ℕ, List, Option, Some, None, Result, Ok, Err, string_bytes}
+use Rattle.std.specs.Prelude.{◌≡◌, ◌⊎◌, ℕ, if◌then◌else◌, List, Option, Some, None, Result, Ok, Err, string_bytes}
 use Rattle.clap.specs.Words.{Text}
-use Rattle.jcommand.specs.Parsed.{IsFaultless, IsHelpRequested, IsRefusedByClap, IsUnreadable, parsed_from}
+use Rattle.jcommand.specs.Parsed.{IsFaultless, IsHelpRequested, IsRefusedByClap}
+use Rattle.jcommand.specs.Requests.{IsUnreadable, image_read, request_from, with_options, writes_image}
 use Rattle.jcommand.specs.declared.command_line.RequestFault.{RequestFault}
 use Rattle.jcommand.specs.declared.command_line.RequestFault.TheVariants as refused
 use Rattle.jcommand.specs.declared.outcome.Outcome.{Outcome}
@@ -10,6 +11,8 @@ use Rattle.jcommand.specs.declared.outcome.Outcome.TheVariants as outcome
 use Rattle.jcommand.specs.declared.parsed.Command.{Command}
 use Rattle.jcommand.specs.declared.parsed.Command.TheVariants as command
 use Rattle.jcommand.specs.declared.parsed.Conversion.{Conversion}
+use Rattle.jcommand.specs.declared.request.Request.{Request}
+use Rattle.jauto.specs.Looking.{auto_act}
 use Rattle.jedge.specs.Acts.{Act, Then, Whole, answers, prints, says}
 use Rattle.jedge.specs.Calls.{Event}
 use Rattle.jedge.specs.Commands.{cat_act, check_act, damage_act, diff_act, info_act, list_act, reported}
@@ -22,11 +25,12 @@ use Rattle.jreads.specs.Scanning.{scan_act}
 use Rattle.jmakes.specs.Commands.{append_act, build_act}
 use Rattle.jmakes.specs.Writing.{image_asked}
 use Rattle.jremakes.specs.Asked.{AskedRemaking}
-use Rattle.jremakes.specs.Commands.{apart_act, compact_act, compress_act, decompress_act}
+use Rattle.jremakes.specs.Commands.{apart_act, compact_act, compact_apart_act, compress_act, decompress_act}
 use Rattle.jfolders.specs.Commands.{extract_act, listing_act}
 use Rattle.jfolders.specs.Reading.{listing_settings}
-use Rattle.jpacks.specs.Packing.{filling_packed, pack_act}
-use Rattle.jupdates.specs.Commands.{update_act}
+use Rattle.jforetells.specs.Foretelling.{cuts_through_act}
+use Rattle.jpacks.specs.Packing.{filling_packed, pack_act, pack_compressed_act}
+use Rattle.jupdates.specs.Commands.{build_compressed_act, update_act}
 
 -- ---- the act of each command, by what it is given
 
@@ -57,18 +61,41 @@ command_act (command.Damage x) = damage_act x.options x.decompress x.image
 command_act (command.Map m) = map_act m.options m.svg m.image
 command_act (command.Build b) =
     build_act (image_asked b.target.options.endian b.target) b.listing
+command_act (command.BuildCompressed b) =
+    build_compressed_act b.target.options.endian b
 command_act (command.Append a) =
     append_act (image_asked a.target.options.endian a.target) a.decompress a.image a.listing
 command_act (command.Update u) = update_act u.options.endian u
 command_act (command.Cuts c) = cuts_act c.options c.blocks c.page c.on c.listing
+command_act (command.CutsThrough c) = cuts_through_act c.options.endian c
 command_act (command.Decompress c) = decompress_act (remaking_asked None c)
 command_act (command.Apart c) = apart_act (remaking_asked None c)
 command_act (command.Compress c) = compress_act (remaking_asked None c)
 command_act (command.Compact c) =
     compact_act (remaking_asked c.blocks c.conversion) c.blocks
+command_act (command.CompactApart c) =
+    compact_apart_act (remaking_asked c.blocks c.conversion) c.blocks
 command_act (command.Extract x) = extract_act x
 command_act (command.Listing l) = listing_act (listing_settings l.owner l.time) l.quiet l.folder
 command_act (command.Pack p) = pack_act p.options.endian p
+command_act (command.PackCompressed p) = pack_compressed_act p.options.endian p
+
+-- ---- with `--auto`
+
+-- The image is read, what is taken of it is said, and the command does what it does with these
+-- options and `--decompress`, where it has that word. A command that reads no image has no
+-- `--auto`.
+abbrev pub found_act : Option Text → Command Text → Act Told
+found_act None asked = command_act asked
+found_act (Some image) asked = auto_act (writes_image asked) image
+    (λ options. command_act (with_options options asked))
+
+-- the image that options are found in, with `--auto`
+abbrev pub image_looked : Request Text → Option Text
+image_looked request = if request.auto then image_read request.command else None
+
+abbrev pub request_act : Request Text → Act Told
+request_act request = found_act (image_looked request) request.command
 
 -- ---- the words
 
@@ -88,26 +115,27 @@ refused_act (refused.Usage text) = refuses (string_bytes text)
 refused_act refused.OutOfMemory = reported (answers (λ result. result ≡ Err fault.OutOfMemory))
 
 -- what is asked for is done, and its answer told
-abbrev pub asked_act : Result (Command Text) RequestFault → Act Outcome
-asked_act (Ok asked) = reported (command_act asked)
+abbrev pub asked_act : Result (Request Text) RequestFault → Act Outcome
+asked_act (Ok asked) = reported (request_act asked)
 asked_act (Err why) = refused_act why
 
--- The words ask for this command, which is that of clap's matches; or for none. They are answered
+-- The words ask for this request, which is that of clap's matches; or for none. They are answered
 -- by a text on the program only if clap does so, and are wrong only if clap refuses them, or a
 -- value can't be read.
-abbrev pub AsksFor : List Text → Result (Command Text) RequestFault → Type 0
-AsksFor words (Ok asked) = (parsed_from words ≡ Some asked) × IsFaultless words
+abbrev pub AsksFor : List Text → Result (Request Text) RequestFault → Type 0
+AsksFor words (Ok asked) = (request_from words ≡ Some asked) × IsFaultless words
 AsksFor words (Err (refused.Help text)) = IsHelpRequested words
 AsksFor words (Err (refused.Usage text)) = IsRefusedByClap words ⊎ IsUnreadable words
 AsksFor words (Err refused.OutOfMemory) = Unit {0}
 
 -- rule: What is printed: What a run of the program does.
 --   definitions: jffs2_image.Running.run_act, jffs2_image.Running.AsksFor,
---   jffs2_image.Running.asked_act, jffs2_image.Running.command_act
+--   jffs2_image.Running.asked_act, jffs2_image.Running.request_act,
+--   jffs2_image.Running.command_act
 --   code: jffs2_image::program::run, jffs2_image::commands::run_command
 -- The words ask for something, and the host does it.
 pub record run_act (words : List Text) (events : List Event) (result : Result Outcome Fault)
     : Type 0 where
-  pub asked : Result (Command Text) RequestFault
+  pub asked : Result (Request Text) RequestFault
   pub asks : AsksFor words asked
   pub does : asked_act asked events result

@@ -10,16 +10,17 @@ use jcommand::{Command, Outcome};
 use jedge::commands::{run_cat, run_check, run_damage, run_diff, run_info, run_list};
 use jfolders::commands::{run_extract, run_listing};
 use jfolders::host::FolderHost;
+use jforetells::commands::run_cuts_through;
 use jinspects::commands::{run_check_through, run_map};
 use jmakes::commands::{run_append, run_build};
 use jmakes::host::FileHost;
 use jnode::Order;
-use jpacks::commands::run_pack;
+use jpacks::commands::{run_pack, run_pack_compressed};
 use jreads::commands::{run_cuts, run_scan};
 use jreads::files_host::FilesHost;
 use jreads::stream_host::StreamHost;
-use jremakes::commands::{run_apart, run_compact, run_compress, run_decompress};
-use jupdates::commands::run_update;
+use jremakes::commands::{run_apart, run_compact, run_compact_apart, run_compress, run_decompress};
+use jupdates::commands::{run_build_compressed, run_update};
 
 /// Runs a command.
 pub fn run_command<E: Order, H: FileHost + FilesHost + StreamHost + FolderHost>(
@@ -41,17 +42,23 @@ pub fn run_command<E: Order, H: FileHost + FilesHost + StreamHost + FolderHost>(
         Command::Damage(asked) => run_damage::<E, H>(host, asked),
         Command::Map(asked) => run_map::<E, H>(host, asked),
         Command::Build(asked) => run_build::<E, H>(host, asked),
+        Command::BuildCompressed(asked) => run_build_compressed::<E, H>(host, asked),
         Command::Append(asked) => run_append::<E, H>(host, asked),
         Command::Update(asked) => run_update::<E, H>(host, asked),
         Command::Cuts(asked) => run_cuts::<E, H>(host, asked),
+        Command::CutsThrough(asked) => run_cuts_through::<E, H>(host, asked),
         Command::Decompress(asked) => run_decompress::<E, H>(host, remaking(asked, None)),
         Command::Apart(asked) => run_apart::<E, H>(host, remaking(asked, None)),
         Command::Compress(asked) => run_compress::<E, H>(host, remaking(asked, None)),
         Command::Compact(asked) => {
             run_compact::<E, H>(host, remaking(asked.conversion, asked.blocks), asked.blocks)
         }
+        Command::CompactApart(asked) => {
+            run_compact_apart::<E, H>(host, remaking(asked.conversion, asked.blocks), asked.blocks)
+        }
         Command::Extract(asked) => run_extract::<E, H>(host, asked),
         Command::Listing(asked) => run_listing(host, asked),
         Command::Pack(asked) => run_pack::<E, H>(host, asked),
+        Command::PackCompressed(asked) => run_pack_compressed::<E, H>(host, asked),
     }
 }

@@ -1,18 +1,80 @@
 //! The program on its words: they ask for something, and the host does it.
-ghost use Rattle.std.specs.Prelude.{Ok, map};
+ghost use Rattle.std.specs.Prelude.{◌≡◌, Ok, map, option_map};
+ghost use Rattle.jauto.specs.Looking.{auto_act};
+ghost use Rattle.jcommand.specs.Parsed.{command_view};
+ghost use Rattle.jcommand.specs.Requests.{request_view, with_options, writes_image};
 ghost use Rattle.jedge.specs.Acts.{DoesFrom};
-ghost use Rattle.jffs2_image.specs.Running.{run_act};
+ghost use Rattle.jedge.specs.Commands.{reported};
+ghost use Rattle.jffs2_image.specs.Running.{command_act, image_looked, request_act, run_act};
 
 use crate::commands::run_command;
 use crate::words::answer_refused;
 use byteorder::{BigEndian, LittleEndian};
-use jcommand::{Outcome, asked};
+use jauto::look;
+use jcommand::{Command, Outcome, Request, asked};
 use jedge::host::Host;
+use jedge::reporting::report;
 use jfolders::host::FolderHost;
 use jmakes::host::FileHost;
 use jnode::Endian;
 use jreads::files_host::FilesHost;
 use jreads::stream_host::StreamHost;
+
+/// Runs a command in its byte order.
+fn run_given<H: FileHost + FilesHost + StreamHost + FolderHost>(
+    host: &mut H,
+    command: Command<&str>,
+) -> Outcome
+    ensures { DoesFrom (H.history host.old) (H.history host.new)
+        (reported (command_act (command_view command.entry))) (Ok result) }
+{
+    match command.endian() {
+        Endian::Little => run_command::<LittleEndian, H>(host, command),
+        Endian::Big => run_command::<BigEndian, H>(host, command),
+    }
+}
+
+/// Runs a command with the options that are found in the image of a name.
+fn run_found<H: FileHost + FilesHost + StreamHost + FolderHost>(
+    host: &mut H,
+    command: Command<&str>,
+    image: &str,
+) -> Outcome
+    ensures { DoesFrom (H.history host.old) (H.history host.new)
+        (reported (auto_act (writes_image (command_view command.entry)) image.now
+        (λ options. command_act (with_options options (command_view command.entry)))))
+        (Ok result) }
+{
+    match look(host, image, command.writes_image()) {
+        Ok(options) => run_given(host, command.with_options(options)),
+        Err(fault) => report(host, Err(fault)),
+    }
+}
+
+/// The image that options are found in, with `--auto`.
+fn image_looked<'a>(request: &Request<&'a str>) -> Option<&'a str>
+    ensures { option_map (λ n. n.now) result ≡ image_looked (request_view request.now) }
+{
+    if request.auto {
+        request.command.image()
+    } else {
+        None
+    }
+}
+
+/// Runs a command, with the options that it is given or with those that are found in its image.
+fn run_request<H: FileHost + FilesHost + StreamHost + FolderHost>(
+    host: &mut H,
+    request: Request<&str>,
+) -> Outcome
+    ensures { DoesFrom (H.history host.old) (H.history host.new)
+        (reported (request_act (request_view request.entry))) (Ok result) }
+{
+    match image_looked(&request) {
+        Some(image) => run_found(host, request.command, image),
+        None => run_given(host, request.command),
+    }
+}
 
 /// Runs the program on its words, of which the first is its own name.
 pub fn run<H: FileHost + FilesHost + StreamHost + FolderHost>(
@@ -23,10 +85,7 @@ pub fn run<H: FileHost + FilesHost + StreamHost + FolderHost>(
         (run_act (map (λ w. w.now) args.now)) (Ok result) }
 {
     match asked(host.alloc(), args) {
-        Ok(command) => match command.endian() {
-            Endian::Little => run_command::<LittleEndian, H>(host, command),
-            Endian::Big => run_command::<BigEndian, H>(host, command),
-        },
+        Ok(request) => run_request(host, request),
         Err(fault) => answer_refused(host, fault),
     }
 }
