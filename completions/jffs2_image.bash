@@ -3,24 +3,24 @@
 
 # The options of a command, or of the program if there is no command.
 _jffs2_image_options() {
-    local plain='-e --block --endian -l --little-endian -b --big-endian' write='--blocks --page' place='--pad --atomic' help='-h --help'
+    local plain='-e --block --endian -l --little-endian -b --big-endian' auto='-a --auto' write='--blocks --page' place='--pad --atomic' help='-h --help'
     case $1 in
-        check) echo "$plain --scan --shape --decompress $help" ;;
-        ls | cat) echo "$plain --decompress $help" ;;
-        build) echo "$plain $write --weak $place $help" ;;
-        append) echo "$plain $write --weak $place --decompress $help" ;;
-        update) echo "$plain $write --plain --tail $place $help" ;;
-        decompress) echo "$plain --clashes --atomic --force $help" ;;
-        compress) echo "$plain --atomic --force $help" ;;
-        compact) echo "$plain --blocks $place --force $help" ;;
-        extract) echo "$plain --decompress --owners --quiet $help" ;;
+        check) echo "$plain $auto --scan --shape --decompress $help" ;;
+        ls | cat) echo "$plain $auto --decompress $help" ;;
+        build) echo "$plain $write --weak --compress $place $help" ;;
+        append) echo "$plain $auto $write --weak $place --decompress $help" ;;
+        update) echo "$plain $auto $write --plain --tail $place $help" ;;
+        decompress) echo "$plain $auto --clashes --atomic --force $help" ;;
+        compress) echo "$plain $auto --atomic --force $help" ;;
+        compact) echo "$plain $auto --blocks --clashes $place --force $help" ;;
+        extract) echo "$plain $auto --decompress --owners --quiet $help" ;;
         listing) echo "--owner --time --quiet $help" ;;
         info) echo "$help" ;;
-        cuts) echo "$plain $write --on $help" ;;
-        diff) echo "$plain --decompress --times $help" ;;
-        damage) echo "$plain --decompress $help" ;;
-        map) echo "$plain --svg $help" ;;
-        pack) echo "$plain $write --weak $place --owner --time --quiet $help" ;;
+        cuts) echo "$plain $auto $write --on --compress --decompress $help" ;;
+        diff) echo "$plain $auto --decompress --times $help" ;;
+        damage) echo "$plain $auto --decompress $help" ;;
+        map) echo "$plain $auto --svg $help" ;;
+        pack) echo "$plain $write --weak --compress $place --owner --time --quiet $help" ;;
         '') echo "$help -V --version" ;;
     esac
 }

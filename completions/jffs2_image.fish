@@ -41,12 +41,15 @@ complete -c jffs2_image -n '__jffs2_image_in check ls cat build append update de
     -s l -l little-endian -d 'The same as --endian little'
 complete -c jffs2_image -n '__jffs2_image_in check ls cat build append update decompress compress compact extract cuts diff damage map pack' \
     -s b -l big-endian -d 'The same as --endian big'
+complete -c jffs2_image -n '__jffs2_image_in check ls cat append update decompress compress compact extract cuts diff damage map' \
+    -s a -l auto -d 'Find both in the image'
 complete -c jffs2_image -n '__jffs2_image_in build append update compact cuts pack' -l blocks -x -d 'Number of blocks'
 complete -c jffs2_image -n '__jffs2_image_in build append update cuts pack' -l page -x \
     -a '4096 8192 16384' -d 'Largest piece of a file in one node'
-complete -c jffs2_image -n '__jffs2_image_in check ls cat append extract diff damage' -l decompress \
+complete -c jffs2_image -n '__jffs2_image_in check ls cat append extract cuts diff damage' -l decompress \
     -d 'Take it as decompress writes it'
 complete -c jffs2_image -n '__jffs2_image_in build append pack' -l weak -d 'Note the weak nodes'
+complete -c jffs2_image -n '__jffs2_image_in build cuts pack' -l compress -d 'Compress nodes if they become shorter'
 complete -c jffs2_image -n '__jffs2_image_in build append update compact pack' -l pad -d 'Fill OUT with 0xFF'
 complete -c jffs2_image -n '__jffs2_image_in build append update decompress compress compact pack' -l atomic \
     -d 'Replace an old OUT only if all goes well'
@@ -62,9 +65,9 @@ complete -c jffs2_image -n '__jffs2_image_in check' -l shape -d 'Whether the dir
 complete -c jffs2_image -n '__jffs2_image_in update' -l plain -d 'Do not compress new nodes'
 complete -c jffs2_image -n '__jffs2_image_in update' -l tail -d 'Write into begun blocks too'
 complete -c jffs2_image -n '__jffs2_image_in map' -l svg -d 'One SVG picture'
-complete -c jffs2_image -n '__jffs2_image_in cuts' -l on -r -d 'Image to go on from, as append does'
+complete -c jffs2_image -n '__jffs2_image_in cuts' -l on -r -d 'Image to go on from'
 complete -c jffs2_image -n '__jffs2_image_in extract' -l owners -d 'Set the owners of the image'
-complete -c jffs2_image -n '__jffs2_image_in decompress' -l clashes -x -a higher \
+complete -c jffs2_image -n '__jffs2_image_in decompress compact' -l clashes -x -a higher \
     -d 'If nodes clash, keep one by its address'
 complete -c jffs2_image -n '__jffs2_image_in diff' -l times -d 'Compare times of change too'
 
