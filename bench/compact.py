@@ -7,8 +7,8 @@ of each one that was used: each inode node and each entry stands twice, the seco
 greater version, so half of the nodes are superseded. It runs `compact` and `check --decompress`, which
 reads each node's content once, on both, one after the other. `compact` has to keep half of the nodes
 of the image that was used. It prints the least processor time of each over the runs, the ratio (aim:
-1.3), the memory over the image's length, and the length of OUT over that of mkfs.jffs2. Needs
-mtd-utils. The program is the one that `rt run` built here, or in CRATES; where CRATES is a file, that
+1.3), the memory over the image's length, and the length of OUT beside that of mkfs.jffs2 of the same
+tree. Needs mtd-utils. The program is the one that `rt run` built here, or in CRATES; where CRATES is a file, that
 program.
 """
 import os
@@ -91,7 +91,8 @@ def compare(image, kept, nodes, whole):
     print(
         f"{os.path.basename(image):14} compact {first:6.3f} s, check --decompress {second:6.3f} s:"
         f" {first / second:5.2f} times; {over:6.1f} MiB over the image;"
-        f" OUT {os.path.getsize(out) / whole:5.3f} of mkfs.jffs2; {line.strip()}",
+        f" OUT {os.path.getsize(out)} bytes, mkfs.jffs2 {whole}: {os.path.getsize(out) / whole:5.3f} times;"
+        f" {line.strip()}",
         flush=True,
     )
     os.remove(out)

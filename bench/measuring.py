@@ -75,3 +75,14 @@ def random_tree(folder, count, length):
         os.makedirs(inside, exist_ok=True)
         with open(os.path.join(inside, f"f{number:05}"), "wb") as out:
             out.write(chance.randbytes(length))
+
+
+def mixed_tree(folder, count, length):
+    """Makes such a tree of text and of machine code in turn, each file from another place. The same numbers make the same bytes."""
+    sources = [source * (1 + length // len(source)) for source in (documents(), machine_code())]
+    for number in range(count):
+        inside, source = os.path.join(folder, f"d{number // 100:03}"), sources[number % 2]
+        os.makedirs(inside, exist_ok=True)
+        start = number * 77777 % (len(source) - length + 1)
+        with open(os.path.join(inside, f"f{number:05}"), "wb") as out:
+            out.write(source[start : start + length])

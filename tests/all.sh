@@ -63,7 +63,9 @@ tests/clashes.py $program
 tests/compact.py $program
 tests/map.py $program
 tests/update.py $program
+tests/cuts_through.py $program
 tests/damage.py $program
+tests/retry.py $program
 tests/diff.py $program
 tests/placing.sh $program
 tests/listings.py $program

@@ -5,7 +5,8 @@ Usage: tests/compact.py [PROGRAM]. Entries and inode nodes of few numbers, versi
 twins, deletions, hard links, rings, damage, dead nodes and extended attributes, in both orders: what is printed, what stands on
 standard error, the status, and each byte of OUT are those of tests/compact_model.py. By the model OUT shows the same tree, has no
 finding and no name without an object, and another node in the place of any of its nodes makes another tree; by the program `diff`
-of the two has no line, and OUT is compact. Then what refuses an image, the blocks of the flash, and OUT that is IMAGE. The last
+of the two has no line, and OUT is compact. The same with `--clashes higher` of images of which nodes clash, for the nodes that stay;
+where none do, it is as without these words. Then what refuses an image, the blocks of the flash, and OUT that is IMAGE. The last
 line is 'N passed, M failed'.
 """
 import os
@@ -13,6 +14,7 @@ import random
 import subprocess
 import sys
 
+import clashes
 import compact_model as model
 import compressed_images as images
 import decompress_model
@@ -21,17 +23,19 @@ from groups import BLOCK, ORDERS, PROGRAM, ROOT, options_of, read, run, run_all,
 
 FOLDER = images.DIRECTORY
 METHODS = (None, None, images.RTIME, images.ZLIB, images.LZO, images.LZMA)
+HIGHER = ("--clashes", "higher")
 
 
 # ---- what is made
 
 def is_as_model(image, order, size=BLOCK, words=(), blocks=None):
     """Whether the program does of an image what the model says, and what the model makes."""
+    apart = tuple(words[:2]) == HIGHER
     write("image", image)
     if os.path.exists("out"):
         os.remove("out")
     status, told, said = run("compact", *options_of(order, size), *words, "image", "out")
-    made, fault = model.compact(image, size, order, blocks)
+    made, fault = model.compact(image, size, order, blocks, apart)
     if made is None:
         right = (status, told) == (1, "") and said.startswith(f"jffs2_image: {fault}\n")
         return right and not os.path.exists("out"), None
@@ -40,9 +44,11 @@ def is_as_model(image, order, size=BLOCK, words=(), blocks=None):
     return right and read("out") == made.image, made
 
 
-def is_right(image, order, made, size=BLOCK):
-    """Whether the same tree is in what was made, by the model and by the program, and nothing else."""
-    before, _ = model.nodes_through(image, size, order)
+def is_right(image, order, made, size=BLOCK, apart=False):
+    """Whether the same tree is in what was made, by the model and by the program, and nothing else; of the nodes that stay, where
+    these are to be apart."""
+    found, _ = model.nodes_through(image, size, order, apart)
+    before = model.parted(found)[0] if apart else found
     after, fault = model.nodes_through(made.image, size, order)
     _, nodes, _, noted = hostile_model.report(made.image, size, order)
     others = [what for _, what, _ in nodes if what not in (*model.KINDS, "marker")]
@@ -52,7 +58,7 @@ def is_right(image, order, made, size=BLOCK):
     again = run("compact", *options_of(order, size), "out", "again")
     told = f"compacted {made.kept} of {made.kept} nodes bytes {len(made.image)}\n"
     compact = again == (0, told, "") and read("again") == made.image
-    same = run("diff", "--decompress", "--times", *options_of(order, size), "image", "out")[1] == ""
+    same = made.left or run("diff", "--decompress", "--times", *options_of(order, size), "image", "out")[1] == ""
     return whole and not noted and not others and compact and same
 
 
@@ -103,7 +109,8 @@ def dead(make, node):
     return node[:2] + make.number(kind)[{"<": slice(2), ">": slice(2, 4)}[make.order]] + node[4:]
 
 
-def random_image(seed):
+def random_image(seed, twice=0.03):
+    """Nodes of a few objects, with this chance for each that two of them are of one version."""
     chance = random.Random(f"compact {seed}")
     order = "<>"[seed % 2]
     make = images.Maker(order)
@@ -111,7 +118,7 @@ def random_image(seed):
     nodes = list(entries(chance, make, numbers))
     for ino in numbers:
         versions = chance.sample(range(1, 30), chance.randrange(0, 6))
-        versions += versions[:1] if chance.random() < 0.03 else []
+        versions += versions[:1] if chance.random() < twice else []
         nodes += own_nodes(chance, make, ino, versions)
     chance.shuffle(nodes)
     nodes += others(chance, make, nodes)
@@ -136,6 +143,33 @@ def try_image(about, image, order, size=BLOCK, each=True):
 def random_images():
     count = sum(try_image(f"random image {seed}", *random_image(seed)) for seed in range(250))
     verdict(f"most random images are compacted: {count}", count > 180)
+
+
+def try_apart(about, image, order):
+    """The same of an image of which nodes may clash."""
+    right, made = is_as_model(image, order, BLOCK, HIGHER)
+    verdict(f"{about}: what is printed and written apart", right)
+    if not made:
+        return 0
+    verdict(f"{about}: the tree of what stays", right and is_right(image, order, made, BLOCK, True))
+    verdict(f"{about}: each node that stays", not list(model.needless(model.nodes_through(made.image, BLOCK, order)[0])))
+    return bool(made.left)
+
+
+def apart():
+    """Images of which nodes clash; and others, of which the same goes out as without `--clashes higher`."""
+    count = sum(try_apart(f"parted image {seed}", *random_image(seed, 0.5)) for seed in range(120))
+    for seed in range(120):
+        order = "<>"[seed % 2]
+        count += try_apart(f"clashing image {seed}", clashes.image_of(random.Random(f"apart {seed}"), order), order)
+    verdict(f"many images are compacted without nodes that clash: {count}", count > 60)
+    for seed in range(40):
+        image, order = random_image(seed, 0)
+        write("image", image)
+        plain = run("compact", *options_of(order), "image", "out")
+        written = read("out") if plain[0] != 1 else b""
+        again = run("compact", *options_of(order), *HIGHER, "image", "other")
+        verdict(f"random image {seed}: nothing clashes", plain == again and (plain[0] == 1 or written == read("other")))
 
 
 def soups():
@@ -267,4 +301,4 @@ def many():
 
 
 if __name__ == "__main__":
-    sys.exit(run_all((rows, random_images, soups, all_kinds, by_others, flashes, files, many)))
+    sys.exit(run_all((rows, random_images, apart, soups, all_kinds, by_others, flashes, files, many)))

@@ -1,5 +1,5 @@
 """What `compact` prints and writes of an image, by docs/FORMAT.md: which nodes matter, each pair of
-them against each other.
+them against each other; and with `--clashes higher` which nodes stay.
 
 Tiles, nodes and trees are those of hostile_model.py, and the contents of compressed nodes those of
 decompress_model.py. It shares no code with the program, and is slow.
@@ -12,7 +12,7 @@ import hostile_model as model
 # a node: its address, its bytes up to whole words, whether it is an entry or an inode node, and
 # what it holds when it is expanded
 Node = collections.namedtuple("Node", "at tile what held")
-Compacted = collections.namedtuple("Compacted", "kept nodes image findings attributes")
+Compacted = collections.namedtuple("Compacted", "kept nodes image findings attributes left")
 KINDS = expanding.KINDS
 
 
@@ -40,8 +40,9 @@ def clash_of(nodes, node):
     return any(n.what == node.what and model.key(n.what, n.held) == own and n.held != node.held for n in nodes)
 
 
-def nodes_through(image, size, order):
-    """The nodes of an image through its compression, and the fault of least address in their place."""
+def nodes_through(image, size, order, apart=False):
+    """The nodes of an image through its compression, and the fault of least address in their place: a clash too, unless the nodes
+    are to be parted."""
     nodes = []
     for at, tile, head in tiles_of(image, size, order):
         what, held = model.seen(tile, head, order) if head else (None, None)
@@ -49,10 +50,22 @@ def nodes_through(image, size, order):
             return None, fault
         if what in KINDS:
             node = Node(at, tile, *expanding.expanded(what, held))
-            if clash_of(nodes, node):
+            if not apart and clash_of(nodes, node):
                 return None, f"M5 Clash at {at:08x}"
             nodes.append(node)
     return nodes, None
+
+
+def parted(nodes):
+    """The nodes that stay, and of each other one its address and the highest of one that clashes with it."""
+    stay, left = [], []
+    for node in nodes:
+        above = [n.at for n in nodes if n.at > node.at and clash_of([n], node)]
+        if above:
+            left.append((node.at, max(above)))
+        else:
+            stay.append(node)
+    return stay, left
 
 
 def plain(nodes):
@@ -122,15 +135,16 @@ def is_written(size, blocks):
     return expanding.WRITING <= size <= 4194304 and 0 < blocks * size <= expanding.GREATEST_IMAGE
 
 
-def compact(image, size=65536, order="<", blocks=None):
-    """What `compact` makes of an image, and the fault in place of it."""
+def compact(image, size=65536, order="<", blocks=None, apart=False):
+    """What `compact` makes of an image, and the fault in place of it; where it is to be apart, that of `--clashes higher`."""
     if expanding.has_no_node(image, size, order):
         return None, "I1 NoNodes"
     if size not in expanding.READING:
         return None, "M1 BlockSize"
-    nodes, fault = nodes_through(image, size, order)
+    found, fault = nodes_through(image, size, order, apart)
     if fault:
         return None, fault
+    nodes, left = parted(found) if apart else (found, [])
     if not is_folder(model.tree(plain(nodes))[0], 1):
         return None, "M6 RootKind"
     seen = [model.seen(tile, head, order)[0] for _, tile, head in tiles_of(image, size, order) if head]
@@ -144,7 +158,7 @@ def compact(image, size=65536, order="<", blocks=None):
         return None, fault
     out = expanding.laid([node.tile for node in kept], size, order)
     _, _, _, findings = model.report(image, size, order)
-    return Compacted(len(kept), len(nodes), out, findings, seen.count("attribute")), None
+    return Compacted(len(kept), len(found), out, findings, seen.count("attribute"), left), None
 
 
 def line_of(made):
@@ -154,6 +168,7 @@ def line_of(made):
 
 def notes_of(made):
     """The lines on standard error."""
+    yield from (f"left out {at:08x}: clashes with {by:08x}" for at, by in made.left)
     if made.findings:
         word = "finding" if made.findings == 1 else "findings"
         yield f"jffs2_image: note: {made.findings} {word}, see check --scan; a wrong --block or --endian shows as findings too, see info"

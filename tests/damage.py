@@ -1,7 +1,8 @@
 #!/usr/bin/env python3
 """Flips a bit in each byte of small images, and compares what `damage` of the finished program tells with what `diff` tells.
 
-Usage: tests/damage.py [PROGRAM]. Three images, in both orders. Of each byte that is flipped: a node of damaged data hides exactly
+Usage: tests/damage.py [PROGRAM]. Three images, in both orders, and with --decompress three of mkfs.jffs2 (tests/data), each of
+another method, to which nodes are added that cover others. Of each byte that is flipped: a node of damaged data hides exactly
 the paths at which `diff` of the two images has a line, or nothing where it has none; a damaged name is told by its fields, as the
 report of the sound image has them; any other damaged node is unknown; what is no part of a node, or was its header, is not told.
 The names without objects are as many as `check` has. Then images with many damaged nodes of few files, with many names of one, and
@@ -14,8 +15,11 @@ import re
 import sys
 
 import compressed_images as images
-from groups import PROGRAM, run_all, verdict, write
+import decompress_model
+import hostile_model
+from groups import PROGRAM, ROOT, run_all, verdict, write
 
+import os
 import subprocess
 
 LISTINGS = (
@@ -38,8 +42,17 @@ def nodes_of(name, options):
     for line in run("check", "--scan", *options, name).stdout.decode().splitlines():
         found = re.match(r"([0-9a-f]{8}) (entry|inode) (\d+) (.*)", line)
         if found:
-            nodes.append((int(found[1], 16), found[2], int(found[3]), found[4]))
+            nodes.append((int(found[1], 16), found[2], length_of(found[2], found[4]), found[4]))
     return nodes
+
+
+def packed_nodes_of(image, order):
+    """The same by the model, of compressed nodes too: their fields as those of any other, and the length that they have."""
+    for at, what, held in hostile_model.report(image, 8192, order)[1]:
+        if what in decompress_model.KINDS:
+            plain, fields = decompress_model.expanded(what, held)
+            length = 68 + len(held[2]) if what == "compressed" else decompress_model.length_of(what, held)
+            yield at, plain, length, hostile_model.told(at, length, plain, fields).split(" ", 3)[3]
 
 
 def changed_paths(before, after, options):
@@ -62,15 +75,14 @@ def length_of(kind, line):
 
 def wanted_of(place, nodes):
     """What is damaged where this byte is flipped: the node's address, and the check that it fails."""
-    for addr, kind, _, line in nodes:
+    for addr, kind, length, line in nodes:
         at = place - addr
-        if not 0 <= at < length_of(kind, line):
+        if not 0 <= at < length:
             continue
         if at < 12:
             return None
         if kind == "inode" and (at >= 68 or 60 <= at < 64):
-            data = int(re.search(r" data (\d+) ", line)[1])
-            return (addr, "data-crc", line) if data else None
+            return (addr, "data-crc", line) if length > 68 else None
         if kind == "entry" and at >= 36:
             return (addr, "name-crc", line)
         return (addr, "node-crc", line)
@@ -127,6 +139,33 @@ def flips(number, order):
         verdict(f"image {number} {order}, byte {place}: {told}", right and counted and status)
 
 
+def is_counted(told, flipped, order, done):
+    """Whether the names without an object are told, the findings noted, and the status is right, by the model."""
+    nodes, fault = decompress_model.through(flipped, 8192, order)
+    objects, names = hostile_model.tree(nodes)
+    dangling = sum(ino not in objects for held in names.values() for _, ino in held)
+    missing = [line for line in told if line.startswith("missing ")]
+    found = hostile_model.report(flipped, 8192, order)[3]
+    counted = not fault and len(missing) == dangling and told[-1:] == [total_of(told)]
+    return counted and done.returncode == (3 if found or len(told) > 1 else 0) and noted(done.stderr) == found
+
+
+def packed_flips(method, order):
+    """The same with --decompress, of an image of mkfs.jffs2, in which no node covers another one."""
+    options = ["--decompress", "--block", "8192", "--endian", "little" if order == "<" else "big"]
+    with open(os.path.join(ROOT, "tests", "data", f"small_{method}.hex"), encoding="ascii") as file:
+        sound = bytes.fromhex(file.read())
+    write("sound.img", sound)
+    nodes = list(packed_nodes_of(sound, order))
+    for place, byte in enumerate(sound):
+        flipped = sound[:place] + bytes((byte ^ 1 << place % 8,)) + sound[place + 1 :]
+        write("flipped.img", flipped)
+        done = run("damage", *options, "flipped.img")
+        told = done.stdout.decode().splitlines()
+        right = is_right(place, nodes, told, changed_paths("sound.img", "flipped.img", options))
+        verdict(f"{method}, byte {place}: {told}", right and is_counted(told, flipped, order, done))
+
+
 def total_of(told):
     damaged = {line[:8] for line in told if not line.startswith(("missing ", "total "))}
     more = (re.fullmatch(r".* and (\d+) more paths", line) for line in told)
@@ -142,6 +181,12 @@ def little_images():
 
 def big_image():
     flips(2, "big")
+
+
+def packed_images():
+    packed_flips("zlib", "<")
+    packed_flips("rtime", ">")
+    packed_flips("lzo", "<")
 
 
 def damaged_at(node):
@@ -314,4 +359,4 @@ def tangled_images():
 
 
 if __name__ == "__main__":
-    sys.exit(run_all((little_images, big_image, crowded_images, named_images, ring_images, tangled_images)))
+    sys.exit(run_all((little_images, big_image, packed_images, crowded_images, named_images, ring_images, tangled_images)))

@@ -9,7 +9,7 @@ data=$top/tests/data
 # method_note METHOD: the note on an image with data of a method that is read
 method_note() {
     printf 'jffs2_image: note: the image is compressed (%s); decompress writes one that is not, ' "$1"
-    printf 'without damaged nodes; ls, cat, extract, diff, damage and append take --decompress'
+    printf 'without damaged nodes; ls, cat, check, extract, diff, damage, cuts and append take --decompress'
 }
 note=$(method_note zlib)
 methods=([2]=rtime [6]=zlib [7]=lzo [8]=lzma)

@@ -99,10 +99,10 @@ for words in --help "check --help"; do
     [[ $bad == 0 ]] || echo "FAILED: one line feed ends $line"
 done
 
-line="the lines of help, 84 columns wide at most"
+line="the lines of help, 80 columns wide at most"
 for words in --help "check --help" "ls --help" "cat --help" "build --help" "append --help" "update --help" "decompress --help" "compress --help" "compact --help" "extract --help" "listing --help" "info --help" "cuts --help" "diff --help" "damage --help" "map --help" "pack --help"; do
     "$program" $words > out
-    awk 'length > 84 { print; wide = 1 } END { exit wide }' out
+    awk 'length > 80 { print; wide = 1 } END { exit wide }' out
     count $?
 done
 
@@ -1193,12 +1193,87 @@ block_of() {
 }
 jffs2_image() { "$program" "$@"; }
 mkdir power_cuts
-for block in 1 2 3 4 5 6; do
+for block in 1 2 3 4 5 6 7; do
     line="docs/POWER-CUTS.md, commands $block"
     (cd power_cuts && set -e && eval "$(block_of sh $block)") > out 2> err; got=$?
     want 0 "$(block_of text $block)" "*"
 done
-line="docs/POWER-CUTS.md has six blocks of commands on cuts, the last of two lines"
-got="$(block_of sh 6 | wc -l) $(block_of sh 7 | wc -l)"; want "2 0" "*" "*"
+line="docs/POWER-CUTS.md has seven blocks of commands on cuts, the last of four lines"
+got="$(block_of sh 7 | wc -l) $(block_of sh 8 | wc -l)"; want "4 0" "*" "*"
+
+# ---- Options that the image shows
+
+known=$top/tests/data
+# shows NOTE OPTIONS COMMAND WORD..: with --auto the output, the status and the notes are those with these options, behind the
+# note on what was taken
+shows() {
+    local note="jffs2_image: note: $1" options=$2 command=$3 status differs
+    shift 3
+    run "$command" $options "$@"
+    status=$got
+    mv out out.given
+    { echo "$note"; cat err; } > err.given
+    run "$command" --auto "$@"
+    cmp -s out out.given && cmp -s err err.given && [[ $got == "$status" ]]
+    differs=$?
+    count $differs
+    [[ $differs == 0 ]] || echo "FAILED: $line"
+}
+little="little-endian, blocks of 8192"
+for words in "check" "check --shape" "ls" "damage"; do
+    shows "$little" "--block 8192 --decompress" $words "$known/default.img"
+done
+shows "$little" "--block 8192 --decompress" ls "$known/default.img" /etc
+shows "$little" "--block 8192 --decompress" cat "$known/default.img" /etc/passwd
+shows "$little" "--block 8192 --decompress" cat "$known/default.img" /none
+shows "$little" "--block 8192 --decompress" diff "$known/default.img" "$known/rtime.img"
+shows "$little" "--block 8192" check --scan "$known/default.img"
+shows "$little" "--block 8192" map "$known/default.img"
+for command in ls check damage; do
+    shows "big-endian, blocks of 4194304" "--block 4194304 --endian big --decompress" $command "$known/lzo.img"
+done
+lines auto.txt "mkdir 0755 /auto"
+shows "$little" "--block 8192 --decompress" cuts --blocks 8 --on "$known/default.img" auto.txt
+# made WORD..: the same of a command that writes OUT, which comes last
+made() {
+    run "$@" --block 8192 "$known/default.img" made.given
+    run "$@" -a "$known/default.img" made.auto
+    want "$got" "*" "jffs2_image: note: $little*"
+    cmp -s made.given made.auto; count $?
+}
+for command in decompress compress compact; do made $command; done
+run append --blocks 8 --block 8192 --decompress "$known/default.img" auto.txt made.given
+run append --blocks 8 --auto "$known/default.img" auto.txt made.auto; want "$got" "accepted *" "jffs2_image: note: $little*"
+cmp -s made.given made.auto; count $?
+run extract --auto --quiet "$known/default.img" extracted_auto
+want 3 "" "jffs2_image: note: $little"$'\n*'
+# Where an image is written one size alone has to fit.
+unclear="jffs2_image: note: big-endian, block size unknown; give --block"
+for command in decompress compress compact; do
+    run $command --auto "$known/lzo.img" unclear.img
+    want 1 "" "$unclear"$'\n'"jffs2_image: M1 BlockSize$block_note"
+    [[ ! -e unclear.img ]]; count $?
+done
+run update -a "$known/lzo.img" auto.txt unclear.img
+want 1 "" "$unclear"$'\n'"jffs2_image: M1 BlockSize$block_note"
+# Without a node nothing is taken.
+bytes 1f 8b 08 00 > zipped
+nothing=$'jffs2_image: I1 NoNodes\njffs2_image: '"$no_node"
+run ls --auto empty; want 1 "" "$nothing"
+run ls --auto block; want 1 "" "$nothing"
+run ls --auto zipped; want 1 "" $'jffs2_image: note: the file begins as gzip does\n'"$nothing"
+run diff --auto zipped "$tree"; want 1 "" $'jffs2_image: note: the file begins as gzip does\n'"$nothing"
+run ls --auto none; want 1 "" "$(unopened none)"
+run ls --auto folder; want 1 "" "$(unread folder)"
+run ls --auto larger; want 1 "" "jffs2_image: L2 TooLarge"
+# Beside it nothing is given that it takes, and it wants an image.
+for words in "--block 8192" "-e 8K" "--endian little" "-l" "-b" "--decompress" "--block x"; do
+    run ls --auto $words "$tree"
+    want 2 "" "error: invalid value '--auto' for '*': wanted one of the two*For more information, try 'jffs2_image ls --help'."
+done
+run cuts --auto --blocks 1 auto.txt; want 2 "" "error: invalid value '--auto' for '--on <IMAGE>': wanted an image*"
+for words in "build --blocks 1" "pack" "listing" "info"; do
+    run $words --auto a b; want 2 "" "error: unexpected argument '--auto' found*"
+done
 
 finish

@@ -274,7 +274,7 @@ same "what listing prints" "$found" "$wanted"
 
 ln -s "$top/tests/data" dumps
 gives 1 "jffs2_image: M4 Compressed at 0000018c compr 6
-jffs2_image: note: the image is compressed (zlib); decompress writes one that is not, without damaged nodes; ls, cat, extract, diff, damage and append take --decompress" \
+jffs2_image: note: the image is compressed (zlib); decompress writes one that is not, without damaged nodes; ls, cat, check, extract, diff, damage, cuts and append take --decompress" \
     ls --block 8192 dumps/default.img
 gives 0 "decompressed 7 nodes 29 bytes 30168" decompress --block 8192 dumps/default.img plain.img
 found=$(jffs2_image check --block 8192 plain.img)

@@ -102,7 +102,7 @@ def verb_faults():
     """Looks for each first word of a line of a listing where users read of it. Returns how many are
     there, and the faults."""
     forms = text_of("crates", "jlisting", "src", "forms.rt")
-    verbs = re.findall(r"^pub fn read_(\w+)<", forms, re.M)
+    verbs = [it.replace("_", "-") for it in re.findall(r"^pub fn read_(\w+)<", forms, re.M)]
     places = {
         "docs/jffs2_image.5": r"^\.It Li {} Ar",
         "docs/FORMAT.md": r"`{}[` ]",

@@ -1,11 +1,12 @@
 #!/usr/bin/env python3
-"""Runs `update` on images with blank blocks anywhere, against a model.
+"""Runs `update` on images with blank blocks anywhere, and `build` and `pack` --compress, against a model.
 
 Usage: tests/update.py [PROGRAM]. Images of `build`, `compress` and mkfs.jffs2, whose blocks are put into another order with blank
 ones between them, take the lines of listings, in both orders, with --plain and with --tail. Each byte of IMAGE stays that is not
 in a blank block (with --tail: nor in the rest of a begun one); each new node stands where tests/update_model.py says; OUT shows
 the file system of the plain model of tests/cuts.py, and so does what is left after a stop behind each node and one byte before
-it. Then thirty updates one after another, what is refused, and what OUT is then. The last line is 'N passed, M failed'.
+it. Then thirty updates one after another, what is refused, and what OUT is then. `build --compress` and `pack --compress` write the
+nodes that `build` and `pack` write, in their order, some of them compressed. The last line is 'N passed, M failed'.
 """
 import os
 import random
@@ -214,6 +215,110 @@ def thirty():
     verdict("each takes a block without --tail, until none is blank", full)
 
 
+# ---- build and pack --compress
+
+def row_of(image, size=BLOCK):
+    """All blocks of an image, as an empty flash has them."""
+    return [(number, 0) for number in range(-(-len(image) // size))]
+
+
+def files_of(image, words):
+    """The lines of `ls` of an image, and the bytes of each of its files."""
+    lines = run("ls", "--decompress", *words, image)[1].splitlines()
+    paths = [line.split(" ", 7)[7] for line in lines if line.startswith("- ")]
+    cat = lambda path: subprocess.run([PROGRAM, "cat", "--decompress", *words, image, path], capture_output=True, check=False).stdout
+    return lines, [cat(path) for path in paths]
+
+
+def try_compressed(about, order, command, *words, size=BLOCK):
+    """Runs `build` or `pack` twice, without and with --compress. Answers the image with compressed nodes, and these nodes."""
+    plainly = run(command, *options_of(order, size), *words, "plain")
+    told = run(command, "--compress", *options_of(order, size), *words, "packed")
+    plain, packed = read("plain"), read("packed")
+    own = list(model.nodes_in(plain, row_of(plain, size), size, order))
+    nodes = list(model.nodes_in(packed, row_of(packed, size), size, order))
+    line = plainly[1].rpartition(" ")[0] + f" {put_bytes(nodes, size)}\n"
+    verdict(f"{about}: what is told", told == (0, line, "") and plainly[0] == 0)
+    verdict(f"{about}: the nodes", model.expansions(packed, size, order) == [data for *_, data in own])
+    packs = [node for node, other in zip(nodes, own) if node[2] != other[2]]
+    shorter = all(node[2] == other[2] or hostile_model.pad4(node[1]) < hostile_model.pad4(other[1]) for node, other in zip(nodes, own))
+    verdict(f"{about}: forms", shorter and all(is_packed(node, order) and node[1] != 6533 for node in packs))
+    wanted = list(model.places(row_of(packed, size), [length for _, length, _ in nodes], size))
+    verdict(f"{about}: places", [address for address, _, _ in nodes] == wanted)
+    verdict(f"{about}: each byte", packed == model.with_nodes(b"", nodes, size, order))
+    return packed, nodes
+
+
+def built():
+    """`build --compress`: the tree is that of the model, and so is what a stop leaves."""
+    for about, more in {"nothing": [], **LISTINGS}.items():
+        for order in "<>":
+            for page in ("4096", "8192", "16384"):
+                size = BLOCK if page == "4096" else 32768
+                write_lines("lines", BASE + more)
+                name = f"build --compress, {about}, {ORDERS[order]}, page {page}"
+                packed, nodes = try_compressed(name, order, "build", "--blocks", "16", "--page", page, "lines", size=size)
+                tree = Tree()
+                for *_, step in laid(tree, BASE + more, int(page), {"time": 0, "owner": (0, 0)}):
+                    step()
+                verdict(f"{name}: the tree", shows(packed, order, tree, size) and any(is_packed(node, order) for node in nodes))
+    tree, right = Tree(), True
+    write_lines("lines", BASE)
+    _, nodes = try_compressed("stops of build --compress", "<", "build", "--blocks", "16", "lines")
+    for count, (node, step) in enumerate(zip(nodes, steps_of(tree, BASE)), 1):
+        right = right and shows(model.with_nodes(b"", nodes[:count], BLOCK, "<", node[1] - 1), "<", tree)
+        step()
+        right = right and shows(model.with_nodes(b"", nodes[:count], BLOCK, "<"), "<", tree)
+    verdict("stops of build --compress: the trees", right)
+    write_lines("lines", ["create 0644 /a", "write /a 0 " + "61" * 200])
+    packed, nodes = try_compressed("200 bytes", "<", "build", "--blocks", "1", "lines")
+    right = [address for address, *_ in nodes] == [12, 80, 124] and nodes[2][1] < 100
+    verdict("200 bytes: three places", right and files_of("packed", options_of("<"))[1] == [b"a" * 200])
+
+
+def packed_folders():
+    """`pack --compress`: the tree is that of `pack`, with the bytes of the folder's files."""
+    os.makedirs("folder/e", exist_ok=True)
+    contents = {"a": b"", "b": b"line of text\n" * 3000, "e/c": random.Random(9).randbytes(9000), "e/d": b"x" * 70}
+    for name, data in contents.items():
+        write(f"folder/{name}", data)
+    for order in "<>":
+        for blocks in ([], ["--blocks", "16"]):
+            words = [*blocks, "--time", "5", "--owner", "3", "4"]
+            name = f"pack --compress, {ORDERS[order]} {' '.join(blocks)}"
+            try_compressed(name, order, "pack", *words, "folder")
+            lines, data = files_of("packed", options_of(order))
+            verdict(f"{name}: the tree", lines == files_of("plain", options_of(order))[0] and sorted(data) == sorted(contents.values()))
+            done = run("pack", "--compress", "--pad", "--atomic", *options_of(order), *words, "folder", "padded")
+            length = 16 * BLOCK if blocks else -(-len(read("packed")) // BLOCK) * BLOCK
+            padded = read("packed").ljust(length, b"\xff")
+            verdict(f"{name} --pad --atomic", done[0] == 0 and read("padded") == padded)
+
+
+def refused_compressed():
+    """`build --compress`: an operation that is refused, no room, words and files that are wrong."""
+    words = ["build", "--compress", *options_of("<")]
+    lines = ["create 0644 /b", "create 0644 /nowhere/b", "create 0644 /c"]
+    write_lines("lines", lines)
+    for atomic in ([], ["--atomic"]):
+        name = "beside" if atomic else "there"
+        status, told, said = run(*words, *atomic, "--blocks", "2", "lines", name)
+        right = (status, told) == (1, "") and "line 2" in said
+        there = os.path.exists(name) and shows(read(name), "<", tree_of(lines[:1])[0])
+        verdict(f"build --compress {' '.join(atomic)}, an operation that is refused", right and there == (not atomic))
+    write_lines("lines", ["create 0644 /b", "write /b 0 " + random.Random(1).randbytes(9000).hex()])
+    status, told, said = run(*words, "--blocks", "1", "lines", "full")
+    verdict("build --compress, no room", (status, told) == (1, "") and said.startswith("jffs2_image: S2 Full needed ") and "line 2" in said)
+    for about, more, status, fault in (
+        ("no block", ["--blocks", "0", "lines"], 1, "jffs2_image: S7 Geometry\n"),
+        ("--weak", ["--weak", "--blocks", "1", "lines"], 2, "error: "),
+        ("no LISTING", ["--blocks", "1", "missing"], 1, "jffs2_image: P1 File missing\n"),
+    ):
+        done = run(*words, *more, "other")
+        right = (done[0], done[1]) == (status, "") and done[2].startswith(fault)
+        verdict(f"build --compress, {about}", right and not os.path.exists("other"))
+
+
 # ---- what is refused
 
 def refused():
@@ -269,4 +374,4 @@ def files():
 
 
 if __name__ == "__main__":
-    sys.exit(run_all((updates, stops, thirty, refused, files)))
+    sys.exit(run_all((updates, stops, thirty, built, packed_folders, refused_compressed, refused, files)))

@@ -68,6 +68,12 @@ def nodes_in(image, row, size, order):
                 yield number * size + at + place, head[1], tile[: head[1]]
 
 
+def expansions(image, size, order):
+    """The nodes of an image in the order of their addresses, each as it is when it is not compressed."""
+    nodes, fault = decompress_model.expanded_nodes(list(decompress_model.nodes_of(image, size, order)), size)
+    return None if fault else [decompress_model.written(*node, order) for node in nodes]
+
+
 def erased_in(image, row, size):
     """An image without what stands in its openings: a beginning of a marker."""
     out = bytearray(image)

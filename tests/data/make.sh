@@ -4,7 +4,11 @@
 #   lzo.img      big order, blocks of 64 KiB: lzo alone
 #   rtime.img    little order, blocks of 8 KiB, padded: rtime alone, and summaries by sumtool
 # All hold one folder: text, zeros, noise, a hard link, a symlink, a FIFO, a device, an empty file.
-# tests/decompress.sh has what they say. Usage: tests/data/make.sh (as root, needs mtd-utils)
+# tests/decompress.sh has what they say.
+#   small_zlib.hex, small_rtime.hex, small_lzo.hex
+#                little, big and little order, blocks of 8 KiB, of one method each: a smaller folder,
+#                as lines of hexadecimal digits, for tests/damage.py
+# Usage: tests/data/make.sh (as root, needs mtd-utils)
 set -eu
 here=$(cd "$(dirname "$0")" && pwd)
 PATH=$PATH:/usr/sbin
@@ -35,3 +39,21 @@ make lzo -b -e 64KiB -x zlib -x rtime -X lzo
 make rtime -l -e 8KiB -x zlib
 mv "$here/rtime.img" whole.img
 sumtool -l -e 8KiB -p -i whole.img -o "$here/rtime.img"
+
+mkdir -p small/etc
+seq -s ' ' 1 300 > small/numbers
+yes 'a line of a file of many nodes' | head -c 9000 > small/lines
+printf 'root:x:0:0:root:/root:/bin/sh\n' > small/etc/passwd
+ln small/numbers small/etc/n
+ln -s etc/passwd small/way
+: > small/empty
+chmod 755 small small/etc
+chmod 644 small/numbers small/lines small/etc/passwd small/empty
+find small -exec touch -h -d @1000000000 {} +
+make_small() {
+    mkfs.jffs2 -r small -U -e 8KiB "${@:2}" -o small.img
+    xxd -p -c 40 small.img "$here/small_$1.hex"
+}
+make_small zlib -l -x rtime
+make_small rtime -b -x zlib
+make_small lzo -l -X lzo -x zlib -x rtime
