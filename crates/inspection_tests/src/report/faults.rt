@@ -325,7 +325,7 @@ fn is_note(line: &[u8], note: &str) -> bool {
     }
     let rest = line.strip_suffix(b"\n".as_slice());
     let rest = rest.and_then(|rest| rest.strip_prefix(b"jffs2_image: note: ".as_slice()));
-    line.len() <= 180 && rest == Some(note.as_bytes())
+    line.len() <= 190 && rest == Some(note.as_bytes())
 }
 
 /// Whether after the line of a fault comes this note, or none where it is empty.
