@@ -150,11 +150,26 @@ def is_counted(told, flipped, order, done):
     return counted and done.returncode == (3 if found or len(told) > 1 else 0) and noted(done.stderr) == found
 
 
-def packed_flips(method, order):
-    """The same with --decompress, of an image of mkfs.jffs2, in which no node covers another one."""
+def covering(method, order):
+    """Compressed nodes of the files of an image of mkfs.jffs2: the first part of one and a piece of its second, all of another in two
+    nodes, one that is cut, and one that had no data."""
+    make = images.Maker(order)
+    nodes = (
+        make.packed(method, 4, 4, b"A" * 4096, 0, 9000),
+        make.packed(method, 4, 5, b"B" * 1000, 5000, 9000),
+        make.packed(method, 5, 2, b"C" * 600, 0, 1092),
+        make.packed(method, 5, 3, b"D" * 492, 600, 1092),
+        make.packed(method, 7, 2, b"E" * 20, 0, 20),
+        make.packed(method, 2, 2, b"F" * 10, 0, 10),
+    )
+    return b"".join(node + b"\xff" * (-len(node) % 4) for node in nodes)
+
+
+def packed_flips(method, order, number):
+    """The same with --decompress, of an image of mkfs.jffs2, in which no node covers another one, and of nodes that do."""
     options = ["--decompress", "--block", "8192", "--endian", "little" if order == "<" else "big"]
     with open(os.path.join(ROOT, "tests", "data", f"small_{method}.hex"), encoding="ascii") as file:
-        sound = bytes.fromhex(file.read())
+        sound = bytes.fromhex(file.read()) + covering(number, order)
     write("sound.img", sound)
     nodes = list(packed_nodes_of(sound, order))
     for place, byte in enumerate(sound):
@@ -184,9 +199,9 @@ def big_image():
 
 
 def packed_images():
-    packed_flips("zlib", "<")
-    packed_flips("rtime", ">")
-    packed_flips("lzo", "<")
+    packed_flips("zlib", "<", images.ZLIB)
+    packed_flips("rtime", ">", images.RTIME)
+    packed_flips("lzo", "<", images.LZO)
 
 
 def damaged_at(node):

@@ -2,6 +2,7 @@
 //! from the rules and not from the program's output, what is mounted with nodes that hide nothing
 //! and without them, directories of several names, sinks that fail, and growths that are refused.
 
+mod compressed;
 mod flips;
 mod growth;
 mod missed;

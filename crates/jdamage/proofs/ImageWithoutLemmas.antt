@@ -1,7 +1,7 @@
 -- Why an image is mounted as the same file system after nodes that hide nothing were damaged.
-use Rattle.std.proofs.Common.{◌≡◌, ℕ, ◌<◌, ◌≤◌, Bool, true, false, cond, List, [], ◌∷◌, ◌++◌, length, get_or, map, Option, refl, ap, sym, ◌∙◌, subst, ⊎_elim, min, arith, append_assoc}
+use Rattle.std.proofs.Common.{◌≡◌, ℕ, ◌<◌, ◌≤◌, Bool, true, false, cond, List, [], ◌∷◌, ◌++◌, length, get_or, map, Option, Some, None, refl, ap, sym, ◌∙◌, subst, ⊎_elim, min, arith, append_assoc}
 use Rattle.std.specs.Prelude.{Contains, filter, filter_map, option_map, nat_lt, not, IsTrue, ◌&&◌, ◌||◌}
-use Rattle.std.specs.List.{list_any}
+use Rattle.std.specs.List.{cons_option, list_any}
 use Rattle.std.specs.FinMap.{FinMap}
 use Rattle.std.specs.Ordering.{nat_cmp}
 use Rattle.std.proofs.lemmas.Bool.{and_parts, cases_lt, ltb-false}
@@ -28,7 +28,7 @@ use Rattle.jmount.proofs.ClashLemmas.{clashes_sym, from_inodes, in_inodes}
 use Rattle.jmount.proofs.NumbersLemmas.{object-state_of}
 use Rattle.jdamage.specs.Coverage.{is_not_older, has_place, is_replaced, is_replaced_below, hides_nothing}
 use Rattle.jdamage.specs.Damage.{size_shown, size_at, changes_nothing}
-use Rattle.jdamage.specs.Fields.{stretch_at, stretch_of, stretch_in, stretches}
+use Rattle.jdamage.specs.Fields.{stretch_at, stretch_of, stretch_sighted, stretches}
 use Rattle.jdamage.specs.Laws.{HoldRanges, HidesNothingBetween, HasFields, ImageIsSameWithout, size_made}
 use Rattle.jdamage.specs.declared.fields.Stretch.{Stretch}
 use Rattle.jdamage.proofs.BetweenLemmas.{in_between}
@@ -65,13 +65,13 @@ hides_beside_more a b size lost within hidden =
 
 -- ---- nodes with their addresses
 
-abbrev plain : List (ℕ × NodeRef) → List NodeRef
+abbrev pub plain : List (ℕ × NodeRef) → List NodeRef
 plain ns = map (λ n. n.1) ns
 
-abbrev plain_inodes : List (ℕ × NodeRef) → List InodeNode
+abbrev pub plain_inodes : List (ℕ × NodeRef) → List InodeNode
 plain_inodes ns = inodes (plain ns)
 
-with_address : (ns : List (ℕ × NodeRef)) (node : InodeNode) → Contains (plain_inodes ns) node → (addr : ℕ) × Contains ns (addr, Inode node)
+pub with_address : (ns : List (ℕ × NodeRef)) (node : InodeNode) → Contains (plain_inodes ns) node → (addr : ℕ) × Contains ns (addr, Inode node)
 with_address ns node there =
     let found = Contains-map_from (λ n. n.1) ns (Inode node) (from_inodes (plain ns) node there) in
     (found.0.0, subst (λ (x : NodeRef). Contains ns (found.0.0, x)) found.2 found.1)
@@ -93,41 +93,67 @@ stretches_among ns ms among s there =
     subst (λ (x : Stretch). Contains (map stretch_of (plain_inodes ms)) x) found.2
     (Contains-map stretch_of (plain_inodes ms) found.0 (inodes_among ns ms among found.0 found.1))
 
--- the stretches of an image are those of its inode nodes
-stretches_sighted : (ss : List (ℕ × Seen)) → filter_map (λ s. stretch_in s.1) ss ≡ map stretch_of (plain_inodes (filter_map node_sighted ss))
-stretches_sighted [] = refl
-stretches_sighted ((addr, what) ∷ ss) = by what (stretches_sighted ss)
+-- ---- the stretches of an image
+
+-- that of what a tile gives
+abbrev pub stretch_given : Option (ℕ × NodeRef) → Option Stretch
+stretch_given None = None
+stretch_given (Some (addr, Entry entry)) = None
+stretch_given (Some (addr, Inode node)) = Some (stretch_of node)
+
+-- where each tile has that of the node that it gives, they are those of the inode nodes
+pub stretches_given : (e : Endian) (image : List ℕ) (gives : ℕ × Seen → Option (ℕ × NodeRef)) (ss : List (ℕ × Seen))
+    → ((s : ℕ × Seen) → Contains ss s → stretch_sighted e image s ≡ stretch_given (gives s))
+    → filter_map (stretch_sighted e image) ss ≡ map stretch_of (plain_inodes (filter_map gives ss))
+stretches_given e image gives [] each = refl
+stretches_given e image gives (s ∷ ss) each =
+    by (gives s) (each s (Contains-here s ss)) (stretches_given e image gives ss (λ t there. each t (Contains-there s ss t there)))
   where
-    by : (what : Seen) → filter_map (λ s. stretch_in s.1) ss ≡ map stretch_of (plain_inodes (filter_map node_sighted ss))
-        → filter_map (λ s. stretch_in s.1) ((addr, what) ∷ ss) ≡ map stretch_of (plain_inodes (filter_map node_sighted ((addr, what) ∷ ss)))
-    by (seen.Entry entry) rest = rest
-    by (seen.Inode node) rest = ap (λ l. stretch_of node ∷ l) rest
-    by seen.Marker rest = rest
-    by seen.Padding rest = rest
-    by seen.Obsolete rest = rest
-    by seen.Attribute rest = rest
-    by (seen.Skippable nodetype) rest = rest
-    by (seen.ReadOnly nodetype) rest = rest
-    by (seen.Incompatible nodetype) rest = rest
-    by (seen.Compressed compr) rest = rest
-    by (seen.Damaged which) rest = rest
+    by : (o : Option (ℕ × NodeRef)) → stretch_sighted e image s ≡ stretch_given o → filter_map (stretch_sighted e image) ss ≡ map stretch_of (plain_inodes (filter_map gives ss))
+        → cons_option (stretch_sighted e image s) (filter_map (stretch_sighted e image) ss) ≡ map stretch_of (plain_inodes (cons_option o (filter_map gives ss)))
+    by None is rest = ap (λ (o : Option Stretch). cons_option o (filter_map (stretch_sighted e image) ss)) is ∙ rest
+    by (Some (addr, Entry entry)) is rest = ap (λ (o : Option Stretch). cons_option o (filter_map (stretch_sighted e image) ss)) is ∙ rest
+    by (Some (addr, Inode node)) is rest =
+        ap (λ (o : Option Stretch). cons_option o (filter_map (stretch_sighted e image) ss)) is ∙ ap (λ (l : List Stretch). stretch_of node ∷ l) rest
+
+-- a tile that is not compressed has it
+plain_given : (e : Endian) (image : List ℕ) (s : ℕ × Seen) → ((compr : ℕ) → s.1 ≡ seen.Compressed compr → ⊥) → stretch_sighted e image s ≡ stretch_given (node_sighted s)
+plain_given e image (addr, seen.Entry entry) none = refl
+plain_given e image (addr, seen.Inode node) none = refl
+plain_given e image (addr, seen.Marker) none = refl
+plain_given e image (addr, seen.Padding) none = refl
+plain_given e image (addr, seen.Obsolete) none = refl
+plain_given e image (addr, seen.Attribute) none = refl
+plain_given e image (addr, seen.Skippable nodetype) none = refl
+plain_given e image (addr, seen.ReadOnly nodetype) none = refl
+plain_given e image (addr, seen.Incompatible nodetype) none = refl
+plain_given e image (addr, seen.Compressed compr) none = absurd (none compr refl)
+plain_given e image (addr, seen.Damaged which) none = refl
+
+-- so the stretches of an image that mounts, which has no compressed nodes, are those of its inode
+-- nodes
+stretches_of_sound : (e : Endian) (size : ℕ) (image : List ℕ) → IsSound e size image → stretches e size image ≡ map stretch_of (plain_inodes (nodes e size image))
+stretches_of_sound e size image sound =
+    stretches_given e image node_sighted (sightings e size image)
+    (λ s there. plain_given e image s (λ compr is.
+    sound.1 s.0 (fault.Compressed s.0 compr) (refl, subst (λ (what : Seen). Contains (sightings e size image) (s.0, what)) is there)))
 
 -- ---- lost nodes, one by one
 
 -- it is an inode node that hides nothing
-abbrev IsMissedNowhere : State → List Stretch → NodeRef → Type 0
+abbrev pub IsMissedNowhere : State → List Stretch → NodeRef → Type 0
 IsMissedNowhere s others (Inode node) = hides_nothing others (size_at s node.ino) (stretch_of node) ≡ true
 IsMissedNowhere s others (Entry entry) = ⊥
 
 module _ (lost : ℕ → Bool) (s : State) (tops : FinMap nat_cmp ℕ) (others : List Stretch) where
-  abbrev keeps : ℕ × NodeRef → Bool
+  abbrev pub keeps : ℕ × NodeRef → Bool
   keeps n = not (lost n.0)
 
   -- nodes of an image without a fault, of which the lost ones hide nothing
-  record AreFine (ns : List (ℕ × NodeRef)) : Type 0 where
-    each : (n : ℕ × NodeRef) → Contains ns n → lost n.0 ≡ true → IsMissedNowhere s others n.1
-    apart : NoInodesClash (plain_inodes ns)
-    ranges : HoldRanges (plain_inodes ns)
+  pub record AreFine (ns : List (ℕ × NodeRef)) : Type 0 where
+    pub each : (n : ℕ × NodeRef) → Contains ns n → lost n.0 ≡ true → IsMissedNowhere s others n.1
+    pub apart : NoInodesClash (plain_inodes ns)
+    pub ranges : HoldRanges (plain_inodes ns)
 
   fewer : (ns ms : List (ℕ × NodeRef)) → AreAmong ns ms → AreFine ms → AreFine ns
   fewer ns ms among fine = record {
@@ -136,7 +162,7 @@ module _ (lost : ℕ → Bool) (s : State) (tops : FinMap nat_cmp ℕ) (others :
     ranges = λ node there. fine.ranges node (inodes_among ns ms among node there);
   }
 
-  abbrev IsSame : List (ℕ × NodeRef) → Type 0
+  abbrev pub IsSame : List (ℕ × NodeRef) → Type 0
   IsSame ns = (state_of (plain ns) ≡ s) × (tops_of (plain ns) ≡ tops)
 
   one_lost : (pre post : List (ℕ × NodeRef)) (n : ℕ × NodeRef) → lost n.0 ≡ true → AreFine (pre ++ n ∷ post) → IsWithin others (map stretch_of (plain_inodes (pre ++ post))) → IsSame (pre ++ post) → IsSame (pre ++ n ∷ post)
@@ -186,10 +212,10 @@ module _ (lost : ℕ → Bool) (s : State) (tops : FinMap nat_cmp ℕ) (others :
       result : (state_of (plain pre ++ Inode node ∷ plain post) ≡ state_of (plain pre ++ plain post)) × (tops_of (plain pre ++ Inode node ∷ plain post) ≡ tops_of (plain pre ++ plain post))
       result = state_is_same_without (plain pre) (plain post) node between
 
-  abbrev Kept : List (ℕ × NodeRef) → List (ℕ × NodeRef) → Type 0
+  abbrev pub Kept : List (ℕ × NodeRef) → List (ℕ × NodeRef) → Type 0
   Kept pre post = AreFine (pre ++ post) → others ≡ map stretch_of (plain_inodes (pre ++ filter keeps post)) → IsSame (pre ++ filter keeps post) → IsSame (pre ++ post)
 
-  without_lost : (pre post : List (ℕ × NodeRef)) → Kept pre post
+  pub without_lost : (pre post : List (ℕ × NodeRef)) → Kept pre post
   without_lost pre [] fine are same = same
   without_lost pre (n ∷ post) fine are same = by (lost n.0) refl (without_lost pre post) (without_lost (pre ++ n ∷ []) post)
     where
@@ -265,7 +291,7 @@ sound_ranges e size image sound node there =
 
 -- ---- the image
 
-missed_nowhere : (s : State) (others : List Stretch) (fields : Stretch) (node : NodeRef) → HasFields fields node → changes_nothing s others fields ≡ true → IsMissedNowhere s others node
+pub missed_nowhere : (s : State) (others : List Stretch) (fields : Stretch) (node : NodeRef) → HasFields fields node → changes_nothing s others fields ≡ true → IsMissedNowhere s others node
 missed_nowhere s others fields (Inode node) is hidden = subst (λ (x : Stretch). hides_nothing others (size_at s x.ino) x ≡ true) (sym is) hidden
 missed_nowhere s others fields (Entry entry) is hidden = is
 
@@ -280,7 +306,7 @@ image_is_same_without e size m whole lost mount sound was hidden =
       ranges = sound_ranges e size whole sound;
     } in
     let same = without_lost lost m.state m.tops others [] ns fine
-    (stretches_sighted (sightings e size m.image) ∙ ap (λ (l : List NodeRef). map stretch_of (inodes l)) kept)
+    (stretches_of_sound e size m.image mount.mounts.sound ∙ ap (λ (l : List NodeRef). map stretch_of (inodes l)) kept)
     (sym (ap state_of kept) ∙ mount.mounts.same, sym (ap tops_of kept) ∙ sym mount.tops) in (
       record {
         sound = sound;

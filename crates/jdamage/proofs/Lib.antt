@@ -12,6 +12,8 @@ pub mod BetweenLemmas
 pub mod WithoutLemmas
 pub mod StateWithoutLemmas
 pub mod ImageWithoutLemmas
+pub mod FrontLemmas
+pub mod ThroughWithoutLemmas
 pub mod WouldChangeLemmas
 pub mod PathLemmas
 pub mod RoomLemmas

@@ -23,8 +23,9 @@ is_replaced_below others lost end =
     list_all (λ place. nat_lt place lost.from || is_replaced others lost place) (below end)
 
 -- rule: What is printed: Whether a damaged node hides anything.
---   definitions: jdamage.Coverage.hides_nothing
---   code: jdamage::coverage::hides_nothing, jdamage::hidden::hidden_of
+--   definitions: jdamage.Coverage.hides_nothing, jdamage.Fields.stretches
+--   code: jdamage::coverage::hides_nothing, jdamage::hidden::hidden_of,
+--   jdamage::nodes::stretches_beside
 --   laws: jdamage::laws::same_without, jdamage::laws::would_change
 -- The attributes and the size of the object are of another version, and so is each byte of the lost
 -- range that is within the size: whatever the lost node said, the object is the same.

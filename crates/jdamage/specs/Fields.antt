@@ -61,9 +61,11 @@ stretch_of node = record {
   to = node.offset + node.dsize;
 }
 
-abbrev pub stretch_in : Seen → Option Stretch
-stretch_in (seen.Inode node) = Some (stretch_of node)
-stretch_in _ = None
+-- A compressed one has by its fields what any other has: its data hold the bytes of its range.
+abbrev pub stretch_sighted : Endian → List ℕ → ℕ × Seen → Option Stretch
+stretch_sighted e image (addr, seen.Inode node) = Some (stretch_of node)
+stretch_sighted e image (addr, seen.Compressed compr) = Some (stretch_at e image addr)
+stretch_sighted e image _ = None
 
 abbrev pub stretches : Endian → ℕ → List ℕ → List Stretch
-stretches e size image = filter_map (λ s. stretch_in s.1) (sightings e size image)
+stretches e size image = filter_map (stretch_sighted e image) (sightings e size image)

@@ -6,6 +6,7 @@ use Rattle.jnode.specs.declared.node.InodeNode.{InodeNode}
 use Rattle.jnode.specs.declared.node.NodeRef.{NodeRef}
 use Rattle.jnode.specs.declared.node.NodeRef.TheVariants.{Entry, Inode}
 use Rattle.jscan.specs.Image.{nodes}
+use Rattle.jexpand.specs.Expanded.{expanded_nodes}
 use Rattle.jmount.specs.Clash.{NoInodeClashesWith}
 use Rattle.jmount.specs.Mount.{Mount}
 use Rattle.jmount.specs.Mounts.{IsSound, IsMountOf, MountsAs, plain_nodes}
@@ -14,6 +15,8 @@ use Rattle.jmount.specs.StateOf.{inodes, object_of, state_of, tops_of}
 use Rattle.jmount.specs.Find.{walk}
 use Rattle.jmount.specs.Shape.{IsSingle}
 use Rattle.jmount.specs.Tree.{State, all_entries, dangling, is_directory}
+use Rattle.jview.specs.Through.{IsSoundThrough, IsMountThroughOf, MountsThroughAs}
+use Rattle.jthrough.specs.Addressed.{addressed_nodes}
 use Rattle.jdamage.specs.Coverage.{hides_nothing}
 use Rattle.jdamage.specs.Damage.{size_shown, changes_nothing, damage_text}
 use Rattle.jdamage.specs.Fields.{stretch_at, stretch_of, stretches, damaged_nodes}
@@ -81,6 +84,26 @@ ImageIsSameWithout = (e : Endian) (size : ℕ) (m : Mount) (whole : List ℕ) (l
     → ((addr : ℕ) → lost addr ≡ true
     → changes_nothing m.state (stretches e size m.image) (stretch_at e m.image addr) ≡ true)
     → MountsAs e size whole m.state × (tops_of (plain_nodes e size whole) ≡ m.tops)
+
+-- ---- images that are mounted through their compression
+
+-- The same of the nodes of an image through its compression, each at the address of its tile.
+pub record WasWholeThrough (e : Endian) (size : ℕ) (image whole : List ℕ) (lost : ℕ → Bool) : Type
+    0 where
+  pub kept : addressed_nodes e size image
+      ≡ filter (λ n. not (lost n.0)) (addressed_nodes e size whole)
+  pub fields : (addr : ℕ) (node : NodeRef) → Contains (addressed_nodes e size whole) (addr, node)
+      → lost addr ≡ true → HasFields (stretch_at e image addr) node
+
+-- If it had no fault, once its nodes were expanded, and each of these nodes hides nothing as
+-- `damage` tells it of the damaged image, then it mounts through as the same file system.
+abbrev pub ThroughIsSameWithout : Type 0
+ThroughIsSameWithout = (e : Endian) (size : ℕ) (m : Mount) (whole : List ℕ) (lost : ℕ → Bool)
+    → IsMountThroughOf e size m → IsSoundThrough e size whole
+    → WasWholeThrough e size m.image whole lost
+    → ((addr : ℕ) → lost addr ≡ true
+    → changes_nothing m.state (stretches e size m.image) (stretch_at e m.image addr) ≡ true)
+    → MountsThroughAs e size whole m.state × (tops_of (expanded_nodes e size whole) ≡ m.tops)
 
 -- ---- a node that hides something
 

@@ -221,10 +221,11 @@ fn told(put: Result<Totals, DeviceFault>) -> Result<Totals, DamageFault>
 /// address, which paths it hides, that it hides nothing, or that what it said is not known; then a
 /// line for each name whose object is missing, and the totals, which are the answer. A damaged node
 /// hides nothing where the object is the same whatever it said. The image was mounted in `E`'s
-/// order and with this geometry. Each line goes out as it is made. Before the first, where there
-/// is damage, it takes memory for the damaged nodes, for the sound ones of their objects that touch
-/// what they were for, for the names of these objects, for the directories on the ways up from what
-/// is told, in a tree that has not its shape for all that `ls` enters, and for one path.
+/// order and with this geometry, as it is or through its compression. Each line goes out as it is
+/// made. Before the first, where there is damage, it takes memory for the damaged nodes, for the
+/// sound ones of their objects that touch what they were for, for the names of these objects, for
+/// the directories on the ways up from what is told, in a tree that has not its shape for all that
+/// `ls` enters, and for one path.
 ///
 /// # Errors
 /// `OutOfMemory`, and nothing was put. `Output`: the sink failed, and took a beginning.

@@ -2,9 +2,10 @@
 //! object.
 //!
 //! It is built on `jscan` (the nodes of an image, and which of them are damaged), `jmount` (mounted
-//! images) and `jline` (lines of text). Its promise to the program: what goes to a sink is a line
-//! for each path that a damaged node hides, or that it hides none, one for each name whose object
-//! is missing, and the totals.
+//! images) and `jline` (lines of text); its laws speak of `jthrough` too (images that are mounted
+//! through their compression). Its promise to the program: what goes to a sink is a line for each
+//! path that a damaged node hides, or that it hides none, one for each name whose object is
+//! missing, and the totals.
 //!
 //! `specs/Fields.antt` says what is read of a damaged node, `specs/Coverage.antt` when it hides
 //! nothing, `specs/Ranges.antt` on which sound nodes that hangs, `specs/Entered.antt` by which name
@@ -35,3 +36,4 @@ mod ways_up;
 pub use crate::damage::put_damage;
 pub use crate::fault::DamageFault;
 pub use crate::totals::Totals;
+pub use crate::ways_up::WaysUp;

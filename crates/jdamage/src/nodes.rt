@@ -3,12 +3,12 @@
 ghost use Rattle.std.specs.Prelude.{◌≡◌, ◌++◌, ℕ, List, ◌≤◌, IfOk, OnOk, filter, filter_map, length, option_to_list};
 ghost use Rattle.jscan.specs.Image.{greatest_image};
 ghost use Rattle.jscan.specs.Scans.{IsScannable};
-ghost use Rattle.jdamage.specs.Fields.{damaged_if, damaged_nodes, stretch_in, stretches};
+ghost use Rattle.jdamage.specs.Fields.{damaged_if, damaged_nodes, stretch_sighted, stretches};
 ghost use Rattle.jdamage.specs.Ranges.{FindsAll, KeepsWhatMatters, Sifted, range_if};
 ghost use Rattle.jdamage.specs.Telling.{is_kept};
 ghost use Rattle.jdamage.specs.declared.fields.Stretch.{Stretch};
 
-use crate::fields::{Stretch, stretch_of};
+use crate::fields::{Stretch, stretch_at, stretch_of};
 use crate::ranges::{Range, Tops, add_tops, keep, ranges_of};
 use jnode::{Damage, Order, Seen};
 use jscan::{Geometry, Sightings};
@@ -53,29 +53,40 @@ pub(crate) fn damaged_nodes<E: Order>(
     Ok(nodes)
 }
 
-/// Keeps what a sound inode node has, where it is of one of these objects and matters.
+/// What a sound inode node has, compressed or not.
+fn stretch_sighted<E: Order>(image: &[u8], addr: u32, seen: &Seen<'_>) -> Option<Stretch>
+    requires { length image.now ≤ greatest_image }
+    ensures { result ≡ stretch_sighted E.order image.now (addr, seen.now) }
+{
+    match seen {
+        Seen::Inode(node) => Some(stretch_of(node)),
+        Seen::Compressed { .. } => Some(stretch_at::<E>(image, addr)),
+        _ => None,
+    }
+}
+
+/// Keeps what an inode node has, where it is of one of these objects and matters.
 fn keep_stretch(
     ranges: &[Range],
     numbers: &BTreeSet<u32>,
-    seen: &Seen<'_>,
+    sighted: Option<Stretch>,
     found: &mut Vec<Stretch>,
     tops: &mut Tops,
 ) -> Result<(), AllocError>
     ensures { OnOk result ((lost : List (ℕ × ℕ)) (all rest : List Stretch)
         → FindsAll lost ranges.now
-        → Sifted lost all (filter (is_kept numbers.now) (option_to_list (stretch_in seen.now))
-        ++ rest) found.old.items tops.old
+        → Sifted lost all (filter (is_kept numbers.now) (option_to_list sighted) ++ rest)
+        found.old.items tops.old
         → Sifted lost all rest found.new.items tops.new) }
 {
-    match seen {
-        Seen::Inode(node) => {
-            let stretch = stretch_of(node);
+    match sighted {
+        Some(stretch) => {
             if numbers.contains(&stretch.ino) {
                 keep(ranges, stretch, found, tops)?;
             }
             Ok(())
         }
-        _ => Ok(()),
+        None => Ok(()),
     }
 }
 
@@ -87,7 +98,8 @@ fn stretches_of<E: Order>(
     numbers: &BTreeSet<u32>,
     ranges: &[Range],
 ) -> Result<Vec<Stretch>, AllocError>
-    requires { IsScannable geometry.block image.now }
+    requires scannable { IsScannable geometry.block image.now }
+    requires image { length image.now ≤ greatest_image }
     ensures { IfOk result (λ found. (lost : List (ℕ × ℕ)) → FindsAll lost ranges.now
         → KeepsWhatMatters lost
         (filter (is_kept numbers.now) (stretches E.order geometry.block image.now)) found.items) }
@@ -97,8 +109,9 @@ fn stretches_of<E: Order>(
     let Ok(sightings) = Sightings::<E>::new(image, geometry) else {
         return Ok(found);
     };
-    for (_, seen) in sightings {
-        keep_stretch(ranges, numbers, &seen, &mut found, &mut tops)?;
+    for (addr, seen) in sightings {
+        let sighted = stretch_sighted::<E>(image, addr, &seen);
+        keep_stretch(ranges, numbers, sighted, &mut found, &mut tops)?;
     }
     add_tops(&mut found, tops)?;
     Ok(found)

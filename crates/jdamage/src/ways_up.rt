@@ -24,7 +24,7 @@ fn most_steps(mounted: &Mounted<'_>) -> u64
 
 /// The ways up from the directories of which a path may be told.
 #[derive(Drop)]
-pub(crate) struct WaysUp<'m, 'a> {
+pub struct WaysUp<'m, 'a> {
     pub mounted: &'m Mounted<'a>,
     /// Whether `names` has all directories that a walk from the root enters.
     walked: bool,
@@ -82,9 +82,13 @@ fn by_walk<'m, 'a>(alloc: Global, mounted: &'m Mounted<'a>) -> Result<WaysUp<'m,
 }
 
 impl<'m, 'a> WaysUp<'m, 'a> {
-    /// The ways up from these directories. Takes memory for the directories on them; in a tree that
-    /// has not its shape, for all that a walk from the root enters.
-    pub(crate) fn new(
+    /// The ways up from these directories, in O(n log n) for n names. Takes memory for the
+    /// directories on them; in a tree that has not its shape, for all that a walk from the root
+    /// enters.
+    ///
+    /// # Errors
+    /// Out of memory.
+    pub fn new(
         alloc: Global,
         mounted: &'m Mounted<'a>,
         dirs: &BTreeSet<u32>,
@@ -152,7 +156,7 @@ impl<'m, 'a> WaysUp<'m, 'a> {
     }
 
     /// How many names the path of a directory has; 0 where no way leads there.
-    pub(crate) fn depth(&self, dir: u32) -> u64
+    pub fn depth(&self, dir: u32) -> u64
         ensures depth { result ≡ depth self.now.mounted.now.state dir }
         ensures few { result ≤ 2 ^ 32 }
     {
@@ -173,7 +177,7 @@ impl<'m, 'a> WaysUp<'m, 'a> {
     }
 
     /// The same, and a name behind them.
-    pub(crate) fn put_name(&self, dir: u32, name: &'m [u8], path: &mut Vec<&'m [u8]>) -> bool
+    pub fn put_name(&self, dir: u32, name: &'m [u8], path: &mut Vec<&'m [u8]>) -> bool
         requires { depth self.now.mounted.now.state dir < vec_capacity path.old }
         ensures found { IsTrue result → path_below self.now.mounted.now.state dir (name.now ∷ [])
             ≡ Some (names_held path.new) }
