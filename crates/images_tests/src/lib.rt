@@ -9,6 +9,8 @@ mod checks;
 #[cfg(test)]
 mod convert;
 #[cfg(test)]
+mod look;
+#[cfg(test)]
 mod row;
 #[cfg(test)]
 mod through;

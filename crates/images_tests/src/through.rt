@@ -5,6 +5,6 @@
 //! `mounts` has images that mount, `refusals` those that do not, `growth` memory that is refused.
 
 mod growth;
-mod images;
+pub(crate) mod images;
 mod mounts;
 mod refusals;

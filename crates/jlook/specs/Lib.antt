@@ -1,0 +1,5 @@
+pub mod Chosen
+pub mod Laws
+pub mod Look
+pub mod Looked
+pub mod Looks
