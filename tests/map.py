@@ -14,7 +14,7 @@ import compact
 import compact_model
 import compressed_images as images
 import map_model as model
-from groups import BLOCK, ROOT, options_of, run, run_all, verdict, write
+from groups import BLOCK, ROOT, options_of, run, run_all, verdict, write, write_lines
 
 SVG = "{http://www.w3.org/2000/svg}"
 
@@ -93,5 +93,18 @@ def by_hand():
         try_image(f"both orders, {order}", own + b"\xff" * (-len(own) % 4096) + foreign, order, 4096)
 
 
+def documented():
+    """The pictures of the guide: of an image that was written for long, and of what `compact` makes of it."""
+    words = options_of("<", BLOCK)
+    writes = [f"write /state 0 3{number}0a" for number in range(1, 10)]
+    write_lines("uses.txt", ["create 0644 /state", *writes, "remove /log", "remove /etc/log"])
+    run("decompress", *words, os.path.join(ROOT, "tests", "data", "default.img"), "old.img")
+    run("append", *words, "--blocks", "64", "old.img", "uses.txt", "used.img")
+    run("compact", *words, "used.img", "new.img")
+    for name in ("used", "new"):
+        drawn = run("map", "--svg", *words, f"{name}.img")[1]
+        verdict(f"the picture of {name}.img", drawn.encode() == compact.read(os.path.join(ROOT, "docs", f"map-{name}.svg")))
+
+
 if __name__ == "__main__":
-    sys.exit(run_all((by_hand, by_others, random_images, soups)))
+    sys.exit(run_all((by_hand, by_others, random_images, soups, documented)))

@@ -28,6 +28,23 @@ def kept_of(image, size, order):
     return {node.at for node in compacting.what_matters(nodes)}
 
 
+def paths_of(image, size, order):
+    """The text of the first path that leads to each number, in order of the numbers of directories and then of names."""
+    nodes, _ = compacting.nodes_through(image, size, order)
+    objects, names = model.tree(compacting.plain(nodes))
+    entered, left = {1: ""}, [(1, entry) for entry in reversed(names.get(1, []))]
+    while left:
+        parent, (name, ino) = left.pop()
+        if compacting.is_folder(objects, ino) and ino not in entered:
+            entered[ino] = f"{entered[parent]}/{name_of(name)}"
+            left += [(ino, entry) for entry in reversed(names.get(ino, []))]
+    paths = {1: ""}
+    for parent in sorted(set(names) & set(entered)):
+        for name, ino in names[parent]:
+            paths.setdefault(ino, f"{entered[parent]}/{name_of(name)}")
+    return paths
+
+
 def kind_of(what, at, kept):
     """Of which kind the bytes of a tile are."""
     if what in ("marker", "erased"):
@@ -91,15 +108,26 @@ def what_text(data, what, held, order):
     return PLAIN.get(what) or f"node of type {held:04x}"
 
 
-def rect_of(at, data, what, held, start, order, kept):
+def place_text(data, what, held, order, paths):
+    """Where in the tree the object of a node is, or the name of an entry, if that is known."""
+    if what == "entry" and held[0] in paths:
+        return f", {paths[held[0]]}/{name_of(held[5])}"
+    if what not in ("inode", "compressed"):
+        return ""
+    (ino,) = struct.unpack_from(order + "I", data, 12)
+    return f", {paths[ino] or '/'}" if ino in paths else ""
+
+
+def rect_of(at, data, what, held, start, order, kept, paths):
     kind = kind_of(what, at, kept)
-    title = f"{kind} at {at:08x}, {len(data)} bytes: {what_text(data, what, held, order)}"
+    said = what_text(data, what, held, order) + place_text(data, what, held, order, paths)
+    title = f"{kind} at {at:08x}, {len(data)} bytes: {said}"
     return f"<rect class='{kind}' x='{at - start}' width='{len(data)}' height='1'><title>{title}</title></rect>\n"
 
 
 def picture_of(image, size, order, kept):
     """What `map --svg` prints."""
-    number = -(-len(image) // size)
+    number, paths = -(-len(image) // size), paths_of(image, size, order)
     colours = {"live": "2b8a3e", "superseded": "f59f00", "obsolete": "868e96", "damaged": "e03131", "free": "e9ecef"}
     places = {"live": 80, "superseded": 180, "obsolete": 320, "damaged": 440, "free": 560}
     out = f"<svg xmlns='http://www.w3.org/2000/svg' width='1088' height='{14 * number + 72}' font-family='monospace' font-size='11'>\n"
@@ -112,5 +140,5 @@ def picture_of(image, size, order, kept):
         y = 14 * row + 64
         out += f"<text x='8' y='{y + 10}'>{start:08x}</text>"
         out += f"<svg x='80' y='{y}' width='1000' height='12' viewBox='0 0 {size} 1' preserveAspectRatio='none'>\n"
-        out += "".join(rect_of(*part, start, order, kept) for part in parts) + "</svg>\n"
+        out += "".join(rect_of(*part, start, order, kept, paths) for part in parts) + "</svg>\n"
     return out + "</svg>\n"

@@ -21,15 +21,15 @@ checks_unnamed e size asked image text (fault.Refused why) is = of_bytes why is.
 checks_unnamed e size asked image text fault.Output is = tt
 checks_unnamed e size asked image text fault.OutOfMemory is = tt
 
-survey_blames : (e : Endian) (size : ℕ) (image : List ℕ) (others : Option ℕ) → BlamesFailed (answers (Surveys e size image others))
-survey_blames e size image others events (fault.File file) is = absurd is.1
-survey_blames e size image others events (fault.NotRead file) is = absurd is.1
-survey_blames e size image others events (fault.NoNodes of count) is = absurd is.1
-survey_blames e size image others events (fault.NoSpace folder) is = absurd is.1
-survey_blames e size image others events (fault.Findings of findings) is = absurd is.1
-survey_blames e size image others events (fault.Refused why) is = of_bytes why is.1.1 (view_of is.1.0)
-survey_blames e size image others events fault.Output is = absurd is.1
-survey_blames e size image others events fault.OutOfMemory is = tt
+survey_blames : (svg : Bool) (e : Endian) (size : ℕ) (image : List ℕ) (others : Option ℕ) → BlamesFailed (answers (Surveys svg e size image others))
+survey_blames svg e size image others events (fault.File file) is = absurd is.1
+survey_blames svg e size image others events (fault.NotRead file) is = absurd is.1
+survey_blames svg e size image others events (fault.NoNodes of count) is = absurd is.1
+survey_blames svg e size image others events (fault.NoSpace folder) is = absurd is.1
+survey_blames svg e size image others events (fault.Findings of findings) is = absurd is.1
+survey_blames svg e size image others events (fault.Refused why) is = of_bytes why is.1.1 (view_of is.1.0)
+survey_blames svg e size image others events fault.Output is = absurd is.1
+survey_blames svg e size image others events fault.OutOfMemory is = tt
 
 check_blames : (options : Options) (shape : Bool) (name : List ℕ) → BlamesFailed (check_through_act options shape name)
 check_blames options shape name = then_blames (opens name) _ (opens_blames name) (λ (opened : List ℕ).
@@ -40,7 +40,7 @@ check_blames options shape name = then_blames (opens name) _ (opens_blames name)
 map_blames : (options : Options) (svg : Bool) (name : List ℕ) → BlamesFailed (map_act options svg name)
 map_blames options svg name = then_blames (loads name) _ (loads_blames name) (λ (image : List ℕ).
     then_blames _ _ (notes_blame options.endian options.geometry.block image) (λ (others : Option ℕ).
-    then_blames _ _ (survey_blames options.endian options.geometry.block image others) (λ (s : Surveyed). whole_blames _ _)))
+    then_blames _ _ (survey_blames svg options.endian options.geometry.block image others) (λ (s : Surveyed). whole_blames _ _)))
 
 pub inspected_blames_failed : InspectedBlamesFailed
 inspected_blames_failed (CheckThrough options shape name) = check_blames options shape name

@@ -8,6 +8,7 @@ use Rattle.jedge.specs.Told.{Told}
 use Rattle.jedge.specs.Views.{HasBlockSize}
 use Rattle.jmap.specs.MapText.{map_text}
 use Rattle.jmap.specs.Picture.{picture_text}
+use Rattle.jmap.specs.Places.{Paths}
 use Rattle.jinspects.specs.Surveying.{Surveys}
 use Rattle.jinspects.specs.ThroughVerdict.{ChecksThrough}
 
@@ -27,18 +28,19 @@ check_through_act options = checks_through options.endian options.geometry.block
 
 -- ---- `map`
 
--- where the nodes of an image lie, of which these are live: as a text, or as a picture
-abbrev pub drawn : Bool → Endian → ℕ → List ℕ → List ℕ → List ℕ
-drawn false e size image live = map_text e size image live
-drawn true e size image live = picture_text e size image live
+-- where the nodes of an image lie, of which these are live: as a text, or as a picture with these
+-- paths
+abbrev pub drawn : Bool → Endian → ℕ → List ℕ → List ℕ → Paths → List ℕ
+drawn false e size image live paths = map_text e size image live
+drawn true e size image live paths = picture_text e size image live paths
 
 -- An image is mounted through its compression, the nodes that matter are found out, and where nodes
 -- lie is printed. Nothing of the image is found; what `ls` notes of it is noted.
 abbrev pub draws : Endian → ℕ → Bool → List ℕ → Act Told
 draws e size svg image =
     Then (answers (NotesNone e size image)) (λ others.
-    Then (answers (Surveys e size image others)) (λ survey.
-    prints (Whole (drawn svg e size image survey.live) survey.told)))
+    Then (answers (Surveys svg e size image others)) (λ survey.
+    prints (Whole (drawn svg e size image survey.live survey.paths) survey.told)))
 
 -- the file is read, and that is done of its image
 abbrev pub maps : Endian → ℕ → Bool → List ℕ → Act Told

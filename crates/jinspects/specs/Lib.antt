@@ -1,4 +1,5 @@
 pub mod Live
+pub mod ShownPaths
 pub mod Refused
 pub mod ThroughVerdict
 pub mod Surveying

@@ -2,8 +2,8 @@
 //! and `map`. What each does with the host, and what it answers.
 //!
 //! `specs/ThroughVerdict.antt` says what is printed of a mount through the compression,
-//! `specs/Live.antt` which nodes are live on a map. `specs/Inspecting.antt` has the act of each
-//! command.
+//! `specs/Live.antt` which nodes are live on a map, `specs/ShownPaths.antt` which paths its picture
+//! shows. `specs/Inspecting.antt` has the act of each command.
 #![tactic(auto)]
 
 pub mod check;
@@ -11,6 +11,7 @@ pub mod commands;
 pub mod laws;
 pub mod live;
 pub mod map;
+pub mod paths;
 pub mod refusal;
 pub mod survey;
 pub mod verdict;

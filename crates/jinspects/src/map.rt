@@ -20,21 +20,22 @@ use jnode::Order;
 use jreport::others_if_none;
 use jscan::Geometry;
 
-/// Puts where the nodes of an image lie, of which these are live: as a text, or as a picture.
+/// Puts where the nodes of an image lie: as a text, or as a picture.
 fn put_nodes<E: Order, T: Sink>(
     image: &[u8],
     geometry: Geometry,
     svg: bool,
-    live: &[u32],
+    survey: &Survey,
     sink: &mut T,
 ) -> Result<(), MapFault>
-    requires { AllPairs (λ a b. a < b) live.now }
+    requires { AllPairs (λ a b. a < b) survey.now.live.items }
     ensures { PutsMap geometry.block image.now
-        (drawn svg E.order geometry.block image.now live.now)
+        (drawn svg E.order geometry.block image.now survey.now.live.items survey.now.paths)
         (change_of T.Sink sink.old sink.new) result }
 {
+    let live = survey.live.as_slice();
     if svg {
-        put_picture::<E, T>(image, geometry, live, sink)
+        put_picture::<E, T>(image, geometry, live, &survey.paths, sink)
     } else {
         put_map::<E, T>(image, geometry, live, sink)
     }
@@ -50,11 +51,11 @@ fn put_survey<E: Order, T: Sink>(
 ) -> Result<Found<'static>, Fault>
     requires scannable { IsScannable geometry.block image.now }
     requires ordered { AllPairs (λ a b. a < b) survey.now.live.items }
-    ensures { PutsBy (Whole (drawn svg E.order geometry.block image.now survey.now.live.items)
-        (found_told survey.now.found)) (change_of T.Sink sink.old sink.new)
+    ensures { PutsBy (Whole (drawn svg E.order geometry.block image.now survey.now.live.items
+        survey.now.paths) (found_told survey.now.found)) (change_of T.Sink sink.old sink.new)
         (seen_as found_told result) }
 {
-    match put_nodes::<E, T>(image, geometry, svg, survey.live.as_slice(), sink) {
+    match put_nodes::<E, T>(image, geometry, svg, survey, sink) {
         Ok(()) => Ok(survey.found),
         Err(MapFault::Output | MapFault::BlockSize | MapFault::TooLarge) => Err(Fault::Output),
     }
@@ -71,8 +72,8 @@ fn print_survey<E: Order, H: Host>(
     requires scannable { IsScannable geometry.block image.now }
     requires ordered { AllPairs (λ a b. a < b) survey.now.live.items }
     ensures { DoesFrom (H.history host.old) (H.history host.new)
-        (prints (Whole (drawn svg E.order geometry.block image.now survey.now.live.items)
-        (found_told survey.now.found))) (seen_as found_told result) }
+        (prints (Whole (drawn svg E.order geometry.block image.now survey.now.live.items
+        survey.now.paths) (found_told survey.now.found))) (seen_as found_told result) }
 {
     let mut out = match host.output() {
         Ok(out) => out,
@@ -101,7 +102,7 @@ pub fn map<E: Order, H: Host>(
     let bytes = image.as_slice();
     let geometry = options.geometry;
     let others = others_if_none::<E>(bytes, geometry);
-    match survey_of::<E>(host.alloc(), bytes, geometry, others) {
+    match survey_of::<E>(host.alloc(), bytes, geometry, others, svg) {
         Ok(survey) => print_survey::<E, H>(host, bytes, geometry, svg, &survey),
         Err(fault) => Err(fault),
     }

@@ -9,6 +9,7 @@ use Rattle.jscan.specs.declared.extent.Extent.{Extent}
 use Rattle.jline.specs.Words.{hex}
 use Rattle.jmap.specs.ByteKinds.{byte_kind}
 use Rattle.jmap.specs.NodeTexts.{what_text}
+use Rattle.jmap.specs.Places.{Paths, place_text}
 use Rattle.jmap.specs.declared.kind.ByteKind.{ByteKind}
 use Rattle.jmap.specs.declared.kind.ByteKind.TheVariants.{Live, Superseded, Obsolete, Damaged, Free}
 
@@ -36,9 +37,14 @@ rect_start place addr len kind = rect_box place len kind ++ title_start addr len
 abbrev pub rect_end : List ℕ
 rect_end = codes "</title></rect>\n"
 
-unfoldable pub rect_text : Endian → List ℕ → ℕ → List ℕ → Extent → List ℕ
-rect_text e image start kept s = rect_start (s.addr - start) s.addr s.len (byte_kind kept s)
-    ++ (what_text e image s.addr s.kind ++ rect_end)
+-- what the extent is, and where in the tree
+abbrev pub title_text : Endian → List ℕ → Paths → Extent → List ℕ
+title_text e image paths s =
+    what_text e image s.addr s.kind ++ place_text e image paths s.addr s.kind
+
+unfoldable pub rect_text : Endian → List ℕ → ℕ → List ℕ → Paths → Extent → List ℕ
+rect_text e image start kept paths s = rect_start (s.addr - start) s.addr s.len (byte_kind kept s)
+    ++ (title_text e image paths s ++ rect_end)
 
 -- ---- a row for each block: its address, and its rectangles
 
@@ -52,9 +58,10 @@ svg_row_start size k = codes "<text x='8' y='" ++ decimal (14 * k + 74) ++ codes
 abbrev pub svg_end : List ℕ
 svg_end = codes "</svg>\n"
 
-unfoldable pub block_row : Endian → ℕ → List ℕ → List ℕ → ℕ → List ℕ
-block_row e size image kept k = svg_row_start size k
-    ++ (flat_map (rect_text e image (k * size) kept) (extents_of_block e size image k) ++ svg_end)
+unfoldable pub block_row : Endian → ℕ → List ℕ → List ℕ → Paths → ℕ → List ℕ
+block_row e size image kept paths k = svg_row_start size k
+    ++ (flat_map (rect_text e image (k * size) kept paths) (extents_of_block e size image k)
+    ++ svg_end)
 
 -- ---- the whole
 
@@ -82,12 +89,13 @@ svg_legend =
     ++ codes "<text x='578' y='26'>free</text>\n"
 
 -- rule: What is printed: The picture of an image.
---   definitions: jmap.Picture.picture_text, jmap.NodeTexts.what_text
+--   definitions: jmap.Picture.picture_text, jmap.NodeTexts.what_text, jmap.Places.place_text
 --   code: jmap::picture::put_picture
 --   laws: jmap::examples::entry_is_drawn
--- what `map --svg` prints of an image of which the nodes at these addresses are kept
-unfoldable pub picture_text : Endian → ℕ → List ℕ → List ℕ → List ℕ
-picture_text e size image kept =
+-- what `map --svg` prints of an image of which the nodes at these addresses are kept, and these are
+-- the paths of its objects
+unfoldable pub picture_text : Endian → ℕ → List ℕ → List ℕ → Paths → List ℕ
+picture_text e size image kept paths =
     let blocks = block_count size image in
     (svg_start blocks ++ svg_legend)
-    ++ (flat_map (block_row e size image kept) (below blocks) ++ svg_end)
+    ++ (flat_map (block_row e size image kept paths) (below blocks) ++ svg_end)

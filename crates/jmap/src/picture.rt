@@ -10,7 +10,8 @@ ghost use Rattle.jmap.specs.MapText.{PutsMap};
 ghost use Rattle.jmap.specs.Picture.{block_row, picture_text, rect_text, svg_legend, svg_start};
 
 use crate::fault::MapFault;
-use crate::rects::{put_rect, put_two, start_of_row, start_of_svg};
+use crate::places::{Paths, put_two};
+use crate::rects::{put_rect, start_of_row, start_of_svg};
 use flashbase::{DeviceFault, Part, Sink};
 use jline::put_text;
 use jnode::Order;
@@ -40,6 +41,7 @@ fn put_rects<E: Order, T: Sink>(
     start: u32,
     block: Part<'_>,
     kept: &[u32],
+    paths: &Paths,
     sink: &mut T,
 ) -> Result<(), DeviceFault>
     requires ascending { AllPairs (λ a b. a < b) kept.now }
@@ -47,11 +49,12 @@ fn put_rects<E: Order, T: Sink>(
     requires whole_words { length block % 4 ≡ 0 }
     requires addressed { start + length block < 2 ^ 32 }
     ensures { PutsTo T.Sink sink.old sink.new
-        (flat_map (rect_text E.order image.now start kept.now) (extents E.order start block.entry))
+        (flat_map (rect_text E.order image.now start kept.now paths.now)
+        (extents E.order start block.entry))
         result }
 {
     for extent in Extents::<E>::of_part(start, block) {
-        put_rect::<E, T>(image, start, kept, &extent, sink)?;
+        put_rect::<E, T>(image, start, kept, paths, &extent, sink)?;
     }
     Ok(())
 }
@@ -63,13 +66,15 @@ fn put_row<E: Order, T: Sink>(
     size: usize,
     k: usize,
     kept: &[u32],
+    paths: &Paths,
     sink: &mut T,
 ) -> Result<(), DeviceFault>
     requires ascending { AllPairs (λ a b. a < b) kept.now }
     requires size { IsTrue (is_block_size size) }
     requires small { length image.now ≤ greatest_image }
     requires next { k < block_count size image.now }
-    ensures { PutsTo T.Sink sink.old sink.new (block_row E.order size image.now kept.now k) result }
+    ensures { PutsTo T.Sink sink.old sink.new
+        (block_row E.order size image.now kept.now paths.now k) result }
 {
     let start = k * size;
     put_text(sink, start_of_row(size as u64, k as u64).as_slice())?;
@@ -78,6 +83,7 @@ fn put_row<E: Order, T: Sink>(
         start as u32,
         block_at(image, start, size),
         kept,
+        paths,
         sink,
     )?;
     put_text(sink, SVG_END)
@@ -88,17 +94,19 @@ fn put_rows<E: Order, T: Sink>(
     image: &[u8],
     size: usize,
     kept: &[u32],
+    paths: &Paths,
     sink: &mut T,
 ) -> Result<(), DeviceFault>
     requires ascending { AllPairs (λ a b. a < b) kept.now }
     requires size { IsTrue (is_block_size size) }
     requires small { length image.now ≤ greatest_image }
     ensures { PutsTo T.Sink sink.old sink.new
-        (flat_map (block_row E.order size image.now kept.now) (below (block_count size image.now)))
+        (flat_map (block_row E.order size image.now kept.now paths.now)
+        (below (block_count size image.now)))
         result }
 {
     for k in 0..image.len().div_ceil(size) {
-        put_row::<E, T>(image, size, k, kept, sink)?;
+        put_row::<E, T>(image, size, k, kept, paths, sink)?;
     }
     Ok(())
 }
@@ -109,23 +117,24 @@ fn put_svg<E: Order, T: Sink>(
     image: &[u8],
     size: usize,
     kept: &[u32],
+    paths: &Paths,
     sink: &mut T,
 ) -> Result<(), DeviceFault>
     requires ascending { AllPairs (λ a b. a < b) kept.now }
     requires size { IsTrue (is_block_size size) }
     requires small { length image.now ≤ greatest_image }
-    ensures { PutsTo T.Sink sink.old sink.new (picture_text E.order size image.now kept.now)
-        result }
+    ensures { PutsTo T.Sink sink.old sink.new
+        (picture_text E.order size image.now kept.now paths.now) result }
 {
     let blocks = image.len().div_ceil(size) as u64;
     put_two(start_of_svg(blocks).as_slice(), LEGEND, sink)?;
-    put_rows::<E, T>(image, size, kept, sink)?;
+    put_rows::<E, T>(image, size, kept, paths, sink)?;
     put_text(sink, SVG_END)
 }
 
 /// Puts a picture of an image of which the nodes at these addresses are kept, as SVG: a row for
 /// each block, a rectangle for each node and each run of words, of the colour of its kind, with a
-/// title that says what it is. It takes no memory.
+/// title that says what it is, and where in the tree, if the path is known. It takes no memory.
 ///
 /// # Errors
 /// `BlockSize`, `TooLarge`: nothing was put. `Output`: the sink failed, and took a beginning.
@@ -133,11 +142,12 @@ pub fn put_picture<E: Order, T: Sink>(
     image: &[u8],
     geometry: Geometry,
     kept: &[u32],
+    paths: &Paths,
     sink: &mut T,
 ) -> Result<(), MapFault>
     requires { AllPairs (λ a b. a < b) kept.now }
     ensures { PutsMap geometry.block image.now
-        (picture_text E.order geometry.block image.now kept.now)
+        (picture_text E.order geometry.block image.now kept.now paths.now)
         (change_of T.Sink sink.old sink.new) result }
 {
     if !geometry.is_readable() {
@@ -146,6 +156,6 @@ pub fn put_picture<E: Order, T: Sink>(
     if GREATEST_IMAGE < image.len() {
         return Err(MapFault::TooLarge);
     }
-    put_svg::<E, T>(image, geometry.block as usize, kept, sink)?;
+    put_svg::<E, T>(image, geometry.block as usize, kept, paths, sink)?;
     Ok(())
 }

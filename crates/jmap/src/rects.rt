@@ -4,9 +4,10 @@ ghost use Rattle.std.specs.Prelude.{◌≡◌, ◌+◌, ◌-◌, ◌*◌, ◌<�
 ghost use Rattle.flashbase.specs.Sinks.{PutsTo};
 ghost use Rattle.jscan.specs.Image.{greatest_image};
 ghost use Rattle.jmap.specs.NodeTexts.{titled_name};
-ghost use Rattle.jmap.specs.Picture.{rect_box, rect_start, rect_text, svg_row_start, svg_start, title_start};
+ghost use Rattle.jmap.specs.Picture.{rect_box, rect_start, rect_text, svg_row_start, svg_start, title_start, title_text};
 
 use crate::kind::{ByteKind, byte_kind};
+use crate::places::{Paths, put_place};
 use crate::texts::what_line;
 use flashbase::{DeviceFault, Sink};
 use jline::{LineBuffer, put_text};
@@ -55,12 +56,20 @@ fn start_of_rect(place: u32, addr: u32, len: u32, kind: ByteKind) -> LineBuffer
     line
 }
 
-/// Puts two texts.
-pub(crate) fn put_two<T: Sink>(start: &[u8], end: &[u8], sink: &mut T) -> Result<(), DeviceFault>
-    ensures { PutsTo T.Sink sink.old sink.new (start.now ++ end.now) result }
+/// Puts what an extent is, and where in the tree.
+fn put_title<E: Order, T: Sink>(
+    image: &[u8],
+    paths: &Paths,
+    extent: &Extent<'_>,
+    sink: &mut T,
+) -> Result<(), DeviceFault>
+    requires image { length image.now ≤ greatest_image }
+    requires name { length (titled_name extent.now.kind) ≤ 255 }
+    ensures { PutsTo T.Sink sink.old sink.new
+        (title_text E.order image.now paths.now extent.now) result }
 {
-    put_text(sink, start)?;
-    put_text(sink, end)
+    put_text(sink, what_line::<E>(image, extent).as_slice())?;
+    put_place::<E, T>(image, paths, extent, sink)
 }
 
 /// Puts the rectangle of an extent of the block that begins at `start`.
@@ -69,6 +78,7 @@ pub(crate) fn put_rect<E: Order, T: Sink>(
     image: &[u8],
     start: u32,
     kept: &[u32],
+    paths: &Paths,
     extent: &Extent<'_>,
     sink: &mut T,
 ) -> Result<(), DeviceFault>
@@ -77,12 +87,13 @@ pub(crate) fn put_rect<E: Order, T: Sink>(
     requires name { length (titled_name extent.now.kind) ≤ 255 }
     requires inside { start ≤ extent.now.addr }
     ensures { PutsTo T.Sink sink.old sink.new
-        (rect_text E.order image.now start kept.now extent.now) result }
+        (rect_text E.order image.now start kept.now paths.now extent.now) result }
 {
     let kind = byte_kind(kept, extent);
     let begin = start_of_rect(extent.addr - start, extent.addr, extent.len, kind);
     put_text(sink, begin.as_slice())?;
-    put_two(what_line::<E>(image, extent).as_slice(), RECT_END, sink)
+    put_title::<E, T>(image, paths, extent, sink)?;
+    put_text(sink, RECT_END)
 }
 
 /// What the row of block `k` begins with.

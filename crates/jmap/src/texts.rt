@@ -19,7 +19,7 @@ const VERSION: usize = 16;
 const FIELDS: usize = 20;
 
 /// A byte of a name, by itself.
-fn push_byte(line: &mut LineBuffer, byte: u8)
+pub(crate) fn push_byte(line: &mut LineBuffer, byte: u8)
     requires { length line.old + 4 ≤ 1200 }
     ensures text { line.new ≡ line.old ++ markup_byte byte }
     ensures grows { length line.new ≤ length line.old + 4 }
@@ -33,7 +33,7 @@ fn push_byte(line: &mut LineBuffer, byte: u8)
 }
 
 /// A name.
-fn push_name(line: &mut LineBuffer, name: &Part<'_>)
+pub(crate) fn push_name(line: &mut LineBuffer, name: &Part<'_>)
     requires { length line.old + 4 * length name.now ≤ 1200 }
     ensures text { line.new ≡ line.old ++ markup_name name.now }
     ensures grows { length line.new ≤ length line.old + 4 * length name.now }
@@ -110,6 +110,14 @@ fn field<E: Order>(fields: &[u8; FIELDS], place: usize) -> u32
     ensures { result ≡ number_at E.order 4 place fields.now }
 {
     E::read_u32(&fields[place..])
+}
+
+/// The number of the inode node at an address, whose data are compressed.
+pub(crate) fn inode_number<E: Order>(image: &[u8], addr: u32) -> u32
+    requires { length image.now ≤ greatest_image }
+    ensures { result ≡ number_at E.order 4 12 (first_fields image.now addr) }
+{
+    field::<E>(&first_fields(image, addr), INO)
 }
 
 #[tactic(auto, unfolding(crate::specs::NodeTexts::compressed_text))]

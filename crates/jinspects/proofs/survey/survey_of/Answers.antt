@@ -19,11 +19,11 @@ pub returns-in-Err-mount_view-clause-survey : goal.returns-in-Err-mount_view-cla
 returns-in-Err-mount_view-clause-survey g c =
     (c.in-Err-mount_view.why, c.view_refusal-in-Err-mount_view.ensures, c.in-Err-mount_view.ensures)
 
-pub live_addresses-requires-clause-mount : goal.live_addresses-requires-clause-mount
-live_addresses-requires-clause-mount g c = c.in-Ok-mount_view.ensures.1
+pub survey_mounted-requires-clause-mount : goal.survey_mounted-requires-clause-mount
+survey_mounted-requires-clause-mount g c = c.in-Ok-mount_view.ensures.1
 
-pub live_addresses-requires-clause-held : goal.live_addresses-requires-clause-held
-live_addresses-requires-clause-held g c =
+pub survey_mounted-requires-clause-held : goal.survey_mounted-requires-clause-held
+survey_mounted-requires-clause-held g c =
     let e = g.E.Order.order in
     let size : ℕ = c.args.geometry.block in
     let is = c.in-Ok-mount_view.ensures in
@@ -32,24 +32,25 @@ live_addresses-requires-clause-held g c =
     subst (BeginWith (unpacked_bytes e size image)) (sym c.deref-2.ensures.value)
     (view_holds_contents e size image held c.in-Ok.view (subst (λ (l : List ℕ). IsViewOf e size l held c.in-Ok.view) (sym is.0) c.in-Ok.ensures.view) is.1.mounts.sound)
 
-pub returns-in-Ok-live_addresses-clause-survey : goal.returns-in-Ok-live_addresses-clause-survey
-returns-in-Ok-live_addresses-clause-survey g c =
+pub returns-in-Ok-survey_mounted-clause-survey : goal.returns-in-Ok-survey_mounted-clause-survey
+returns-in-Ok-survey_mounted-clause-survey g c =
     let is = c.in-Ok-mount_view.ensures in
     record {
       mount = c.in-Ok-mount_view.mounted;
       mounts = is;
-      live = subst (λ (image : List ℕ). AreLive g.E.Order.order c.args.geometry.block image c.in-Ok-live_addresses.live.items) is.0 c.in-Ok-live_addresses.ensures;
+      live = subst (λ (image : List ℕ). AreLive g.E.Order.order c.args.geometry.block image c.in-Ok-survey_mounted.live.items) is.0 c.in-Ok-survey_mounted.ensures.live;
+      paths = c.in-Ok-survey_mounted.ensures.paths;
       told = c.shown.ensures;
     }
 
-pub returns-in-Ok-live_addresses-clause-scannable : goal.returns-in-Ok-live_addresses-clause-scannable
-returns-in-Ok-live_addresses-clause-scannable g c =
+pub returns-in-Ok-survey_mounted-clause-scannable : goal.returns-in-Ok-survey_mounted-clause-scannable
+returns-in-Ok-survey_mounted-clause-scannable g c =
     let is = c.in-Ok-mount_view.ensures in
     subst (IsScannable c.args.geometry.block) is.0 is.1.mounts.sound.scannable
 
-pub returns-in-Ok-live_addresses-clause-ordered : goal.returns-in-Ok-live_addresses-clause-ordered
-returns-in-Ok-live_addresses-clause-ordered g c =
-    live_ascend g.E.Order.order c.args.geometry.block c.in-Ok-mount_view.mounted.image c.in-Ok-live_addresses.live.items c.in-Ok-live_addresses.ensures
+pub returns-in-Ok-survey_mounted-clause-ordered : goal.returns-in-Ok-survey_mounted-clause-ordered
+returns-in-Ok-survey_mounted-clause-ordered g c =
+    live_ascend g.E.Order.order c.args.geometry.block c.in-Ok-mount_view.mounted.image c.in-Ok-survey_mounted.live.items c.in-Ok-survey_mounted.ensures.live
 
 pub returns-clause-survey : goal.returns-clause-survey
 returns-clause-survey g c = (c.in-Ok-mount_view.mounted, c.in-Ok-mount_view.ensures)

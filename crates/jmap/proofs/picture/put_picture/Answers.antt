@@ -11,4 +11,4 @@ returns-in_err-put_svg g c =
     let image = c.args.image.now in
     let scannable : IsScannable size image = search rules in
     let put = c.in_err-put_svg.ensures in
-    map_failed size image (picture_text g.E.Order.order size image c.args.kept.now) (change_of g.T.Sink c.args.sink.now c.put_svg.new.sink) _ c.from_residual.ensures.1 scannable put.0 put.1
+    map_failed size image (picture_text g.E.Order.order size image c.args.kept.now c.args.paths.now) (change_of g.T.Sink c.args.sink.now c.put_svg.new.sink) _ c.from_residual.ensures.1 scannable put.0 put.1

@@ -28,7 +28,7 @@ loop-extent-preserved g c =
     let put = c.in_ok-put_rect.ensures in
     let before = c.loop-extent.invariant in
     record {
-      put = extents_put (rect_text g.E.Order.order c.args.image.now c.args.start c.args.kept.now) c.loop-extent.yielded c.in-Some.extent _ _ _ before.put put.0;
+      put = extents_put (rect_text g.E.Order.order c.args.image.now c.args.start c.args.kept.now c.args.paths.now) c.loop-extent.yielded c.in-Some.extent _ _ _ before.put put.0;
       failed = put.1 ∙ before.failed;
     }
 
@@ -37,7 +37,7 @@ returns-in_err-put_rect g c =
     let put = c.in_err-put_rect.ensures in
     let before = c.loop-extent.invariant in
     let xs = c.loop-extent.yielded in
-    let f = rect_text g.E.Order.order c.args.image.now c.args.start c.args.kept.now in
+    let f = rect_text g.E.Order.order c.args.image.now c.args.start c.args.kept.now c.args.paths.now in
     let all = extents g.E.Order.order c.args.start c.args.block in
     let here = turn extents_left _ _ c.next.new.self all xs _ c.in-Some.extent
     (ap extents_left c.into_iter-extent-iterator.ensures.into_iter_gives ∙ c.of_part-extent-items.ensures) c.loop-extent.yielded_by c.in-Some.is c.next.ensures.steps in
@@ -50,4 +50,4 @@ returns g c =
     let given = all_given extents_left _ _ c.next.new.self all c.loop-extent.yielded _
     (ap extents_left c.into_iter-extent-iterator.ensures.into_iter_gives ∙ c.of_part-extent-items.ensures) c.loop-extent.yielded_by c.in-None.is c.next.ensures.steps in
     let done = c.loop-extent.invariant in
-    (subst (λ (ss : List Extent). Appends (g.T.Sink.taken c.args.sink.now) (g.T.Sink.taken c.loop-extent.sink) (flat_map (rect_text g.E.Order.order c.args.image.now c.args.start c.args.kept.now) ss)) given done.put, done.failed)
+    (subst (λ (ss : List Extent). Appends (g.T.Sink.taken c.args.sink.now) (g.T.Sink.taken c.loop-extent.sink) (flat_map (rect_text g.E.Order.order c.args.image.now c.args.start c.args.kept.now c.args.paths.now) ss)) given done.put, done.failed)

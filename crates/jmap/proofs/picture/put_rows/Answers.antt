@@ -9,7 +9,7 @@ loop-k-preserved g c =
     let put = c.in_ok-put_row.ensures in
     let before = c.loop-k.invariant in
     record {
-      put = number_put (block_row g.E.Order.order c.args.size c.args.image.now c.args.kept.now) c.loop-k.k _ _ _ before.put put.0;
+      put = number_put (block_row g.E.Order.order c.args.size c.args.image.now c.args.kept.now c.args.paths.now) c.loop-k.k _ _ _ before.put put.0;
       failed = put.1 ∙ before.failed;
     }
 
@@ -19,5 +19,5 @@ returns-in_err-put_row g c =
     let put = c.in_err-put_row.ensures in
     let before = c.loop-k.invariant in
     let next : k < block_count c.args.size c.args.image.now = subst (λ (n : ℕ). k < n) c.div_ceil-k-end.ensures c.loop-k-test.true in
-    number_failed (block_row g.E.Order.order c.args.size c.args.image.now c.args.kept.now) k (block_count c.args.size c.args.image.now) _ (g.T.Sink.taken c.loop-k.sink) _ _ (g.T.Sink.failures c.loop-k.sink) _ _
+    number_failed (block_row g.E.Order.order c.args.size c.args.image.now c.args.kept.now c.args.paths.now) k (block_count c.args.size c.args.image.now) _ (g.T.Sink.taken c.loop-k.sink) _ _ (g.T.Sink.failures c.loop-k.sink) _ _
     c.from_residual.ensures.0 next before.put before.failed put.0 put.1

@@ -7,6 +7,6 @@ use Rattle.jmap.proofs.picture.put_rows.Given as goal
 
 abbrev pub invariant-loop-k : goal.invariant-loop-k
 invariant-loop-k g l = record {
-  put : Appends (g.T.Sink.taken l.fn.sink) (g.T.Sink.taken l.sink) (flat_map (block_row g.E.Order.order l.size l.image l.kept) (below l.k));
+  put : Appends (g.T.Sink.taken l.fn.sink) (g.T.Sink.taken l.sink) (flat_map (block_row g.E.Order.order l.size l.image l.kept l.paths) (below l.k));
   failed : g.T.Sink.failures l.sink ≡ g.T.Sink.failures l.fn.sink;
 }

@@ -13,7 +13,7 @@ unfolding picture_text
 returns-in_err-put_two g c =
     let size = c.args.size in
     let image = c.args.image.now in
-    let rows = flat_map (block_row g.E.Order.order size image c.args.kept.now) (below (block_count size image)) in
+    let rows = flat_map (block_row g.E.Order.order size image c.args.kept.now c.args.paths.now) (below (block_count size image)) in
     let put = c.in_err-put_two.ensures in
     let start = ap (λ (l : List ℕ). l ++ svg_legend) (c.as_slice.ensures ∙ c.start_of_svg.ensures ∙ ap svg_start c.div_ceil-blocks.ensures) in
     first_failed _ _ _ _ (svg_start (block_count size image) ++ svg_legend) (rows ++ svg_end) _ c.from_residual.ensures.0
@@ -24,7 +24,7 @@ unfolding picture_text
 returns-in_err-put_rows g c =
     let size = c.args.size in
     let image = c.args.image.now in
-    let rows = flat_map (block_row g.E.Order.order size image c.args.kept.now) (below (block_count size image)) in
+    let rows = flat_map (block_row g.E.Order.order size image c.args.kept.now c.args.paths.now) (below (block_count size image)) in
     let first = c.in_ok-put_two.ensures in
     let put = c.in_err-put_rows.ensures in
     let start = ap (λ (l : List ℕ). l ++ svg_legend) (c.as_slice.ensures ∙ c.start_of_svg.ensures ∙ ap svg_start c.div_ceil-blocks.ensures) in
@@ -37,7 +37,7 @@ unfolding picture_text
 returns g c =
     let size = c.args.size in
     let image = c.args.image.now in
-    let rows = flat_map (block_row g.E.Order.order size image c.args.kept.now) (below (block_count size image)) in
+    let rows = flat_map (block_row g.E.Order.order size image c.args.kept.now c.args.paths.now) (below (block_count size image)) in
     let first = c.in_ok-put_two.ensures in
     let put = c.in_ok-put_rows.ensures in
     let start = ap (λ (l : List ℕ). l ++ svg_legend) (c.as_slice.ensures ∙ c.start_of_svg.ensures ∙ ap svg_start c.div_ceil-blocks.ensures) in

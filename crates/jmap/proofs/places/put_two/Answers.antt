@@ -1,5 +1,5 @@
 use Rattle.flashbase.proofs.DeviceLemmas.{first_failed, then_puts}
-use Rattle.jmap.proofs.rects.put_two.Goals as goal
+use Rattle.jmap.proofs.places.put_two.Goals as goal
 
 pub returns-in_err-put_text : goal.returns-in_err-put_text
 returns-in_err-put_text g c =
