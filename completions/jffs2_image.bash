@@ -21,6 +21,7 @@ _jffs2_image_options() {
         damage) echo "$plain $auto --decompress $help" ;;
         map) echo "$plain $auto --svg $help" ;;
         pack) echo "$plain $write --weak --compress $place --owner --time --quiet $help" ;;
+        verify) echo "$plain $auto --times --owner --time --quiet $help" ;;
         '') echo "$help -V --version" ;;
     esac
 }
@@ -48,15 +49,16 @@ _jffs2_image_values() {
 _jffs2_image_kind() {
     case $1:$2 in
         check:0 | ls:0 | cat:0 | build:[01] | append:[012] | update:[012] | decompress:[01] | compress:[01] | \
-            compact:[01] | extract:0 | info:0 | cuts:0 | diff:[01] | damage:0 | map:0 | pack:1)
+            compact:[01] | extract:0 | info:0 | cuts:0 | diff:[01] | damage:0 | map:0 | pack:1 | \
+            verify:0)
             echo -f
             ;;
-        extract:1 | listing:0 | pack:0) echo -d ;;
+        extract:1 | listing:0 | pack:0 | verify:1) echo -d ;;
     esac
 }
 
 _jffs2_image() {
-    local commands='check ls cat build append update decompress compress compact extract listing info cuts diff damage map pack help'
+    local commands='check ls cat build append update decompress compress compact extract listing info cuts diff damage map pack verify help'
     local current=${COMP_WORDS[COMP_CWORD]} command='' option='' place=0 values=0 word kind
     # bash cuts --option=value into three words
     for word in "${COMP_WORDS[@]:1:COMP_CWORD-1}"; do

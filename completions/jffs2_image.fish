@@ -24,24 +24,25 @@ complete -c jffs2_image -n __fish_use_subcommand -a diff -d 'Differences between
 complete -c jffs2_image -n __fish_use_subcommand -a damage -d 'Files that damaged nodes affect'
 complete -c jffs2_image -n __fish_use_subcommand -a map -d 'Where the nodes of an image lie'
 complete -c jffs2_image -n __fish_use_subcommand -a pack -d 'Make an image of a folder'
+complete -c jffs2_image -n __fish_use_subcommand -a verify -d 'Whether an image holds a folder'
 complete -c jffs2_image -n __fish_use_subcommand -a help -d 'Help of a command'
 complete -c jffs2_image -n '__jffs2_image_in help' -f \
-    -a 'check ls cat build append update decompress compress compact extract listing info cuts diff damage map pack help'
+    -a 'check ls cat build append update decompress compress compact extract listing info cuts diff damage map pack verify help'
 
 # Options of the program and of every command
 complete -c jffs2_image -n 'not __jffs2_image_in help' -s h -l help -d 'Print help'
 complete -c jffs2_image -n __fish_use_subcommand -s V -l version -d 'Print the version'
 
 # Options of several commands
-complete -c jffs2_image -n '__jffs2_image_in check ls cat build append update decompress compress compact extract cuts diff damage map pack' \
+complete -c jffs2_image -n '__jffs2_image_in check ls cat build append update decompress compress compact extract cuts diff damage map pack verify' \
     -s e -l block -x -a '4K 8K 16K 32K 64K 128K 256K' -d 'Size of an erase block'
-complete -c jffs2_image -n '__jffs2_image_in check ls cat build append update decompress compress compact extract cuts diff damage map pack' \
+complete -c jffs2_image -n '__jffs2_image_in check ls cat build append update decompress compress compact extract cuts diff damage map pack verify' \
     -l endian -x -a 'little big' -d 'Byte order'
-complete -c jffs2_image -n '__jffs2_image_in check ls cat build append update decompress compress compact extract cuts diff damage map pack' \
+complete -c jffs2_image -n '__jffs2_image_in check ls cat build append update decompress compress compact extract cuts diff damage map pack verify' \
     -s l -l little-endian -d 'The same as --endian little'
-complete -c jffs2_image -n '__jffs2_image_in check ls cat build append update decompress compress compact extract cuts diff damage map pack' \
+complete -c jffs2_image -n '__jffs2_image_in check ls cat build append update decompress compress compact extract cuts diff damage map pack verify' \
     -s b -l big-endian -d 'The same as --endian big'
-complete -c jffs2_image -n '__jffs2_image_in check ls cat append update decompress compress compact extract cuts diff damage map' \
+complete -c jffs2_image -n '__jffs2_image_in check ls cat append update decompress compress compact extract cuts diff damage map verify' \
     -s a -l auto -d 'Find both in the image'
 complete -c jffs2_image -n '__jffs2_image_in build append update compact cuts pack' -l blocks -x -d 'Number of blocks'
 complete -c jffs2_image -n '__jffs2_image_in build append update cuts pack' -l page -x \
@@ -55,9 +56,9 @@ complete -c jffs2_image -n '__jffs2_image_in build append update decompress comp
     -d 'Replace an old OUT only if all goes well'
 complete -c jffs2_image -n '__jffs2_image_in decompress compress compact' -l force \
     -d 'Write over an IMAGE that is OUT'
-complete -c jffs2_image -n '__jffs2_image_in extract listing pack' -l quiet -d 'Print no progress'
-complete -c jffs2_image -n '__jffs2_image_in listing pack' -l owner -x -d 'Owner and group'
-complete -c jffs2_image -n '__jffs2_image_in listing pack' -l time -x -d 'Time of everything'
+complete -c jffs2_image -n '__jffs2_image_in extract listing pack verify' -l quiet -d 'Print no progress'
+complete -c jffs2_image -n '__jffs2_image_in listing pack verify' -l owner -x -d 'Owner and group'
+complete -c jffs2_image -n '__jffs2_image_in listing pack verify' -l time -x -d 'Time of everything'
 
 # Options of one command
 complete -c jffs2_image -n '__jffs2_image_in check' -l scan -d 'Report alone, no mount'
@@ -69,7 +70,7 @@ complete -c jffs2_image -n '__jffs2_image_in cuts' -l on -r -d 'Image to go on f
 complete -c jffs2_image -n '__jffs2_image_in extract' -l owners -d 'Set the owners of the image'
 complete -c jffs2_image -n '__jffs2_image_in decompress compact' -l clashes -x -a higher \
     -d 'If nodes clash, keep one by its address'
-complete -c jffs2_image -n '__jffs2_image_in diff' -l times -d 'Compare times of change too'
+complete -c jffs2_image -n '__jffs2_image_in diff verify' -l times -d 'Compare times of change too'
 
 # Words: files, and folders for listing
 complete -c jffs2_image -n '__jffs2_image_in listing' -x -a '(__fish_complete_directories)'

@@ -75,8 +75,8 @@ for words in "--block 4096" "--block=0x1000" "-e 4K" "-e4KiB" "--eraseblock 4096
     run check --scan $words block; want 0 $'block 0\n00000000 erased 4096\ntotal blocks 1 entries 0 inodes 0 findings 0' ""
 done
 run check --scan -e 1M block; want 0 $'block 0\n00000000 erased 1048576\n*' ""
-run check --scan -l -b block; want 2 "" "error: invalid value 'two orders' for '--endian <ORDER>': *--help*"
-run check --scan -b --endian big block; want 2 "" "error: invalid value 'two orders' for '--endian <ORDER>': *--help*"
+run check --scan -l -b block; want 2 "" "error: the argument '--little-endian' cannot be used with '--big-endian'*--help*"
+run check --scan -b --endian big block; want 2 "" "error: the argument '--endian <ORDER>' cannot be used with '--big-endian'*--help*"
 run check --scan -e 4096 --block 4096 block; want 2 "" "error: the argument '--block <N>' cannot be used multiple times*"
 
 # Help
@@ -100,7 +100,7 @@ for words in --help "check --help"; do
 done
 
 line="the lines of help, 80 columns wide at most"
-for words in --help "check --help" "ls --help" "cat --help" "build --help" "append --help" "update --help" "decompress --help" "compress --help" "compact --help" "extract --help" "listing --help" "info --help" "cuts --help" "diff --help" "damage --help" "map --help" "pack --help"; do
+for words in --help "check --help" "ls --help" "cat --help" "build --help" "append --help" "update --help" "decompress --help" "compress --help" "compact --help" "extract --help" "listing --help" "info --help" "cuts --help" "diff --help" "damage --help" "map --help" "pack --help" "verify --help"; do
     "$program" $words > out
     awk 'length > 80 { print; wide = 1 } END { exit wide }' out
     count $?
@@ -1247,7 +1247,7 @@ run append --blocks 8 --auto "$known/default.img" auto.txt made.auto; want "$got
 cmp -s made.given made.auto; count $?
 run extract --auto --quiet "$known/default.img" extracted_auto
 want 3 "" "jffs2_image: note: $little"$'\n*'
-# Where an image is written one size alone has to fit.
+# Where an image is written, or that is foretold, one size alone has to fit.
 unclear="jffs2_image: note: big-endian, block size unknown; give --block"
 for command in decompress compress compact; do
     run $command --auto "$known/lzo.img" unclear.img
@@ -1256,6 +1256,10 @@ for command in decompress compress compact; do
 done
 run update -a "$known/lzo.img" auto.txt unclear.img
 want 1 "" "$unclear"$'\n'"jffs2_image: M1 BlockSize$block_note"
+for words in "--blocks 64" "--blocks 64 --compress"; do
+    run cuts -a $words --on "$known/lzo.img" auto.txt
+    want 1 "" "$unclear"$'\n'"jffs2_image: M1 BlockSize$block_note"
+done
 # Without a node nothing is taken.
 bytes 1f 8b 08 00 > zipped
 nothing=$'jffs2_image: I1 NoNodes\njffs2_image: '"$no_node"
@@ -1269,9 +1273,9 @@ run ls --auto larger; want 1 "" "jffs2_image: L2 TooLarge"
 # Beside it nothing is given that it takes, and it wants an image.
 for words in "--block 8192" "-e 8K" "--endian little" "-l" "-b" "--decompress" "--block x"; do
     run ls --auto $words "$tree"
-    want 2 "" "error: invalid value '--auto' for '*': wanted one of the two*For more information, try 'jffs2_image ls --help'."
+    want 2 "" "error: the argument '--auto' cannot be used with '*For more information, try 'jffs2_image ls --help'."
 done
-run cuts --auto --blocks 1 auto.txt; want 2 "" "error: invalid value '--auto' for '--on <IMAGE>': wanted an image*"
+run cuts --auto --blocks 1 auto.txt; want 2 "" "error: the following required arguments were not provided:*--on <IMAGE>*"
 for words in "build --blocks 1" "pack" "listing" "info"; do
     run $words --auto a b; want 2 "" "error: unexpected argument '--auto' found*"
 done

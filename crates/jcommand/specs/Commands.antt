@@ -231,6 +231,14 @@ abbrev pub map_app : App
 map_app = with_rule (with_rule (reader (codes "map")) (flag (codes "svg")))
     (word (codes "IMAGE"))
 
+-- `verify [--times] [--owner UID GID] [--time T] [--quiet] [--auto] [--block N] [--endian ORDER]
+-- IMAGE DIR`
+abbrev pub verify_app : App
+verify_app = with_rule
+    (with_rule (folder_settings (with_rule (reader (codes "verify")) (flag (codes "times"))))
+    (word (codes "IMAGE")))
+    (word (codes "DIR"))
+
 -- the program without its subcommands, of which one has to be named; it tells its version
 abbrev pub bare : App
 bare = let app = new_app (codes "jffs2_image") in record app
@@ -250,10 +258,12 @@ program = with_subcommand
     (with_subcommand
     (with_subcommand
     (with_subcommand
+    (with_subcommand
     (with_subcommand (with_subcommand (with_subcommand (with_subcommand bare
     check_app.top) ls_app.top) cat_app.top) build_app.top) append_app.top) update_app.top)
     decompress_app.top) compress_app.top) compact_app.top) extract_app.top) listing_app.top)
-    info_app.top) cuts_app.top) diff_app.top) damage_app.top) map_app.top) pack_app.top
+    info_app.top) cuts_app.top) diff_app.top) damage_app.top) map_app.top) pack_app.top)
+    verify_app.top
 
 -- ---- what is made
 

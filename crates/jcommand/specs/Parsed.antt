@@ -32,6 +32,7 @@ use Rattle.jcommand.specs.declared.parsed.Packing.{Packing}
 use Rattle.jcommand.specs.declared.parsed.Placing.{Placing}
 use Rattle.jcommand.specs.declared.parsed.Target.{Target}
 use Rattle.jcommand.specs.declared.parsed.Updating.{Updating}
+use Rattle.jcommand.specs.declared.parsed.Verification.{Verification}
 
 -- ---- values
 
@@ -168,6 +169,17 @@ packing_view p = record {
   output = p.output.now;
 }
 
+abbrev pub verification_view : Verification (Bor Text) → Verification Text
+verification_view v = record {
+  options = v.options;
+  times = v.times;
+  owner = v.owner;
+  time = v.time;
+  quiet = v.quiet;
+  image = v.image.now;
+  folder = v.folder.now;
+}
+
 abbrev pub command_view : Command (Bor Text) → Command Text
 command_view (command.Scan i) = command.Scan (image_view i)
 command_view (command.Check c) =
@@ -217,6 +229,7 @@ command_view (command.Extract x) = command.Extract (extraction_view x)
 command_view (command.Listing l) = command.Listing (folder_view l)
 command_view (command.Pack p) = command.Pack (packing_view p)
 command_view (command.PackCompressed p) = command.PackCompressed (packing_view p)
+command_view (command.Verify v) = command.Verify (verification_view v)
 
 -- The byte order that a command is given, if it is given one. `info` finds out its own, and
 -- `listing` reads no image.
@@ -245,6 +258,7 @@ order_asked (command.Extract x) = x.options.endian
 order_asked (command.Listing l) = Little
 order_asked (command.Pack p) = p.options.endian
 order_asked (command.PackCompressed p) = p.options.endian
+order_asked (command.Verify v) = v.options.endian
 
 -- ---- by the rows of the subcommand's matches
 
@@ -520,6 +534,18 @@ pack_in rows = folder_in rows >>= λ l. options_in rows >>= λ options.
       output = output;
     })
 
+abbrev pub verify_in : List Row → Option (Command Text)
+verify_in rows = folder_in rows >>= λ l. image_in rows >>= λ i.
+    Some (command.Verify (record {
+      options = i.options;
+      times = is_given (codes "times") rows;
+      owner = l.owner;
+      time = l.time;
+      quiet = l.quiet;
+      image = i.image;
+      folder = l.folder;
+    }))
+
 -- what the subcommand of this name asks for, with these rows; None where it is no subcommand or a
 -- value can't be read
 unfoldable pub parsed : Text → List Row → Option (Command Text)
@@ -541,6 +567,7 @@ parsed name rows =
     else if bytes_eq name (codes "damage") then damage_in rows
     else if bytes_eq name (codes "map") then map_in rows
     else if bytes_eq name (codes "pack") then pack_in rows
+    else if bytes_eq name (codes "verify") then verify_in rows
     else None
 
 abbrev pub parsed_by : Option (Text × List Row) → Option (Command Text)

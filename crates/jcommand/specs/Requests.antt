@@ -42,8 +42,9 @@ image_read (command.Extract x) = Some x.image
 image_read (command.Listing l) = None
 image_read (command.Pack p) = None
 image_read (command.PackCompressed p) = None
+image_read (command.Verify v) = Some v.image
 
--- it writes an image
+-- it writes an image, or foretells how one is written
 abbrev pub writes_image : {T : Type 0} → Command T → Bool
 writes_image (command.Scan i) = false
 writes_image (command.Check c) = false
@@ -58,8 +59,8 @@ writes_image (command.Build b) = true
 writes_image (command.BuildCompressed b) = true
 writes_image (command.Append a) = true
 writes_image (command.Update u) = true
-writes_image (command.Cuts c) = false
-writes_image (command.CutsThrough c) = false
+writes_image (command.Cuts c) = true
+writes_image (command.CutsThrough c) = true
 writes_image (command.Decompress c) = true
 writes_image (command.Apart c) = true
 writes_image (command.Compress c) = true
@@ -69,6 +70,7 @@ writes_image (command.Extract x) = false
 writes_image (command.Listing l) = false
 writes_image (command.Pack p) = true
 writes_image (command.PackCompressed p) = true
+writes_image (command.Verify v) = false
 
 -- The command with these options and with `--decompress`, where it has that word; one that reads no
 -- image stays as it is.
@@ -107,6 +109,7 @@ with_options o (command.Extract x) = command.Extract (record x { options = o; de
 with_options o (command.Listing l) = command.Listing l
 with_options o (command.Pack p) = command.Pack p
 with_options o (command.PackCompressed p) = command.PackCompressed p
+with_options o (command.Verify v) = command.Verify (record v { options = o })
 
 -- ---- by the rows of the subcommand's matches
 

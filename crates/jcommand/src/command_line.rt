@@ -94,103 +94,161 @@ fn requested_in<'a>(matches: &ArgMatches<'a>) -> Option<Request<&'a str>>
     request_at(command, found)
 }
 
-/// Of a subcommand that reads a folder, the first value that can't be read, its option, and what is
-/// wanted there.
-fn unreadable_setting<'a>(found: &ArgMatches<'a>) -> (&'a str, &'a str, &'a str) {
-    let wanted = "two numbers in decimal digits, below 65536";
+/// Why words that clap takes ask for nothing.
+#[derive(Clone, Copy)]
+enum Objection<'a> {
+    /// A value of an option can't be read, where this is wanted.
+    Value {
+        value: &'a str,
+        option: &'a str,
+        wanted: &'a str,
+    },
+    /// Two options do not go together.
+    Conflict(&'a str, &'a str),
+    /// An option has to be there.
+    Missing(&'a str),
+}
+
+/// Of a subcommand that reads a folder, the first value that can't be read.
+fn setting_objection<'a>(found: &ArgMatches<'a>) -> Objection<'a> {
     for value in texts_at(found, "owner").unwrap_or(&[]) {
         if owner_number(value).is_none() {
-            return (value, "--owner <UID> <GID>", wanted);
+            return Objection::Value {
+                value,
+                option: "--owner <UID> <GID>",
+                wanted: "two numbers in decimal digits, below 65536",
+            };
         }
     }
-    let time = text_at(found, "time").unwrap_or("");
-    let wanted = "a number of seconds in decimal digits, below 4294967296";
-    (time, "--time <T>", wanted)
-}
-
-/// Of byte orders that can't be read, or of several, the same.
-fn unreadable_order<'a>(found: &ArgMatches<'a>) -> (&'a str, &'a str, &'a str) {
-    match text_at(found, "endian") {
-        Some(order) if endian(order).is_none() => (order, "--endian <ORDER>", "little or big"),
-        _ => (
-            "two orders",
-            "--endian <ORDER>",
-            "one of --endian, -l and -b",
-        ),
+    Objection::Value {
+        value: text_at(found, "time").unwrap_or(""),
+        option: "--time <T>",
+        wanted: "a number of seconds in decimal digits, below 4294967296",
     }
 }
 
-/// Of `--auto`, which says nothing beside another option or without an image, the same.
-fn unreadable_auto<'a>(found: &ArgMatches<'a>) -> (&'a str, &'a str, &'a str) {
-    let wanted = "one of the two";
+/// A byte order that can't be read, or one that is given twice.
+fn order_objection<'a>(found: &ArgMatches<'a>) -> Objection<'a> {
+    match text_at(found, "endian") {
+        Some(order) if endian(order).is_none() => Objection::Value {
+            value: order,
+            option: "--endian <ORDER>",
+            wanted: "little or big",
+        },
+        Some(_) if is_given(found, "little-endian") => {
+            Objection::Conflict("--endian <ORDER>", "--little-endian")
+        }
+        Some(_) => Objection::Conflict("--endian <ORDER>", "--big-endian"),
+        None => Objection::Conflict("--little-endian", "--big-endian"),
+    }
+}
+
+/// An option that `--auto` finds, or that there is no image to find it in.
+fn auto_objection<'a>(found: &ArgMatches<'a>) -> Objection<'a> {
     if text_at(found, "block").is_some() {
-        return ("--auto", "--block <N>", wanted);
+        return Objection::Conflict("--auto", "--block <N>");
     }
     if text_at(found, "endian").is_some() {
-        return ("--auto", "--endian <ORDER>", wanted);
+        return Objection::Conflict("--auto", "--endian <ORDER>");
     }
     if is_given(found, "little-endian") {
-        return ("--auto", "-l", wanted);
+        return Objection::Conflict("--auto", "--little-endian");
     }
     if is_given(found, "big-endian") {
-        return ("--auto", "-b", wanted);
+        return Objection::Conflict("--auto", "--big-endian");
     }
     if is_given(found, "decompress") {
-        return (
-            "--auto",
-            "--decompress",
-            "one of the two: --auto decompresses",
-        );
+        return Objection::Conflict("--auto", "--decompress");
     }
-    ("--auto", "--on <IMAGE>", "an image")
+    Objection::Missing("--on <IMAGE>")
 }
 
-/// The first value that can't be read, its option, and what is wanted there.
-fn unreadable_value<'a>(name: &str, found: &ArgMatches<'a>) -> (&'a str, &'a str, &'a str) {
-    if name == "listing" {
-        return unreadable_setting(found);
-    }
-    let is_alone = name == "cuts" && text_at(found, "on").is_none();
-    if is_given(found, "auto") && (is_alone || are_options_given(found)) {
-        return unreadable_auto(found);
-    }
+/// The first value that can't be read.
+fn value_objection<'a>(found: &ArgMatches<'a>) -> Objection<'a> {
     if size_at(found).is_none() {
-        let block = text_at(found, "block").unwrap_or("");
-        let wanted = "a number of bytes below 4294967296, as 131072, 0x20000 or 128KiB";
-        return (block, "--block <N>", wanted);
+        return Objection::Value {
+            value: text_at(found, "block").unwrap_or(""),
+            option: "--block <N>",
+            wanted: "a number of bytes below 4294967296, as 131072, 0x20000 or 128KiB",
+        };
     }
     if order_at(found).is_none() {
-        return unreadable_order(found);
+        return order_objection(found);
     }
     let rule = text_at(found, "clashes");
     if apart(rule).is_none() {
-        return (rule.unwrap_or(""), "--clashes <RULE>", "higher");
-    }
-    if is_given(found, "compress") && is_given(found, "weak") {
-        return ("--weak", "--compress", "one of the two");
+        return Objection::Value {
+            value: rule.unwrap_or(""),
+            option: "--clashes <RULE>",
+            wanted: "higher",
+        };
     }
     let blocks = text_at(found, "blocks").unwrap_or("0");
     if number(blocks).is_none() {
-        let wanted = "a number of blocks in decimal digits, below 4294967296";
-        return (blocks, "--blocks <N>", wanted);
+        return Objection::Value {
+            value: blocks,
+            option: "--blocks <N>",
+            wanted: "a number of blocks in decimal digits, below 4294967296",
+        };
     }
-    let size = text_at(found, "page").unwrap_or("");
+    let size = text_at(found, "page").unwrap_or("4096");
     if page(size).is_none() {
-        return (size, "--page <N>", "4096, 8192 or 16384");
+        return Objection::Value {
+            value: size,
+            option: "--page <N>",
+            wanted: "4096, 8192 or 16384",
+        };
     }
-    unreadable_setting(found)
+    setting_objection(found)
 }
 
-/// The text about the value that can't be read.
+/// Why the words of a subcommand ask for nothing.
+fn objection_to<'a>(name: &str, found: &ArgMatches<'a>) -> Objection<'a> {
+    if name == "listing" {
+        return setting_objection(found);
+    }
+    let is_alone = name == "cuts" && text_at(found, "on").is_none();
+    if is_given(found, "auto") && (is_alone || are_options_given(found)) {
+        return auto_objection(found);
+    }
+    if is_given(found, "compress") && is_given(found, "weak") {
+        return Objection::Conflict("--compress", "--weak");
+    }
+    value_objection(found)
+}
+
+/// The text that answers them.
+fn objection_text(
+    alloc: Global,
+    name: &str,
+    objection: &Objection<'_>,
+) -> Result<String, AllocError> {
+    let said = match objection {
+        Objection::Value {
+            value,
+            option,
+            wanted,
+        } => format!(in alloc; "invalid value '{value}' for '{option}': wanted {wanted}"),
+        Objection::Conflict(first, second) => {
+            format!(in alloc; "the argument '{first}' cannot be used with '{second}'")
+        }
+        Objection::Missing(option) => {
+            format!(in alloc; "the following required arguments were not provided:\n  {option}")
+        }
+    };
+    let said = said?;
+    format!(in alloc;
+        "error: {said}\n\n\
+         For more information, try 'jffs2_image {name} --help'.\n"
+    )
+}
+
+/// The text about words that clap takes, and that ask for nothing.
 fn unreadable(alloc: Global, matches: &ArgMatches<'_>) -> Result<String, AllocError> {
     let Some((name, found)) = matches.subcommand() else {
         return String::from_str(alloc, "error: no subcommand; try '--help'\n");
     };
-    let (value, option, wanted) = unreadable_value(name, found);
-    format!(in alloc;
-        "error: invalid value '{value}' for '{option}': wanted {wanted}\n\n\
-         For more information, try 'jffs2_image {name} --help'.\n"
-    )
+    objection_text(alloc, name, &objection_to(name, found))
 }
 
 /// What the words of a command line ask for. The first word is the program's own name.

@@ -2,7 +2,7 @@
 //! takes.
 ghost use Rattle.std.specs.Prelude.{◌≡◌, Ok, IfOk};
 ghost use Rattle.clap.specs.Words.{App, Rule, new_app, with_rule, with_subcommand};
-ghost use Rattle.jcommand.specs.Commands.{IsApp, IsRule, MakesApp, word, optional_word, option_or, required_option, option_of, option_of_two, flag, lettered_flag, block_option, plain_command, automatic, reader, writer, noting, check_app, ls_app, cat_app, build_app, append_app, update_app, decompress_app, compress_app, compact_app, extract_app, listing_app, info_app, cuts_app, diff_app, damage_app, map_app, pack_app, atomic, compressing, replacing, placing, folder_settings, bare, program};
+ghost use Rattle.jcommand.specs.Commands.{IsApp, IsRule, MakesApp, word, optional_word, option_or, required_option, option_of, option_of_two, flag, lettered_flag, block_option, plain_command, automatic, reader, writer, noting, check_app, ls_app, cat_app, build_app, append_app, update_app, decompress_app, compress_app, compact_app, extract_app, listing_app, info_app, cuts_app, diff_app, damage_app, map_app, pack_app, verify_app, atomic, compressing, replacing, placing, folder_settings, bare, program};
 
 use crate::help;
 use clap::{Arg, ArgAction, Command};
@@ -410,6 +410,17 @@ fn make_pack<'a>(alloc: Global) -> Made<'a>
     add_arg(add_arg(command, folder), output)
 }
 
+fn make_verify<'a>(alloc: Global) -> Made<'a>
+    ensures { MakesApp result verify_app }
+{
+    let times = make_flag(alloc, "times", help::TIMES);
+    let image = make_word(alloc, "IMAGE", help::IMAGE);
+    let folder = make_word(alloc, "DIR", help::FOLDER);
+    let command = make_reader(alloc, "verify", help::VERIFY, help::VERIFY_EPILOGUE);
+    let command = add_settings(alloc, add_arg(command, times));
+    add_arg(add_arg(command, image), folder)
+}
+
 /// The program without its subcommands.
 fn make_bare<'a>(alloc: Global) -> Command<'a>
     ensures { IsApp result bare }
@@ -439,5 +450,6 @@ pub(crate) fn make_program<'a>(alloc: Global) -> Made<'a>
     let command = add_subcommand(command, make_diff(alloc));
     let command = add_subcommand(command, make_damage(alloc));
     let command = add_subcommand(command, make_map(alloc));
-    add_subcommand(command, make_pack(alloc))
+    let command = add_subcommand(command, make_pack(alloc));
+    add_subcommand(command, make_verify(alloc))
 }

@@ -41,6 +41,8 @@ pub(crate) const MAP: &str = "Print where the nodes of an image lie, block by bl
 
 pub(crate) const PACK: &str = "Make an image of a folder of this host";
 
+pub(crate) const VERIFY: &str = "Print what differs between an image and a folder";
+
 pub(crate) const PAD: &str = "Fill OUT with 0xFF to the end of the flash";
 
 pub(crate) const ATOMIC: &str = "Replace an old OUT only if all goes well";
@@ -147,16 +149,17 @@ Examples:
   jffs2_image damage flash.img
   jffs2_image map dump.img
   jffs2_image pack --compress tree flash.img
+  jffs2_image verify flash.img tree
 
 Exit status:
   0  done, and nothing was found
   1  a fault, which standard error names
   2  the command line is wrong
-  3  check found a problem, diff a difference, damage a loss, info no node, or
-     cuts or --weak a weak node;
+  3  check found a problem, diff or verify a difference, damage a loss, info no
+     node, or cuts or --weak a weak node;
      extract, listing, pack or --clashes left something out;
-     extract, decompress, compress, compact, diff or damage read an image with
-     findings
+     extract, decompress, compress, compact, diff, verify or damage read an
+     image with findings
 
 A fault is one line, as 'jffs2_image: M6 RootKind'. Its letter names the part
 that stopped: C the report, L reading a file, M the mount, Z compressed data, I
@@ -734,3 +737,28 @@ Exit status:
   1  a fault, which standard error names
   2  the command line is wrong
   3  something was left out, or with --weak a weak node";
+
+pub(crate) const VERIFY_EPILOGUE: &str = "\
+DIR is read as pack reads it, and an image of it is made in memory. It prints
+the lines that diff prints of that image and IMAGE:
+
+  - LINE            only DIR has the path
+  + LINE            only IMAGE has it
+  - LINE, + LINE    both have it, and kind, permissions, owner, group, size or
+                    target differ, or with --times the time of change
+  * PATH at OFFSET  only the bytes differ, from this offset on
+
+IMAGE may have compressed data. Give --owner and --time as they were given to
+pack. Things of DIR that an image cannot hold are reported on standard error,
+each with a line 'left out PATH: REASON'. Numbers of devices are not compared.
+
+Examples:
+  jffs2_image verify flash.img tree
+  jffs2_image verify --owner 0 0 --time 1000000000 --times flash.img tree
+
+Exit status:
+  0  done, and nothing was printed
+  1  a fault, which standard error names
+  2  the command line is wrong
+  3  a difference was printed, something of DIR was left out, or IMAGE has
+     findings";

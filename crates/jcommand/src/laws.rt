@@ -280,6 +280,18 @@ pub fn known_requests()
     ensures packed_compressed { parsed_from (codes "jffs2_image" ∷ codes "pack" ∷ codes "a"
         ∷ codes "--compress" ∷ codes "b" ∷ [])
         ≡ Some (command.PackCompressed folder_a) }
+    ensures verified { parsed_from (codes "jffs2_image" ∷ codes "verify" ∷ codes "--owner"
+        ∷ codes "0" ∷ codes "7" ∷ codes "a" ∷ codes "--times" ∷ codes "--block=8192" ∷ codes "b"
+        ∷ [])
+        ≡ Some (command.Verify (record {
+          options = options_of 8192 Little;
+          times = true;
+          owner = Some (record { uid = 0; gid = 7 });
+          time = None;
+          quiet = false;
+          image = codes "a";
+          folder = codes "b";
+        })) }
     ensures packed_for { parsed_from (codes "jffs2_image" ∷ codes "pack" ∷ codes "--owner"
         ∷ codes "0" ∷ codes "7" ∷ codes "--time=9" ∷ codes "--weak" ∷ codes "--blocks=2" ∷ codes "a"
         ∷ codes "b" ∷ [])
@@ -386,6 +398,8 @@ pub fn known_refusals()
         ∷ codes "--blocks=2" ∷ codes "a" ∷ []) ≡ UnknownArgument ∷ [] }
     ensures no_second { fault_of program (codes "jffs2_image" ∷ codes "diff" ∷ codes "a" ∷ [])
         ≡ MissingRequiredArgument ∷ [] }
+    ensures not_verified { fault_of program (codes "jffs2_image" ∷ codes "verify" ∷ codes "a"
+        ∷ []) ≡ MissingRequiredArgument ∷ [] }
     ensures not_packed { fault_of program (codes "jffs2_image" ∷ codes "pack" ∷ codes "a" ∷ [])
         ≡ MissingRequiredArgument ∷ [] }
     ensures not_padded { fault_of program (codes "jffs2_image" ∷ codes "compress" ∷ codes "--pad"

@@ -32,6 +32,6 @@ pub use crate::outcome::{Outcome, status};
 pub use crate::parsed::{
     Appending, Building, Check, Command, Compaction, Comparison, Conversion, Cuts, CutsThrough,
     Examination, Extraction, FileContent, FolderListing, Image, Mapping, Options, Owner, Packing,
-    Placing, Target, TreeListing, Updating,
+    Placing, Target, TreeListing, Updating, Verification,
 };
 pub use crate::request::Request;

@@ -1,13 +1,13 @@
 //! What the matches of the program's command line ask for.
 ghost use Rattle.std.specs.Prelude.{◌≡◌, codes, map, option_map};
 ghost use Rattle.clap.specs.Words.{found_of, rows_of, all_of, first_of};
-ghost use Rattle.jcommand.specs.Parsed.{append_in, block_size_in, build_in, cat_in, check_in, command_view, compact_in, conversion_in, conversion_view, cuts_in, damage_in, decimal_number, decompress_in, diff_in, endian_of, extract_in, folder_in, folder_view, if_given, image_in, image_view, info_in, is_apart, is_given, ls_in, map_in, number_option, options_in, order_in, order_named, owner_number, owner_of, pack_in, page_of, parsed, placing_in, target_in, target_view, update_in};
+ghost use Rattle.jcommand.specs.Parsed.{append_in, block_size_in, build_in, cat_in, check_in, command_view, compact_in, conversion_in, conversion_view, cuts_in, damage_in, decimal_number, decompress_in, diff_in, endian_of, extract_in, folder_in, folder_view, if_given, image_in, image_view, info_in, is_apart, is_given, ls_in, map_in, number_option, options_in, order_in, order_named, owner_number, owner_of, pack_in, page_of, parsed, placing_in, target_in, target_view, update_in, verify_in};
 ghost use Rattle.jcommand.specs.Requests.{are_options_given, request_of, request_view};
 
 use crate::parsed::{
     Appending, Building, Check, Command, Compaction, Comparison, Conversion, Cuts, CutsThrough,
     Examination, Extraction, FileContent, FolderListing, Image, Mapping, Options, Owner, Packing,
-    Placing, Target, TreeListing, Updating,
+    Placing, Target, TreeListing, Updating, Verification,
 };
 use crate::request::Request;
 use crate::sizes::size;
@@ -458,6 +458,22 @@ fn pack_at<'a>(found: &ArgMatches<'a>) -> Option<Command<&'a str>>
     }
 }
 
+fn verify_at<'a>(found: &ArgMatches<'a>) -> Option<Command<&'a str>>
+    ensures { option_map command_view result ≡ verify_in (rows_of (found_of found.now)) }
+{
+    let folder = folder_at(found)?;
+    let image = image_at(found)?;
+    Some(Command::Verify(Verification {
+        options: image.options,
+        times: is_given(found, "times"),
+        owner: folder.owner,
+        time: folder.time,
+        quiet: folder.quiet,
+        image: image.image,
+        folder: folder.folder,
+    }))
+}
+
 /// What the subcommand asks for, or nothing where a value can't be read.
 #[tactic(auto, unfolding(crate::specs::Parsed::parsed))]
 pub(crate) fn parsed_of<'a>(name: &str, found: &ArgMatches<'a>) -> Option<Command<&'a str>>
@@ -481,6 +497,7 @@ pub(crate) fn parsed_of<'a>(name: &str, found: &ArgMatches<'a>) -> Option<Comman
         "damage" => damage_at(found),
         "map" => map_at(found),
         "pack" => pack_at(found),
+        "verify" => verify_at(found),
         _ => None,
     }
 }

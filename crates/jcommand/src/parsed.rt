@@ -214,6 +214,19 @@ pub struct Packing<T> {
     pub output: T,
 }
 
+/// What differs between an image and what `pack` makes of a folder with this owner and this time;
+/// with `times`, in times of change too.
+#[derive(Clone, Copy)]
+pub struct Verification<T> {
+    pub options: Options,
+    pub times: bool,
+    pub owner: Option<Owner>,
+    pub time: Option<u32>,
+    pub quiet: bool,
+    pub image: T,
+    pub folder: T,
+}
+
 /// What a command line asks for. Files, folders and paths are named by texts `T`.
 #[derive(Clone, Copy)]
 pub enum Command<T> {
@@ -267,6 +280,8 @@ pub enum Command<T> {
     Pack(Packing<T>),
     /// `pack --compress`: the same in nodes that are compressed if that makes them shorter.
     PackCompressed(Packing<T>),
+    /// `verify`: the lines of `diff` on a folder and an image.
+    Verify(Verification<T>),
 }
 
 impl<T> Command<T> {
@@ -298,6 +313,7 @@ impl<T> Command<T> {
             }
             Command::Extract(asked) => asked.options.endian,
             Command::Pack(asked) | Command::PackCompressed(asked) => asked.options.endian,
+            Command::Verify(asked) => asked.options.endian,
             Command::Info { .. } | Command::Listing(_) => Endian::Little,
         }
     }

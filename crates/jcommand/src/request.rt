@@ -5,7 +5,7 @@ ghost use Rattle.jcommand.specs.Requests.{image_read, with_options, writes_image
 
 use crate::parsed::{
     Appending, Check, Command, Compaction, Comparison, Conversion, Cuts, CutsThrough, Examination,
-    Extraction, FileContent, Image, Mapping, Options, Target, TreeListing, Updating,
+    Extraction, FileContent, Image, Mapping, Options, Target, TreeListing, Updating, Verification,
 };
 
 /// What a command line asks for. Files, folders and paths are named by texts `T`.
@@ -92,6 +92,7 @@ impl<'a> Command<&'a str> {
             }
             Command::Compact(asked) | Command::CompactApart(asked) => Some(asked.conversion.image),
             Command::Extract(asked) => Some(asked.image),
+            Command::Verify(asked) => Some(asked.image),
             Command::Info { .. }
             | Command::Build(_)
             | Command::BuildCompressed(_)
@@ -101,7 +102,7 @@ impl<'a> Command<&'a str> {
         }
     }
 
-    /// Whether it writes an image.
+    /// Whether it writes an image, or foretells how one is written.
     pub fn writes_image(&self) -> bool
         ensures { result ≡ writes_image (command_view self.now) }
     {
@@ -110,6 +111,8 @@ impl<'a> Command<&'a str> {
             | Command::BuildCompressed(_)
             | Command::Append(_)
             | Command::Update(_)
+            | Command::Cuts(_)
+            | Command::CutsThrough(_)
             | Command::Decompress(_)
             | Command::Apart(_)
             | Command::Compress(_)
@@ -165,6 +168,7 @@ impl<'a> Command<&'a str> {
                 decompress,
                 ..it
             }),
+            Command::Verify(it) => Command::Verify(Verification { options, ..it }),
             Command::Info { image } => Command::Info { image },
             Command::Build(it) => Command::Build(it),
             Command::BuildCompressed(it) => Command::BuildCompressed(it),

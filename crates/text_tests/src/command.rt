@@ -9,3 +9,4 @@ mod growth;
 mod packing;
 mod sizes;
 mod updating;
+mod verifying;

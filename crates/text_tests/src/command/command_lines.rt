@@ -4,6 +4,7 @@
 use crate::checks::{equal, equal_at, expect, expect_at};
 use crate::command::packing::shown_packing;
 use crate::command::updating::{shown_mapping, shown_updating};
+use crate::command::verifying::shown_verification;
 use jcommand::{
     Appending, Building, Check, Command, Compaction, Comparison, Conversion, Cuts, CutsThrough,
     Examination, Extraction, FileContent, FolderListing, Image, Options, Outcome, Owner, Placing,
@@ -267,6 +268,7 @@ pub(crate) fn shown(alloc: Global, command: Command<&str>) -> Result<String, All
         Command::Listing(asked) => shown_listing(alloc, asked),
         Command::Pack(asked) => shown_packing(alloc, "pack", asked),
         Command::PackCompressed(asked) => shown_packing(alloc, "compressed pack", asked),
+        Command::Verify(asked) => shown_verification(alloc, asked),
     }
 }
 

@@ -17,7 +17,13 @@ struct Row {
     done: &'static str,
 }
 
-const READING: [Row; 10] = [
+const READING: [Row; 9] = [
+    Row {
+        line: "t verify -a --times i d",
+        asked: "auto verify 65536 little i - - - d times",
+        image: "i",
+        done: "verify 8192 big i - - - d times",
+    },
     Row {
         line: "t check --scan -a i",
         asked: "auto scan 65536 little i",
@@ -66,6 +72,9 @@ const READING: [Row; 10] = [
         image: "i",
         done: "extract 8192 true false false i d decompressed",
     },
+];
+
+const WRITING: [Row; 9] = [
     Row {
         line: "t cuts -a --blocks 8 --on i l",
         asked: "auto cuts 65536 false 8 4096 i l",
@@ -78,9 +87,6 @@ const READING: [Row; 10] = [
         image: "i",
         done: "through cuts 8192 big 8 4096 i l compressed",
     },
-];
-
-const WRITING: [Row; 7] = [
     Row {
         line: "t append -a --blocks 8 i l o",
         asked: "auto append 65536 little 8 4096 i l o",
@@ -162,18 +168,39 @@ fn options_are_found(rt: HostRuntime) -> Result<(), Fail> {
 /// Words that are wrong, and a part of what is told of them.
 fn wrong() -> &'static [(&'static str, &'static str)] {
     &[
-        ("t ls -a --block 65536 i", "'--auto' for '--block <N>'"),
-        ("t ls -a -e 8K i", "'--auto' for '--block <N>'"),
-        ("t ls --eraseblock 8K i -a", "'--auto' for '--block <N>'"),
-        ("t ls -a --block x i", "'--auto' for '--block <N>'"),
+        (
+            "t ls -a --block 65536 i",
+            "'--auto' cannot be used with '--block <N>'",
+        ),
+        (
+            "t ls -a -e 8K i",
+            "'--auto' cannot be used with '--block <N>'",
+        ),
+        (
+            "t ls --eraseblock 8K i -a",
+            "'--auto' cannot be used with '--block <N>'",
+        ),
+        (
+            "t ls -a --block x i",
+            "'--auto' cannot be used with '--block <N>'",
+        ),
         (
             "t ls -a --endian=little i",
-            "'--auto' for '--endian <ORDER>'",
+            "'--auto' cannot be used with '--endian <ORDER>'",
         ),
-        ("t ls -al i", "'--auto' for '-l'"),
-        ("t cat -ab i /p", "'--auto' for '-b'"),
-        ("t ls -a --decompress i", "'--auto' for '--decompress'"),
-        ("t cuts -a --blocks 8 l", "'--auto' for '--on <IMAGE>'"),
+        (
+            "t ls -al i",
+            "'--auto' cannot be used with '--little-endian'",
+        ),
+        (
+            "t cat -ab i /p",
+            "'--auto' cannot be used with '--big-endian'",
+        ),
+        (
+            "t ls -a --decompress i",
+            "'--auto' cannot be used with '--decompress'",
+        ),
+        ("t cuts -a --blocks 8 l", "--on <IMAGE>"),
         (
             "t compact -a --blocks x i o",
             "invalid value 'x' for '--blocks <N>'",

@@ -5,7 +5,11 @@ use jcommand::{Command, RequestFault, asked};
 use std::alloc::Global;
 
 /// Words, and what they ask for.
-const LINES: [(&[&str], &str); 26] = [
+const LINES: [(&[&str], &str); 27] = [
+    (
+        &["t", "verify", "--owner", "1", "2", "a.img", "b"],
+        "verify",
+    ),
     (
         &["t", "build", "--compress", "a.txt", "b.img", "--blocks=8"],
         "compressed build",
@@ -102,6 +106,7 @@ fn name_of(command: &Command<&str>) -> &'static str {
         Command::Listing(_) => "listing",
         Command::Pack(_) => "pack",
         Command::PackCompressed(_) => "compressed pack",
+        Command::Verify(_) => "verify",
     }
 }
 

@@ -3,12 +3,30 @@
 
 use crate::checks::{equal_at, expect_at};
 use crate::command::command_lines::{answer_to, is_text, is_wrong, order_name, placing_mark};
+use crate::command::updating::shown_blocks;
 use jcommand::{Options, Owner, Packing};
 use std::alloc::{AllocError, Global};
 use std::test::Fail;
 
-/// What is to be packed, as the values in the order of the command's help; `-` for one that may be
-/// left out and is.
+/// A folder that is read, after its owner and its time; `-` for one that may be left out and is.
+pub(crate) fn shown_folder(
+    alloc: Global,
+    owner: Option<Owner>,
+    time: Option<u32>,
+    folder: &str,
+) -> Result<String, AllocError> {
+    let owner = match owner {
+        Some(Owner { uid, gid }) => format!(in alloc; "{uid} {gid}")?,
+        None => String::from_str(alloc, "- -")?,
+    };
+    let time = match time {
+        Some(time) => format!(in alloc; "{time}")?,
+        None => String::from_str(alloc, "-")?,
+    };
+    format!(in alloc; "{owner} {time} {folder}")
+}
+
+/// What is to be packed, as the values in the order of the command's help.
 pub(crate) fn shown_packing(
     alloc: Global,
     name: &str,
@@ -18,25 +36,14 @@ pub(crate) fn shown_packing(
     let block = geometry.block;
     let order = order_name(endian);
     let page = asked.page.size();
-    let blocks = match asked.blocks {
-        Some(blocks) => format!(in alloc; "{blocks}")?,
-        None => String::from_str(alloc, "-")?,
-    };
-    let owner = match asked.owner {
-        Some(Owner { uid, gid }) => format!(in alloc; "{uid} {gid}")?,
-        None => String::from_str(alloc, "- -")?,
-    };
-    let time = match asked.time {
-        Some(time) => format!(in alloc; "{time}")?,
-        None => String::from_str(alloc, "-")?,
-    };
+    let blocks = shown_blocks(alloc, asked.blocks)?;
+    let folder = shown_folder(alloc, asked.owner, asked.time, asked.folder)?;
     let weak = if asked.weak { " weak" } else { "" };
     let quiet = if asked.quiet { " quiet" } else { "" };
-    let folder = asked.folder;
     let output = asked.output;
     let flash = format!(in alloc; "{block} {order} {blocks} {page}")?;
     let placing = placing_mark(asked.placing);
-    format!(in alloc; "{name} {flash} {owner} {time} {folder} {output}{weak}{quiet}{placing}")
+    format!(in alloc; "{name} {flash} {folder} {output}{weak}{quiet}{placing}")
 }
 
 /// Lines that ask for an image of a folder, and what they ask for.

@@ -85,14 +85,17 @@ const WRONG: [(&str, &str); 29] = [
     ("t ls --eraseblock= a", "'' for '--block <N>'"),
     ("t ls -e 4K --block 4K a", "--block <N>"),
     ("t ls --eraseblock 4K -e 4K a", "--block <N>"),
-    ("t ls -l -b a", "'two orders' for '--endian <ORDER>'"),
+    (
+        "t ls -l -b a",
+        "'--little-endian' cannot be used with '--big-endian'",
+    ),
     (
         "t ls -l --endian little a",
-        "'two orders' for '--endian <ORDER>'",
+        "'--endian <ORDER>' cannot be used with '--little-endian'",
     ),
     (
         "t ls --big-endian --endian=big a",
-        "'two orders' for '--endian <ORDER>'",
+        "'--endian <ORDER>' cannot be used with '--big-endian'",
     ),
     (
         "t ls -b --endian=middle a",

@@ -6,14 +6,18 @@ use jcommand::{Mapping, Updating};
 use std::alloc::{AllocError, Global};
 use std::test::Fail;
 
-/// What is to be updated, as the values in the order of the command's help; `-` where the number of
-/// blocks is not given.
+/// The number of blocks; `-` where it is not given.
+pub(crate) fn shown_blocks(alloc: Global, blocks: Option<u32>) -> Result<String, AllocError> {
+    match blocks {
+        Some(blocks) => format!(in alloc; "{blocks}"),
+        None => String::from_str(alloc, "-"),
+    }
+}
+
+/// What is to be updated, as the values in the order of the command's help.
 pub(crate) fn shown_updating(alloc: Global, asked: Updating<&str>) -> Result<String, AllocError> {
     let command = shown_options(alloc, "update", asked.options)?;
-    let blocks = match asked.blocks {
-        Some(blocks) => format!(in alloc; "{blocks}")?,
-        None => String::from_str(alloc, "-")?,
-    };
+    let blocks = shown_blocks(alloc, asked.blocks)?;
     let page = asked.page.size();
     let plain = if asked.plain { " plain" } else { "" };
     let tail = if asked.tail { " tail" } else { "" };

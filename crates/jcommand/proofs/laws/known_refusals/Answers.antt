@@ -136,6 +136,10 @@ pub returns-clause-two_sizes : goal.returns-clause-two_sizes
 unfolding clap_on_literals program parsed parsed_from
 returns-clause-two_sizes c = refl
 
+pub returns-clause-not_verified : goal.returns-clause-not_verified
+unfolding clap_on_literals program parsed parsed_from
+returns-clause-not_verified c = refl
+
 pub returns-clause-compacted_lower : goal.returns-clause-compacted_lower
 unfolding clap_on_literals program parsed parsed_from
 returns-clause-compacted_lower c = refl

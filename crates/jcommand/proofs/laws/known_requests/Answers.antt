@@ -179,3 +179,7 @@ returns-clause-compacted_apart c = refl
 pub returns-clause-packed_compressed : goal.returns-clause-packed_compressed
 unfolding clap_on_literals program parsed parsed_from
 returns-clause-packed_compressed c = refl
+
+pub returns-clause-verified : goal.returns-clause-verified
+unfolding clap_on_literals program parsed parsed_from
+returns-clause-verified c = refl
