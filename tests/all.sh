@@ -67,6 +67,7 @@ tests/cuts_through.py $program
 tests/damage.py $program
 tests/retry.py $program
 tests/diff.py $program
+tests/verify.py $program
 tests/placing.sh $program
 tests/listings.py $program
 tests/commands.py --try $program

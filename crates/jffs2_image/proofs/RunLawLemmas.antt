@@ -29,6 +29,7 @@ use Rattle.jmakes.specs.Leaving.{LeavesFiles}
 use Rattle.jmakes.proofs.CommandLaws.{atomic_leaves_files}
 use Rattle.jmakes.proofs.LeavingLemmas.{looks_quiet, quiet_then}
 use Rattle.jpacks.proofs.PackLaws.{pack_compressed_leaves_files, pack_leaves_files}
+use Rattle.jverifies.proofs.VerifyLaws.{verify_makes_nothing}
 use Rattle.jupdates.proofs.UpdateLaws.{build_compressed_leaves_files, update_leaves_files}
 use Rattle.jremakes.specs.Laws.{Apart, Compact, CompactApart, Compress, Decompress}
 use Rattle.jremakes.proofs.LeftLemmas.{remade_is_left}
@@ -62,6 +63,7 @@ command_looks (command.Extract x) is = absurd is
 command_looks (command.Listing l) is = (reading_makes_nothing (listing_settings l.owner l.time) l.quiet l.folder).0
 command_looks (command.Pack p) is = absurd is
 command_looks (command.PackCompressed p) is = absurd is
+command_looks (command.Verify v) is = verify_makes_nothing v.options.endian v
 
 refused_looks : (why : RequestFault) → MakesNothing (refused_act why)
 refused_looks (refused.Help text) = looking.reported_looks _ (looking.prints_looks _)
@@ -94,6 +96,7 @@ product_kept o (command.Extract x) = refl
 product_kept o (command.Listing x) = refl
 product_kept o (command.Pack x) = refl
 product_kept o (command.PackCompressed x) = refl
+product_kept o (command.Verify x) = refl
 
 found_looks : (image : Option Text) (asked : Command Text) → IsPrintedOnly (product_of asked) → MakesNothing (reported (found_act image asked))
 found_looks None asked is = command_looks asked is
@@ -138,6 +141,7 @@ command_leaves (command.Extract x) events f atomic other did = absurd atomic
 command_leaves (command.Listing l) events f atomic other did = absurd atomic
 command_leaves (command.Pack p) events f atomic other did = pack_leaves_files p.options.endian p events f atomic other did
 command_leaves (command.PackCompressed p) events f atomic other did = pack_compressed_leaves_files p.options.endian p events f atomic other did
+command_leaves (command.Verify v) events f atomic other did = absurd atomic
 
 found_leaves : (image : Text) (asked : Command Text) (events : List Event) (f : Fault) → IsAtomic (product_of asked) → (f ≡ fault.Output → ⊥)
     → found_act (Some image) asked events (Err f) → LeavesFiles events

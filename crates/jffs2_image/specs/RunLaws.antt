@@ -50,6 +50,7 @@ product_of (command.Extract x) = NewFolder
 product_of (command.Listing l) = NoProduct
 product_of (command.Pack p) = NewFile p.placing
 product_of (command.PackCompressed p) = NewFile p.placing
+product_of (command.Verify v) = NoProduct
 
 -- ---- with `--atomic`, a fault leaves the files as they were
 

@@ -31,6 +31,7 @@ use Rattle.jfolders.specs.Reading.{listing_settings}
 use Rattle.jforetells.specs.Foretelling.{cuts_through_act}
 use Rattle.jpacks.specs.Packing.{filling_packed, pack_act, pack_compressed_act}
 use Rattle.jupdates.specs.Commands.{build_compressed_act, update_act}
+use Rattle.jverifies.specs.Verifying.{verify_act}
 
 -- ---- the act of each command, by what it is given
 
@@ -79,6 +80,7 @@ command_act (command.Extract x) = extract_act x
 command_act (command.Listing l) = listing_act (listing_settings l.owner l.time) l.quiet l.folder
 command_act (command.Pack p) = pack_act p.options.endian p
 command_act (command.PackCompressed p) = pack_compressed_act p.options.endian p
+command_act (command.Verify v) = verify_act v.options.endian v
 
 -- ---- with `--auto`
 

@@ -21,6 +21,7 @@ use jreads::files_host::FilesHost;
 use jreads::stream_host::StreamHost;
 use jremakes::commands::{run_apart, run_compact, run_compact_apart, run_compress, run_decompress};
 use jupdates::commands::{run_build_compressed, run_update};
+use jverifies::commands::run_verify;
 
 /// Runs a command.
 pub fn run_command<E: Order, H: FileHost + FilesHost + StreamHost + FolderHost>(
@@ -60,5 +61,6 @@ pub fn run_command<E: Order, H: FileHost + FilesHost + StreamHost + FolderHost>(
         Command::Listing(asked) => run_listing(host, asked),
         Command::Pack(asked) => run_pack::<E, H>(host, asked),
         Command::PackCompressed(asked) => run_pack_compressed::<E, H>(host, asked),
+        Command::Verify(asked) => run_verify::<E, H>(host, asked),
     }
 }

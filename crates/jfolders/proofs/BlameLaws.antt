@@ -54,7 +54,7 @@ of_event (fault.Refused why) events is = is
 of_event fault.Output events is = (Answers, is.0, is.1, is.2)
 of_event fault.OutOfMemory events is = tt
 
-of_act : {A : Type 0} (act : Act A) → BlamesFailed act → BlamesOnlyFailed act
+pub of_act : {A : Type 0} (act : Act A) → BlamesFailed act → BlamesOnlyFailed act
 of_act act blames events f did = of_event f events (blames events f did)
 
 call_after : (f : Fault) (xs ys : List Event) → BlamesCall f ys → BlamesCall f (xs ++ ys)
@@ -67,7 +67,7 @@ call_after (fault.Refused why) xs ys is = is
 call_after fault.Output xs ys is = (is.0, is.1, is.2, after_more _ xs ys is.3)
 call_after fault.OutOfMemory xs ys is = tt
 
-then_blamed : {A B : Type 0} (first : Act A) (next : A → Act B) → BlamesOnlyFailed first → ((a : A) → BlamesOnlyFailed (next a)) → BlamesOnlyFailed (Then first next)
+pub then_blamed : {A B : Type 0} (first : Act A) (next : A → Act B) → BlamesOnlyFailed first → ((a : A) → BlamesOnlyFailed (next a)) → BlamesOnlyFailed (Then first next)
 then_blamed first next one two events f (Ends g did is) = let is_it : f ≡ g = cc in alike events is_it (one events g did)
 then_blamed first next one two events f (GoesOn a before after did more is) = same f is (call_after f before after (two a after f more))
 

@@ -27,7 +27,7 @@ pub text_judges : (wanted : ImageWanted) (base : Option Viewed) (before : HostFi
 text_judges wanted base before text = then_judges wanted.file _ _ (answers_looks _) (λ (lines : List Line).
     then_judges wanted.file _ _ (loads_named_looks lines before) (λ (files : HostFiles). lines_judge wanted base (part_contents files) lines))
 
-listing_blames : (text : List ℕ) → BlamesFailed (answers (ReadsListingLines text))
+pub listing_blames : (text : List ℕ) → BlamesFailed (answers (ReadsListingLines text))
 listing_blames text events f is = elim is.1 [
   | inl w ↦ subst (λ (g : Fault). BlamesEvent g events) (sym w.1) tt
   | inr w ↦ subst (λ (g : Fault). BlamesEvent g events) (sym w) tt

@@ -228,7 +228,7 @@ from_blamed_by wanted m of events f (NotPrinted is blames) = inl blames
 from_blamed : (wanted : ImageWanted) (m : Mount) (of : Numbered) (from : ℕ) (told : Told) → BlamesMaking wanted.file (writes_from wanted m of from told)
 from_blamed wanted m of from told events f did = from_blamed_by wanted m of events f (from_cases wanted m of from told events f did)
 
-start_of_bytes : (e : Endian) (flash : Flash) (m : Mount) (events : List Event) (f : Fault) → IsStartedBehind e flash m (Err f) → BlamesEvent f events
+pub start_of_bytes : (e : Endian) (flash : Flash) (m : Mount) (events : List Event) (f : Fault) → IsStartedBehind e flash m (Err f) → BlamesEvent f events
 start_of_bytes e flash m events f is =
     let cause : Cause = cause_of (plan_on flash m.image) is.0 because.Other None in
     subst (λ (g : Fault). BlamesEvent g events) (sym is.2)

@@ -22,7 +22,7 @@ pub struct DoneOps {
 }
 
 /// The flash that is written, and the image on it.
-pub(crate) fn plan_of<E: Order>(start: &Start<'_, '_, E>) -> Plan
+pub fn plan_of<E: Order>(start: &Start<'_, '_, E>) -> Plan
     ensures { result ≡ plan_on (flash_of_start start.now) (mount_of start.now).image }
 {
     let flash = start.flash();
@@ -57,7 +57,7 @@ fn not_written(line: Option<usize>, reason: Reason) -> ProgramFault<'static>
 }
 
 /// What is known of blocks.
-fn blocks_if_known(blocks: Result<Option<u32>, AllocError>) -> Option<u32>
+pub fn blocks_if_known(blocks: Result<Option<u32>, AllocError>) -> Option<u32>
     ensures { result ≡ blocks_if_known blocks }
 {
     match blocks {

@@ -46,7 +46,7 @@ fn base_image(base: Option<&Subject>) -> &[u8]
 }
 
 /// Where writing goes on behind a mounted image.
-fn start_on<'m, 'a, E: Order>(
+pub fn start_on<'m, 'a, E: Order>(
     mounted: &'m Mounted<'a>,
     flash: Flash,
 ) -> Result<Start<'m, 'a, E>, Fault>

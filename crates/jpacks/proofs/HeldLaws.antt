@@ -57,7 +57,7 @@ use Rattle.jupdates.specs.Asked.{DeviceWanted}
 use Rattle.jupdates.specs.Commands.{updates_text}
 use Rattle.jupdates.proofs.ShownLemmas.{happened_in, kept_after, kept_in, same_answer, skipped, text_run}
 use Rattle.jpacks.specs.Held.{PackCompressedHoldsFolder, PackHoldsFolder, ShowsFolder, WasRead, all_written}
-use Rattle.jpacks.specs.Packing.{device_of_packing, image_packed, packs_folder}
+use Rattle.jpacks.specs.Packing.{device_of_packing, image_packed, packed_told, packs_folder}
 use Rattle.jpacks.proofs.FilledLemmas.{filled_holds}
 use Rattle.jpacks.proofs.FillLemmas.{packed_within}
 use Rattle.jpacks.proofs.PackedLemmas.{run_holds}
@@ -190,25 +190,31 @@ text_put wanted before text events told did =
 -- ---- the folder
 
 -- a folder was read: this was known of it, this tree was found, and these files were kept
-record IsFolderRead (name : List ℕ) (quiet : Bool) (options : Options) (events : List Event) (listed : Listed) : Type 0 where
-  known : Known
-  tree : FolderTree
-  kept : List ℕ → Option (List ℕ)
-  looked : Happened (Did (ReadFolder name quiet known)) events
-  listable : IsListableTree known options tree
-  text : listed.text.items ≡ listing_text tree.root tree.items.items
-  keeps : Happened (Did (Keep name kept)) events
-  are : (file : List ℕ) → kept file ≡ files_kept listed.files file
+pub record IsFolderRead (name : List ℕ) (quiet : Bool) (options : Options) (events : List Event) (listed : Listed) : Type 0 where
+  pub known : Known
+  pub tree : FolderTree
+  pub kept : List ℕ → Option (List ℕ)
+  pub looked : Happened (Did (ReadFolder name quiet known)) events
+  pub listable : IsListableTree known options tree
+  pub text : listed.text.items ≡ listing_text tree.root tree.items.items
+  pub keeps : Happened (Did (Keep name kept)) events
+  pub are : (file : List ℕ) → kept file ≡ files_kept listed.files file
+  pub left_out : listed.left_out ≡ tree.left_out
 
 -- what a tree that was found comes to
 record IsTreeKept (closed : Closed) (tree : FolderTree) (listed : Listed) : Type 0 where
   text : listed.text.items ≡ listing_text tree.root tree.items.items
   files : listed.files ≡ closed.files
+  left_out : listed.left_out ≡ tree.left_out
 
 tree_kept : (closed : Closed) (tree : FolderTree) (listed : Listed) → IsListingKept closed tree (Ok listed) → IsTreeKept closed tree listed
 tree_kept closed tree listed (inl is) =
     let same : listed ≡ is.0 = same_answer is.1 in
-    record { text = ap (λ (l : Listed). l.text.items) same ∙ is.2; files = ap (λ (l : Listed). l.files) same ∙ is.4 }
+    record {
+      text = ap (λ (l : Listed). l.text.items) same ∙ is.2;
+      files = ap (λ (l : Listed). l.files) same ∙ is.4;
+      left_out = ap (λ (l : Listed). l.left_out) same ∙ is.3;
+    }
 tree_kept closed tree listed (inr none) = absurd (no_fault none)
 
 record IsTreeFound (known : Known) (options : Options) (closed : Closed) (listed : Listed) : Type 0 where
@@ -227,7 +233,7 @@ folder_asked name quiet known events (inl is) =
     is.2 ∙ ap (λ (k : Known). Did (ReadFolder name quiet k) ∷ []) (sym (same_answer is.1))
 folder_asked name quiet known events (inr is) = absurd (no_fault is.0)
 
-folder_read : (name : List ℕ) (quiet : Bool) (options : Options) (events : List Event) (listed : Listed) → reads_folder name quiet options events (Ok listed) → IsFolderRead name quiet options events listed
+pub folder_read : (name : List ℕ) (quiet : Bool) (options : Options) (events : List Event) (listed : Listed) → reads_folder name quiet options events (Ok listed) → IsFolderRead name quiet options events listed
 folder_read name quiet options events listed did =
     let asks = both_done did in
     let through : keeps_through name options asks.x asks.after (Ok listed) = asks.two in
@@ -249,11 +255,12 @@ folder_read name quiet options events listed did =
       keeps = subst (λ (l : List Event). Happened (Did (Keep name closed.1)) l) (sym asks.all)
           (after_more _ asks.before asks.after (subst (λ (l : List Event). Happened (Did (Keep name closed.1)) l) (sym closes.all) (before_more _ closes.before closes.after closing)));
       are = λ file. closed.3 file ∙ (ap (λ (c : Closed). files_kept c.files file) (sym same) ∙ ap (λ (f : KeptFiles). files_kept f file) (sym tree.kept.files));
+      left_out = tree.kept.left_out;
     }
 
 -- ---- `pack`
 
-was_read : (name : List ℕ) (folder : List ℕ) (kept : List ℕ → Option (List ℕ)) (before files : HostFiles) (events : List Event) → Happened (Did (Keep folder kept)) events → read_of before name ≡ kept name
+pub was_read : (name : List ℕ) (folder : List ℕ) (kept : List ℕ → Option (List ℕ)) (before files : HostFiles) (events : List Event) → Happened (Did (Keep folder kept)) events → read_of before name ≡ kept name
     → IsFileKept before files events name → WasRead events name (part_contents files name)
 was_read name folder kept before files events keeps same is =
     let bytes : part_contents files name ≡ is.0 = ap (λ (o : Option (List ℕ)). option_map_or (λ (b : List ℕ). b) o []) is.1 in
@@ -262,20 +269,22 @@ was_read name folder kept before files events keeps same is =
       | inr read ↦ inl read
     ])
 
--- A folder was read, and its listing was written by an act, to which all goes that was written.
-record IsFolderListed (asked : Packing (List ℕ)) (writes : HostFiles → List ℕ → Act Told) (events : List Event) : Type 0 where
-  listed : Listed
-  before : HostFiles
-  first : List Event
-  during : List Event
-  told : Told
-  folder : IsFolderRead asked.folder asked.quiet (listing_settings asked.owner asked.time) events listed
-  were : (name : List ℕ) → read_of before name ≡ folder.kept name
-  wrote : writes before listed.text.items during (Ok told)
-  all : events ≡ first ++ during
-  written : all_written events ≡ all_written during
+-- A folder was read, and its listing was written by an act, to which all goes that was written; that
+-- comes to the answer.
+pub record IsFolderListed (asked : Packing (List ℕ)) (writes : HostFiles → List ℕ → Act Told) (events : List Event) (answer : Told) : Type 0 where
+  pub listed : Listed
+  pub before : HostFiles
+  pub first : List Event
+  pub during : List Event
+  pub told : Told
+  pub folder : IsFolderRead asked.folder asked.quiet (listing_settings asked.owner asked.time) events listed
+  pub were : (name : List ℕ) → read_of before name ≡ folder.kept name
+  pub wrote : writes before listed.text.items during (Ok told)
+  pub all : events ≡ first ++ during
+  pub written : all_written events ≡ all_written during
+  pub is : answer ≡ packed_told listed.left_out told
 
-folder_listed : (asked : Packing (List ℕ)) (writes : HostFiles → List ℕ → Act Told) (events : List Event) (told : Told) → packs_folder asked writes events (Ok told) → IsFolderListed asked writes events
+unfoldable pub folder_listed : (asked : Packing (List ℕ)) (writes : HostFiles → List ℕ → Act Told) (events : List Event) (told : Told) → packs_folder asked writes events (Ok told) → IsFolderListed asked writes events told
 folder_listed asked writes events told did =
     let options = listing_settings asked.owner asked.time in
     let reads = both_done did in
@@ -301,15 +310,17 @@ folder_listed asked writes events told did =
         text = read.text;
         keeps = happened_in _ reads.all (before_more _ reads.before reads.after read.keeps);
         are = read.are;
+        left_out = read.left_out;
       };
       were = λ name. ap (λ (h : HostFiles). read_of h name) same ∙ (were.2 name ∙ sym (read.are name));
       wrote = rest.one;
       all = reads.all ∙ ap (λ (l : List Event). reads.before ++ l) tail;
       written = written_later reads.before reads.after reads.all looked ∙ ap all_written tail;
+      is = same_answer rest.two.1;
     }
 
 -- a file system that holds its tree is shown, where the bytes are those of the files
-folder_shown : (asked : Packing (List ℕ)) (writes : HostFiles → List ℕ → Act Told) (events : List Event) (of : IsFolderListed asked writes events) (lines : List Line) (files : HostFiles) (state : State)
+unfoldable pub folder_shown : {told : Told} (asked : Packing (List ℕ)) (writes : HostFiles → List ℕ → Act Told) (events : List Event) (of : IsFolderListed asked writes events told) (lines : List Line) (files : HostFiles) (state : State)
     → lines_of of.listed.text.items ≡ Ok lines → ((name : List ℕ) → Contains (files_named lines) name → IsFileKept of.before files of.during name)
     → HoldsTree (part_contents files) of.folder.tree.root of.folder.tree.items.items state → ShowsFolder asked events state
 folder_shown asked writes events of lines files state listed kept holds = record {

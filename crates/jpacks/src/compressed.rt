@@ -31,7 +31,7 @@ fn device_of<'a>(asked: Packing<&'a str>) -> DeviceToWrite<'a>
 }
 
 /// What is found where so many objects were left out.
-fn found_with(left_out: u64, found: Found<'static>) -> Found<'static>
+pub fn found_with(left_out: u64, found: Found<'static>) -> Found<'static>
     ensures { found_told result ≡ packed_told left_out (found_told found.entry) }
 {
     Found {

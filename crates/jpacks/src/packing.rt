@@ -65,7 +65,7 @@ pub fn filling_of(pad: bool, block: u32, given: Option<u32>) -> Option<Filling>
 }
 
 /// The image that is asked for.
-pub(crate) fn image_of<'a>(asked: Packing<&'a str>) -> ImageToWrite<'a>
+pub fn image_of<'a>(asked: Packing<&'a str>) -> ImageToWrite<'a>
     ensures { (e : Endian) → image_to_write e result ≡ image_packed e (packing_view asked.entry) }
 {
     let block = asked.options.geometry.block;

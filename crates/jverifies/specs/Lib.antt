@@ -1,0 +1,5 @@
+pub mod Making
+pub mod Seen
+pub mod Verified
+pub mod VerifyLaws
+pub mod Verifying

@@ -1,0 +1,10 @@
+-- What a folder is compared with, as the act sees it.
+use Rattle.jverifies.specs.Verifying.{Sought}
+use Rattle.jverifies.specs.declared.comparing.Against.{Against}
+
+abbrev pub compared_with : Against → Sought
+compared_with against = record {
+  image = against.image.now;
+  times = against.times;
+  flash = against.flash;
+}
