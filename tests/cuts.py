@@ -121,6 +121,11 @@ def hexed(seed, length):
 
 
 MADE = ["time 5", "owner 3 4", "mkdir 0755 /d", "create 0640 /d/a", "write /d/a 0 " + hexed(1, 300), "symlink /s d/a"]
+TREE = MADE[:4] + [
+    "write /d/a 0 " + hexed(1, 5000),
+    "create 0600 /t",
+    "write /t 0 " + (b"one line of text, and again one line of text.\n" * 100).hex(),
+]
 
 # Options that readers have too, the page, and the lines of a base and of the listing on it
 ROWS = [

@@ -13,7 +13,7 @@ import subprocess
 import sys
 
 from cuts import MADE, ROWS, Tree, hexed, laid
-from groups import PROGRAM, read, run, run_all, verdict, write
+from groups import PROGRAM, read, run, run_all, verdict, write, write_lines
 
 TEXT = (b"one line of text, and again one line of text.\n" * 250).hex()
 WEAK = ["create 0644 /a", "write /a 0 bef98e24fe"]
@@ -25,10 +25,6 @@ TEXTS = [
     (4096, MADE + ["create 0600 /t", "write /t 0 " + TEXT], ["replace /t /d/a", "", "# more", "attr 0604 0 0 1 2 /d/a", "write /d/a 0 " + hexed(9, 6000)]),
 ]
 MIXED = TEXTS + [(page, base, lines) for _, page, base, lines in ROWS]
-
-
-def write_lines(name, lines):
-    write(name, "".join(line + "\n" for line in lines))
 
 
 def options_of(order, size):

@@ -42,6 +42,10 @@ def write(name, data):
         file.write(data if isinstance(data, bytes) else data.encode())
 
 
+def write_lines(name, lines):
+    write(name, "".join(line + "\n" for line in lines))
+
+
 def run_all(groups):
     """Runs each group in one new folder, tells of it and then of all, and answers the status of the suite."""
     with tempfile.TemporaryDirectory(prefix="groups-") as folder:

@@ -8,7 +8,6 @@ others what they showed. Then the same listing is tried again on what is left, w
 stopped: that shows all that the listing says, and one more try changes no path. The files are those of the plain model of
 tests/put_model.py. Then what `put` and `remove-if` refuse. The last line is 'N passed, M failed'.
 """
-import os
 import random
 import re
 import subprocess
@@ -16,18 +15,11 @@ import sys
 
 import put_model
 import update_model
-from cuts import Tree, hexed
-from groups import BLOCK, ORDERS, PROGRAM, options_of, read, run, run_all, verdict, write
+from cuts import TREE, Tree, hexed
+from groups import BLOCK, ORDERS, PROGRAM, options_of, read, run, run_all, verdict, write, write_lines
 
 BLOCKS = 48
-BASE = [
-    "time 5",
-    "owner 3 4",
-    "mkdir 0755 /d",
-    "create 0640 /d/a",
-    "write /d/a 0 " + hexed(1, 5000),
-    "create 0600 /t",
-    "write /t 0 " + (b"one line of text, and again one line of text.\n" * 100).hex(),
+BASE = TREE + [
     "link /t /d/t",
     "symlink /s d/a",
     "mkdir 0700 /empty",
@@ -52,10 +44,6 @@ ROWS = {
     "twice in one listing": ["put 0644 /t text", "put 0600 /t small", "remove-if /t", "put 0640 /t none", "remove-if /d/a"],
 }
 FIRST = ["put 0600 /n new", "put 0644 /m text", "remove-if /n", "put 0600 /n small", "remove-if /none"]
-
-
-def listing(name, lines):
-    write(name, "".join(line + "\n" for line in lines))
 
 
 def loaded():
@@ -116,7 +104,7 @@ class Way:
 
     def write(self, image, lines):
         """What the command tells that writes the listing to an image, and what it makes."""
-        listing("listing", lines)
+        write_lines("listing", lines)
         write("image", image)
         words = [*options_of(self.order, self.size), "--blocks", str(BLOCKS), "--page", str(self.page)]
         if self.command == "build" and not image:
@@ -205,14 +193,10 @@ def until_done(about, way, base, lines, states, seed):
 
 def base_of(way):
     """The image of the base, as this way meets it."""
-    listing("base.txt", BASE)
+    write_lines("base.txt", BASE)
     words = [*options_of(way.order, way.size), "--page", str(way.page)]
     run("build", *words, "--blocks", "8", *(["--compress"] if way.compress else []), "base.txt", "base")
     return read("base")
-
-
-def has_compress():
-    return "--compress" in run("build", "--help")[1]
 
 
 def ways():
@@ -220,8 +204,7 @@ def ways():
         yield Way("append", order)
         yield Way("update", order)
     yield Way("append", "<", 8192)
-    if has_compress():
-        yield Way("update", ">", 4096, True)
+    yield Way("update", ">", 4096, True)
 
 
 def on_a_base():
@@ -238,7 +221,7 @@ def from_nothing():
     """`build`, stopped, and then `append` of the same listing to what is left."""
     loaded()
     for order in "<>":
-        for compress in (False, True) if has_compress() else (False,):
+        for compress in (False, True):
             way = Way("build", order, 4096, compress)
             states = each_stop(f"from nothing, {way}", way, b"", FIRST, [])
             for seed in range(5):

@@ -15,30 +15,16 @@ import sys
 
 import hostile_model
 import update_model as model
-from cuts import Tree, hexed, laid
-from groups import BLOCK, ORDERS, PROGRAM, ROOT, options_of, read, run, run_all, verdict, write
+from cuts import TREE, Tree, hexed, laid
+from groups import BLOCK, ORDERS, PROGRAM, ROOT, options_of, read, run, run_all, verdict, write, write_lines
 
-BASE = [
-    "time 5",
-    "owner 3 4",
-    "mkdir 0755 /d",
-    "create 0640 /d/a",
-    "write /d/a 0 " + hexed(1, 5000),
-    "create 0600 /t",
-    "write /t 0 " + (b"one line of text, and again one line of text.\n" * 300).hex(),
-    "symlink /s d/a",
-    "write /t 100 " + hexed(2, 9000),
-]
+BASE = TREE + ["symlink /s d/a", "write /t 4000 " + (b"more text, line by line\n" * 400).hex(), "write /t 100 " + hexed(2, 9000)]
 LISTINGS = {
     "a name": ["create 0644 /b"],
     "a file": ["time 9", "create 0644 /n", "write /n 0 " + hexed(3, 12288), "rename /n /d/n"],
     "text": ["create 0644 /n", "write /n 0 " + (b"text " * 3000).hex(), "truncate /n 777", "write /n 2000 f0"],
     "changes": ["write /d/a 100 " + hexed(4, 300), "truncate /t 50", "remove /s", "mkdir 0700 /e", "link /d/a /e/l"],
 }
-
-
-def write_lines(name, lines):
-    write(name, "".join(line + "\n" for line in lines))
 
 
 def steps_of(tree, lines):

@@ -9,7 +9,7 @@ import sys
 
 import linux
 import tree
-from judging import COUNTS, run, test
+from judging import ended, run, test
 
 IMAGES, WANTED = 3, 3
 WORDS = ["--block", "16384"]
@@ -56,8 +56,7 @@ def judge(got):
             folder = linux.unpacked(tar)
             again, _ = linux.compare_tree(what, WORDS, out, folder)
             linux.extracted(what, WORDS, out, folder, again)
-    for line, count in counts.most_common():
-        print(f"kernel: {count} x {line}")
+    linux.print_said(counts)
     return clashed
 
 
@@ -65,8 +64,7 @@ def main():
     clashed = judge(boot(sys.argv[3]))
     print(f"{clashed} images clash")
     test("images that clash", [] if clashed >= WANTED else [f"{clashed}, wanted {WANTED}"])
-    print(f"{COUNTS[0]} passed, {COUNTS[1]} failed")
-    return 1 if COUNTS[1] else 0
+    return ended()
 
 
 if __name__ == "__main__":

@@ -1,7 +1,6 @@
 #!/usr/bin/env python3
 """Boots Linux, lets it write images until blocks were collected, and boots it again to mount what `compact` makes of them: see
 compact.sh."""
-import collections
 import glob
 import os
 import random
@@ -11,7 +10,7 @@ import sys
 import linux
 import tars
 import tree
-from judging import COUNTS, run, test
+from judging import ended, run, test
 
 BLOCKS = {"used64": 65536, "used16": 16384, "usednand": 8192, "usedholes": 16384}
 LINE = re.compile(rb"compacted (\d+) of (\d+) nodes bytes (\d+)\n")
@@ -124,17 +123,13 @@ def main():
     inputs(given, "used")
     linux.boot(os.path.dirname(given), given, got)
     inputs(given_again, None)
-    names, counts = made(got, given_again), collections.Counter()
+    names = made(got, given_again)
     print(f"{len(names)} images are compacted")
     linux.boot(os.path.dirname(given_again), given_again, got_again)
     for name in names:
         judge_one(name, got, given_again, got_again)
-    for log in sorted(glob.glob(os.path.join(got_again, "compacted-*.log"))):
-        linux.said(os.path.basename(log)[:-4].replace(".live", "_live"), log, counts)
-    for line, count in counts.most_common():
-        print(f"kernel: {count} x {line}")
-    print(f"{COUNTS[0]} passed, {COUNTS[1]} failed")
-    return 1 if COUNTS[1] else 0
+    linux.all_said(got_again, "compacted-*.log", lambda name: name.replace(".live", "_live"))
+    return ended()
 
 
 if __name__ == "__main__":

@@ -9,7 +9,7 @@ import tempfile
 import folders
 import tree
 import writing
-from judging import COUNTS, check, compare, produce, run, test
+from judging import check, compare, ended, produce, run, test
 from listing import Parts, plain
 
 def usual(folder, image):
@@ -94,8 +94,7 @@ def main():
         writing.append(folder, changed, sayable, place, parts)
         folders.there_and_back(folder, place)
         folders.of_another_producer(folder, place)
-    print(f"{COUNTS[0]} passed, {COUNTS[1]} failed")
-    return 1 if COUNTS[1] else 0
+    return ended()
 
 
 sys.exit(main())

@@ -12,7 +12,7 @@ import tempfile
 import folders
 import tree
 import writing
-from judging import COUNTS, compare, dumped, run, test
+from judging import COUNTS, compare, dumped, ended, run, test
 from listing import Parts
 
 HERE = os.path.dirname(os.path.abspath(__file__))
@@ -202,8 +202,7 @@ def main():
             print(f"{part.__name__}: {COUNTS[0]} passed, {COUNTS[1]} failed so far", flush=True)
         extracted(folder, image, place)
         extended(folder, image, place)
-    print(f"{COUNTS[0]} passed, {COUNTS[1]} failed")
-    return 1 if COUNTS[1] else 0
+    return ended()
 
 
 if __name__ == "__main__":

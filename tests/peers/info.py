@@ -12,7 +12,7 @@ import sys
 import tempfile
 
 import tree
-from judging import COUNTS, run, test
+from judging import COUNTS, ended, run, test
 
 HERE = os.path.dirname(os.path.abspath(__file__))
 sys.path.append(os.path.dirname(HERE))
@@ -153,8 +153,7 @@ def main():
             before = COUNTS[1]
             group(folder, image)
             print(f"{group.__name__}: {'fails' if COUNTS[1] > before else 'passes'}", flush=True)
-    print(f"{COUNTS[0]} passed, {COUNTS[1]} failed")
-    return 1 if COUNTS[1] or not COUNTS[0] else 0
+    return ended()
 
 
 if __name__ == "__main__":

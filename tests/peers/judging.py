@@ -19,6 +19,12 @@ def test(what, faults):
         print(f"FAILED: {what}: {fault}"[:400], flush=True)
 
 
+def ended():
+    """Prints how many tests passed, and answers the status of the script."""
+    print(f"{COUNTS[0]} passed, {COUNTS[1]} failed")
+    return 1 if COUNTS[1] or not COUNTS[0] else 0
+
+
 def run(*words, place=None):
     done = subprocess.run([PROGRAM, *words], stdin=subprocess.DEVNULL, capture_output=True, timeout=600, cwd=place)
     return done.returncode, done.stdout, done.stderr.decode(errors="replace").strip()

@@ -12,7 +12,7 @@ import sys
 import folders
 import tree
 import writing
-from judging import COUNTS, produce, run, test
+from judging import ended, produce, run, test
 from listing import Parts
 
 sys.path.append(os.path.dirname(os.path.dirname(os.path.abspath(__file__))))
@@ -334,8 +334,22 @@ def said(what, log, counts):
         test(f"{what}: kernel", lines)
 
 
-def judge(given, got, sources):
-    """Compares each tree that Linux showed with what the program shows of the image."""
+def print_said(counts):
+    for line, count in counts.most_common():
+        print(f"kernel: {count} x {line}")
+
+
+def all_said(got, pattern, named):
+    """Prints what the kernel said in these logs, and how often; of each by the name that is made of the log's."""
+    counts = collections.Counter()
+    for log in sorted(glob.glob(os.path.join(got, pattern))):
+        said(named(os.path.basename(log)[:-4]), log, counts)
+    print_said(counts)
+
+
+def judge(given, got, sources, turned=()):
+    """Compares each tree that Linux showed with what the program shows of the image. Device numbers are not compared with a folder
+    where an image was turned to another byte order: jffs2dump leaves data as they are."""
     counts, others, clashed = collections.Counter(), [], []
     for log in sorted(glob.glob(os.path.join(got, "*.log"))):
         what = os.path.basename(log)[:-4]
@@ -365,12 +379,12 @@ def judge(given, got, sources):
         if name in sources:
             wanted, seen = (without_times(folders.facts(top, 65535)[0]) for top in (sources[name], folder.encode()))
             test(f"{what}: Linux shows the folder", folders.differences(seen, wanted))
+        if name in sources and name not in turned:
             seen, wanted = (folders.devices(top) for top in (folder.encode(), sources[name]))
             test(f"{what}: Linux shows {len(wanted)} devices", folders.differences(seen, wanted))
     print(f"{len(clashed)} images clash: {' '.join(clashed)}")
     print(f"{len(others)} trees have a directory whose time is another in `ls` than in Linux: {' '.join(others)}")
-    for line, count in counts.most_common():
-        print(f"kernel: {count} x {line}")
+    print_said(counts)
 
 
 def extend(got, given):
@@ -413,8 +427,7 @@ def main():
     extend(got, given_again)
     boot(os.path.dirname(given_again), given_again, got_again)
     judge(given_again, got_again, {})
-    print(f"{COUNTS[0]} passed, {COUNTS[1]} failed")
-    return 1 if COUNTS[1] else 0
+    return ended()
 
 
 if __name__ == "__main__":

@@ -9,7 +9,7 @@ import tempfile
 
 import decompress
 import tree
-from judging import COUNTS, run, test
+from judging import ended, run, test
 
 sys.path.append(os.path.dirname(os.path.dirname(os.path.abspath(__file__))))
 import decompress_model as model  # noqa: E402
@@ -113,8 +113,7 @@ def main():
             summed(decompress.produced(folder, image, method, order, 64, "-s", str(page)), image, order, 64, folder)
         # a node that a block does not hold when it is expanded is refused
         judge(decompress.produced(folder, image, "default", "little", 8, "-s", "16384"), image, "little", 8192, folder)
-    print(f"{COUNTS[0]} passed, {COUNTS[1]} failed")
-    return 1 if COUNTS[1] else 0
+    return ended()
 
 
 if __name__ == "__main__":
