@@ -168,16 +168,13 @@ impl Op<'_> {
         ensures { OpFits self.now }
     {
         match self {
-            Op::Mkdir { time, uid, gid, .. } => {
-                let _known = (*time, *uid, *gid);
-            }
-            Op::Create { time, uid, gid, .. } => {
-                let _known = (*time, *uid, *gid);
-            }
-            Op::File { time, uid, gid, .. } => {
-                let _known = (*time, *uid, *gid);
-            }
-            Op::Put { time, uid, gid, .. } => {
+            Op::Mkdir { time, uid, gid, .. }
+            | Op::Create { time, uid, gid, .. }
+            | Op::File { time, uid, gid, .. }
+            | Op::Put { time, uid, gid, .. }
+            | Op::Fifo { time, uid, gid, .. }
+            | Op::Socket { time, uid, gid, .. }
+            | Op::Symlink { time, uid, gid, .. } => {
                 let _known = (*time, *uid, *gid);
             }
             Op::Device {
@@ -189,34 +186,13 @@ impl Op<'_> {
             } => {
                 let _known = (*time, *uid, *gid, number.len());
             }
-            Op::Fifo { time, uid, gid, .. } => {
-                let _known = (*time, *uid, *gid);
-            }
-            Op::Socket { time, uid, gid, .. } => {
-                let _known = (*time, *uid, *gid);
-            }
-            Op::Symlink { time, uid, gid, .. } => {
-                let _known = (*time, *uid, *gid);
-            }
-            Op::Write { time, .. } => {
-                let _known = *time;
-            }
-            Op::Truncate { time, .. } => {
-                let _known = *time;
-            }
-            Op::Link { time, .. } => {
-                let _known = *time;
-            }
-            Op::Remove { time, .. } => {
-                let _known = *time;
-            }
-            Op::RemoveIf { time, .. } => {
-                let _known = *time;
-            }
-            Op::Rename { time, .. } => {
-                let _known = *time;
-            }
-            Op::Replace { time, .. } => {
+            Op::Write { time, .. }
+            | Op::Truncate { time, .. }
+            | Op::Link { time, .. }
+            | Op::Remove { time, .. }
+            | Op::RemoveIf { time, .. }
+            | Op::Rename { time, .. }
+            | Op::Replace { time, .. } => {
                 let _known = *time;
             }
             Op::SetAttributes {
