@@ -9,10 +9,10 @@ use Rattle.jmount.specs.declared.fault.MountFault.TheVariants as mount
 use Rattle.jscan.specs.declared.geometry.ScanFault.{ScanFault}
 use Rattle.jscan.specs.declared.geometry.ScanFault.TheVariants as scan
 use Rattle.jline.specs.Words.{hex, in_line}
-use Rattle.jreport.specs.Causes.{cause_note}
 use Rattle.jreport.specs.Faults.{fault_line_of}
 use Rattle.jreport.specs.ImageFaults.{image_named, image_note}
 use Rattle.jreport.specs.Reasons.{file_note, unread_note}
+use Rattle.jreport.specs.Sentences.{data_note, incompatible_note, length_note, load_note, memory_note, no_space_note, node_length_note, not_regular_note, output_note, path_note, root_note, session_note}
 use Rattle.jreport.specs.declared.faults.ProgramFault.{ProgramFault}
 use Rattle.jreport.specs.declared.faults.ProgramFault.TheVariants as program
 
@@ -96,20 +96,20 @@ block_note = codes "--block takes a multiple of 4 from 4096 to 4194304"
 -- what is said of an image that does not mount
 unfoldable pub mount_note : MountFault → List ℕ
 mount_note mount.BlockSize = block_note
-mount_note mount.TooLarge = []
-mount_note (mount.Incompatible addr nodetype) = []
+mount_note mount.TooLarge = length_note
+mount_note (mount.Incompatible addr nodetype) = incompatible_note
 mount_note (mount.Compressed addr compr) = method_note compr
 mount_note (mount.Clash addr) = clash_note
-mount_note mount.RootKind = []
-mount_note mount.OutOfMemory = []
+mount_note mount.RootKind = root_note
+mount_note mount.OutOfMemory = memory_note
 
 -- what is said of an image that is not scanned
 unfoldable pub scan_note : ScanFault → List ℕ
 scan_note scan.BlockSize = block_note
-scan_note scan.TooLarge = []
-scan_note (scan.Incompatible addr nodetype) = []
+scan_note scan.TooLarge = length_note
+scan_note (scan.Incompatible addr nodetype) = incompatible_note
 scan_note (scan.Compressed addr compr) = method_note compr
-scan_note scan.OutOfMemory = []
+scan_note scan.OutOfMemory = memory_note
 
 -- ---- a fault
 
@@ -134,21 +134,21 @@ named_in (program.Image fault) = image_named fault
 
 -- what is said of a fault beside its line, if anything is
 unfoldable pub note_of : ProgramFault → List ℕ
-note_of (program.Load fault) = []
+note_of (program.Load fault) = load_note fault
 note_of (program.NotRead file) = unread_note file.reason
 note_of (program.Scan fault) = scan_note fault
 note_of (program.Mount fault) = mount_note fault
 note_of (program.Clash addr other) = pair_note other addr
 note_of (program.File file) = file_note file.reason
 note_of (program.Listing bad) = rule_note bad.rule
-note_of (program.Session fault line cause) = cause_note cause
-note_of (program.Path fault) = []
-note_of program.NotRegular = []
-note_of program.Output = []
-note_of program.OutOfMemory = []
-note_of (program.NoSpace name) = []
-note_of (program.Data addr) = []
-note_of (program.TooLong addr) = []
+note_of (program.Session fault line cause) = session_note fault cause
+note_of (program.Path fault) = path_note fault
+note_of program.NotRegular = not_regular_note
+note_of program.Output = output_note
+note_of program.OutOfMemory = memory_note
+note_of (program.NoSpace name) = no_space_note
+note_of (program.Data addr) = data_note
+note_of (program.TooLong addr) = node_length_note
 note_of (program.Image fault) = image_note fault
 
 -- as a line, where there is something to say

@@ -18,6 +18,7 @@ pub mod Reasons
 pub mod Refusal
 pub mod Remembering
 pub mod Report
+pub mod Sentences
 pub mod Stream
 pub mod TreeLaws
 pub mod TreeParts

@@ -6,14 +6,20 @@ ghost use Rattle.jline.specs.Words.{in_line};
 ghost use Rattle.jreport.specs.Advice.{advice_of, block_note, fault_lines_of, is_read_method, method_note, mount_note, named_in, note_of, pair_note, read_method_name, rule_note, scan_note, unread_method, word_note};
 ghost use Rattle.jreport.specs.Causes.{cause_note, limit_note};
 ghost use Rattle.jreport.specs.Reasons.{file_note, host_text, unread_note};
+ghost use Rattle.jreport.specs.Sentences.{session_note};
 
 use crate::cause::{Cause, Limit};
 use crate::faults::{ProgramFault, put_fault_line};
 use crate::image_fault::{image_named, push_image_note};
 use crate::reason::Reason;
+use crate::sentences::{
+    data_note, incompatible_note, length_note, load_note, memory_note, no_space_note,
+    node_length_note, not_regular_note, output_note, path_note, refusal_note, root_note,
+};
 use flashbase::{DeviceFault, Sink};
 use jline::{LineBuffer, put_in_line, put_text};
 use jlisting::{Rule, WordRule};
+use jlog::SessionFault;
 use jmount::MountFault;
 use jscan::ScanFault;
 
@@ -159,10 +165,10 @@ fn push_mount_note(line: &mut LineBuffer, fault: MountFault)
             line.push_text(b"two nodes differ; ");
             line.push_text(b"decompress --clashes higher keeps that of the higher address");
         }
-        MountFault::TooLarge
-        | MountFault::Incompatible { .. }
-        | MountFault::RootKind
-        | MountFault::OutOfMemory => {}
+        MountFault::TooLarge => line.push_text(length_note()),
+        MountFault::Incompatible { .. } => line.push_text(incompatible_note()),
+        MountFault::RootKind => line.push_text(root_note()),
+        MountFault::OutOfMemory => line.push_text(memory_note()),
     }
 }
 
@@ -176,7 +182,9 @@ fn push_scan_note(line: &mut LineBuffer, fault: ScanFault)
     match fault {
         ScanFault::BlockSize => push_block_note(line),
         ScanFault::Compressed { compr, .. } => push_method_note(line, compr),
-        ScanFault::TooLarge | ScanFault::Incompatible { .. } | ScanFault::OutOfMemory => {}
+        ScanFault::TooLarge => line.push_text(length_note()),
+        ScanFault::Incompatible { .. } => line.push_text(incompatible_note()),
+        ScanFault::OutOfMemory => line.push_text(memory_note()),
     }
 }
 
@@ -281,6 +289,26 @@ fn push_cause(line: &mut LineBuffer, cause: Cause)
     }
 }
 
+/// Why a session refuses or stops; a cause is said where one is known.
+#[tactic(auto, unfolding(crate::specs::Sentences::session_note))]
+fn push_session_note(line: &mut LineBuffer, fault: SessionFault, cause: Cause)
+    requires { line.old ≡ [] }
+    ensures text { line.new ≡ session_note fault cause }
+    ensures short { length line.new ≤ 100 }
+{
+    match fault {
+        SessionFault::Refused(fault) => line.push_text(refusal_note(fault)),
+        SessionFault::ReadOnly => line.push_text(
+            b"a node of a type that is not known forbids writing; check --scan shows it",
+        ),
+        SessionFault::OutOfMemory => line.push_text(memory_note()),
+        SessionFault::Broken => line.push_text(b"this is an error of the program itself"),
+        SessionFault::Full { .. } | SessionFault::Sink | SessionFault::Geometry => {
+            push_cause(line, cause)
+        }
+    }
+}
+
 /// The file that a note is on, if it is on one.
 #[tactic(auto, unfolding(crate::specs::Advice::named_in))]
 fn named_in<'a>(fault: &ProgramFault<'a>) -> &'a str
@@ -319,16 +347,16 @@ fn push_note(line: &mut LineBuffer, fault: &ProgramFault<'_>)
         ProgramFault::Scan(fault) => push_scan_note(line, fault),
         ProgramFault::File(file) => push_file_note(line, file.reason),
         ProgramFault::NotRead(file) => push_unread_note(line, file.reason),
-        ProgramFault::Session { cause, .. } => push_cause(line, cause),
+        ProgramFault::Session { fault, cause, .. } => push_session_note(line, fault, cause),
         ProgramFault::Image(fault) => push_image_note(line, fault),
-        ProgramFault::Load(_)
-        | ProgramFault::Path(_)
-        | ProgramFault::NotRegular
-        | ProgramFault::Output
-        | ProgramFault::OutOfMemory
-        | ProgramFault::NoSpace(_)
-        | ProgramFault::Data { .. }
-        | ProgramFault::TooLong { .. } => {}
+        ProgramFault::Load(fault) => line.push_text(load_note(fault)),
+        ProgramFault::Path(fault) => line.push_text(path_note(fault)),
+        ProgramFault::NotRegular => line.push_text(not_regular_note()),
+        ProgramFault::Output => line.push_text(output_note()),
+        ProgramFault::OutOfMemory => line.push_text(memory_note()),
+        ProgramFault::NoSpace(_) => line.push_text(no_space_note()),
+        ProgramFault::Data { .. } => line.push_text(data_note()),
+        ProgramFault::TooLong { .. } => line.push_text(node_length_note()),
     }
 }
 

@@ -10,9 +10,9 @@
 //! its mount, `specs/TreeText.antt` what the listing is, `specs/Content.antt` which bytes a path
 //! names, `specs/Notes.antt` what is told of findings beside them, `specs/Refusal.antt` which fault
 //! says that an image does not mount, `specs/Faults.antt` how faults are spelled, and
-//! `specs/Advice.antt` what is noted after them. `specs/Puts.antt` (the report) and
-//! `specs/WholeImage.antt` (`check`, `cat` and `ls`) say what the calls do of an image in memory,
-//! `specs/Stream.antt` what they do of one that is read block by block. `report_examples` and
+//! `specs/Advice.antt` and `specs/Sentences.antt` what is noted after them. `specs/Puts.antt` (the
+//! report) and `specs/WholeImage.antt` (`check`, `cat` and `ls`) say what the calls do of an image
+//! in memory, `specs/Stream.antt` what they do of one that is read block by block. `report_examples` and
 //! `fault_examples` have worked examples, and `tree_laws` laws of the listing.
 #![tactic(auto)]
 
@@ -38,6 +38,7 @@ mod refusal;
 mod report;
 pub mod report_examples;
 mod report_fault;
+mod sentences;
 mod session_fault;
 mod stream;
 mod tree;
