@@ -4,7 +4,7 @@
 use crate::checks::{equal, equal_at, expect};
 use crate::through::images::*;
 use byteorder::{BigEndian, LittleEndian};
-use jlook::mount_looked;
+use jlook::{mount_looked, mount_object, mount_tree};
 use jmount::Mounted;
 use jnode::Order;
 use jthrough::{ViewFault, mount_through};
@@ -75,9 +75,8 @@ fn only(alloc: Global, ino: u32) -> Result<BTreeSet<u32>, Fail> {
 fn shows_tree<E: Order>(rt: &impl Abort, alloc: Global) -> Result<(), Fail> {
     let image = image_of::<E>(alloc, items())?;
     let mut contents = Vec::new(alloc);
-    let wanted = only(alloc, 5)?;
     {
-        let mounted = mount_looked::<E>(alloc, &image, GEOMETRY, &wanted, &mut contents)?;
+        let mounted = mount_tree::<E>(alloc, &image, GEOMETRY, &mut contents)?;
         has_tree(rt, &mounted);
         expect(rt, begins(&mounted, 5, &[b'a'; 20]));
         expect(rt, begins(&mounted, 2, &[0; 60]));
@@ -96,9 +95,8 @@ fn a_broken_file_hides_no_tree(rt: HostRuntime) -> Result<(), Fail> {
 fn shows_file<E: Order>(rt: &impl Abort, alloc: Global) -> Result<(), Fail> {
     let image = image_of::<E>(alloc, items())?;
     let mut contents = Vec::new(alloc);
-    let wanted = only(alloc, 2)?;
     {
-        let mounted = mount_looked::<E>(alloc, &image, GEOMETRY, &wanted, &mut contents)?;
+        let mounted = mount_object::<E>(alloc, &image, GEOMETRY, b"/a", &mut contents)?;
         has_tree(rt, &mounted);
         expect(rt, begins(&mounted, 2, HELLO));
         expect(rt, begins(&mounted, 5, &[0; 20]));

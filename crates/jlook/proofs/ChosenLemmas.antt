@@ -1,32 +1,32 @@
 -- A look whose wanted objects are chosen by the tree.
-use Rattle.std.proofs.Common.{◌≡◌, ◌≢◌, ℕ, Bool, true, false, cond, List, [], ◌∷◌, map, None, Some, Option, refl, sym, ap, ap₂, subst, ◌∙◌, IsTrue, Err, inl, inr}
+use Rattle.std.proofs.Common.{◌≡◌, ◌++◌, ℕ, Bool, true, false, cond, List, [], ◌∷◌, map, None, Some, Option, refl, sym, ap, ap₂, subst, ◌∙◌, Err, inl, inr}
 use Rattle.std.specs.Prelude.{Ok, Result, option_map}
 use Rattle.std.specs.BTreeSet.{BTreeSet, contains}
 use Rattle.std.specs.Cmp.{unsigned_tied}
 use Rattle.std.specs.Ordering.{eq_by_cmp, nat_cmp}
-use Rattle.jnode.specs.declared.node.InodeNode.{InodeNode}
+use Rattle.std.proofs.lemmas.Grind.{flat_map-append}
 use Rattle.jnode.specs.declared.node.Seen.{Seen}
 use Rattle.jnode.specs.declared.node.Seen.TheVariants as seen
 use Rattle.jnode.specs.declared.node.Fill.TheVariants.{Zero}
 use Rattle.jnode.specs.Compressed.{inode_with}
 use Rattle.jnode.specs.declared.order.Endian.{Endian}
 use Rattle.jscan.specs.Image.{sightings}
-use Rattle.jexpand.specs.Expanded.{compressed_node_at, expanded_nodes}
+use Rattle.jexpand.specs.Expanded.{compressed_node_at, tile_content, contents_of_tiles}
 use Rattle.jmount.specs.Mount.{Mount}
-use Rattle.jmount.specs.StateOf.{state_of}
 use Rattle.jmount.specs.Find.{find}
 use Rattle.jmount.specs.Tree.{ObjectOf, State, Outline, sized, object, outline, has_bits, symlink_bits}
 use Rattle.jmount.specs.declared.fault.FindFault.{FindFault}
 use Rattle.jmount.proofs.OutlineLemmas.{object-outline, find-outline}
 use Rattle.jview.specs.Through.{MountsThroughAs}
-use Rattle.jthrough.specs.MountsThrough.{AnswersThrough}
-use Rattle.jthrough.specs.Refusals.{nodes_of_tiles}
 use Rattle.jthrough.specs.declared.fault.ViewFault.{ViewFault}
 use Rattle.jthrough.specs.declared.fault.ViewFault.TheVariants.{OutOfMemory}
-use Rattle.jlook.specs.Laws.{ShowsSame, ShowsSameOr}
-use Rattle.jlook.specs.Looked.{Wants, zeroed, looked_tile, looked_tiles}
+use Rattle.jlook.specs.Laws.{ShowsSame}
+use Rattle.jlook.specs.Looked.{Wants, zeroed, looked_tile}
+use Rattle.jlook.specs.Look.{IsLookAt}
 use Rattle.jlook.specs.Looks.{AnswersTiles, AnswersLook}
-use Rattle.jlook.specs.Chosen.{Choice, symlinks_in, is_that_object, object_by_path, nothing_wanted, chosen_in, IsNoLook, AnswersChosen, IsTheSameBy, TreeIsTheSame, ObjectIsTheSame}
+use Rattle.jlook.specs.declared.look.Look.{Look}
+use Rattle.jlook.specs.Chosen.{Choice, symlinks_in, is_that_object, object_by_path, nothing_wanted, AreChosen, IsNoLook, AnswersChosen, IsTheSameBy, TreeIsTheSame, ObjectIsTheSame}
+use Rattle.jlook.proofs.FoundLemmas.{none_is}
 use Rattle.jlook.proofs.ShowLemmas.{outline_is, looking_shows_the_tree}
 
 -- ---- the same numbers are wanted
@@ -44,9 +44,6 @@ module _ (v w : Wants) (same : (i : ℕ) → v i ≡ w i) (e : Endian) (size : �
 
   pub look_same : (answer : Result Mount ViewFault) → AnswersLook v e size image answer → AnswersLook w e size image answer
   look_same answer look = subst (λ (ts : List (ℕ × Seen)). AnswersTiles e size image ts answer) (tiles_same (sightings e size image)) look
-
-  pub state_same : state_of (nodes_of_tiles e size image (looked_tiles v e size image)) ≡ state_of (nodes_of_tiles e size image (looked_tiles w e size image))
-  state_same = ap (λ (ts : List (ℕ × Seen)). state_of (nodes_of_tiles e size image ts)) (tiles_same (sightings e size image))
 
 -- ---- what is chosen is a matter of the outline
 
@@ -70,16 +67,14 @@ object_is_of_outline path s t is i =
 -- ---- the laws
 
 is_the_same : (choice : Choice) → IsOfOutline choice → IsTheSameBy choice
-is_the_same choice of_outline e size image full (Ok looked) through look =
-    let shows : ShowsSame (chosen_in choice e size image) full looked = looking_shows_the_tree (chosen_in choice e size image) e size image full (Ok looked) through look in
+is_the_same choice of_outline e size image full (Ok looked) through (s, first, look) =
+    let shows : ShowsSame (choice s) full looked = looking_shows_the_tree (choice s) e size image full (Ok looked) through look in
     let mounts : MountsThroughAs e size image full.state = subst (λ (l : List ℕ). MountsThroughAs e size l full.state) through.0 through.1.mounts in
-    let outlines : outline (state_of (nodes_of_tiles e size image (looked_tiles nothing_wanted e size image))) ≡ outline full.state =
-    outline_is nothing_wanted e size image mounts.sound ∙ ap outline mounts.same in
+    let outlines : outline s ≡ outline full.state = ap outline (sym first.same) ∙ outline_is nothing_wanted e size image mounts.sound ∙ ap outline mounts.same in
     record {
       image = shows.image;
       outline_is = shows.outline_is;
-      wanted = λ i wanted.
-          shows.wanted i (of_outline (state_of (nodes_of_tiles e size image (looked_tiles nothing_wanted e size image))) full.state outlines i ∙ wanted);
+      wanted = λ i wanted. shows.wanted i (of_outline s full.state outlines i ∙ wanted);
       tops = shows.tops;
       findings = shows.findings;
       read_only = shows.read_only;
@@ -87,7 +82,7 @@ is_the_same choice of_outline e size image full (Ok looked) through look =
 is_the_same choice of_outline e size image full (Err why) through look =
     elim look [
       | inl first ↦ looking_shows_the_tree nothing_wanted e size image full (Err why) through first
-      | inr second ↦ looking_shows_the_tree (chosen_in choice e size image) e size image full (Err why) through second
+      | inr second ↦ looking_shows_the_tree (choice second.0) e size image full (Err why) through second.2
     ]
 
 pub tree_is_the_same : TreeIsTheSame
@@ -95,3 +90,91 @@ tree_is_the_same = is_the_same symlinks_in symlinks_are_of_outline
 
 pub object_is_the_same : ObjectIsTheSame
 object_is_the_same path = is_the_same (object_by_path path) (object_is_of_outline path)
+
+-- ---- the second look
+
+pub second_answers : (choice : Choice) (e : Endian) (size : ℕ) (image : List ℕ) (numbers : BTreeSet ℕ) (answer : Result Mount ViewFault)
+    → AreChosen choice e size image (contains nat_cmp numbers) → AnswersLook (contains nat_cmp numbers) e size image answer → AnswersChosen choice e size image answer
+second_answers choice e size image numbers answer (s, first, same) look = by answer (look_same (contains nat_cmp numbers) (choice s) same e size image answer look)
+  where
+    by : (answer : Result Mount ViewFault) → AnswersLook (choice s) e size image answer → AnswersChosen choice e size image answer
+    by (Ok mount) second = (s, first, second)
+    by (Err why) second = inr (s, first, second)
+
+-- ---- the first look
+
+-- it wants nothing
+nothing_in : (numbers : BTreeSet ℕ) → numbers.keys ≡ [] → (i : ℕ) → contains nat_cmp numbers i ≡ nothing_wanted i
+nothing_in numbers empty i = none_is numbers i empty
+
+pub first_answers : (e : Endian) (size : ℕ) (image : List ℕ) (nothing : BTreeSet ℕ) (answer : Result Mount ViewFault) → nothing.keys ≡ []
+    → AnswersLook (contains nat_cmp nothing) e size image answer → AnswersLook nothing_wanted e size image answer
+first_answers e size image nothing answer empty look = look_same (contains nat_cmp nothing) nothing_wanted (nothing_in nothing empty) e size image answer look
+
+pub first_chosen : (choice : Choice) (e : Endian) (size : ℕ) (image : List ℕ) (numbers : BTreeSet ℕ) (mount : Mount)
+    → AnswersLook nothing_wanted e size image (Ok mount) → ((i : ℕ) → contains nat_cmp numbers i ≡ choice mount.state i)
+    → AreChosen choice e size image (contains nat_cmp numbers)
+first_chosen choice e size image numbers mount look chosen = (mount.state, look.mounts, chosen)
+
+pub first_without : (e : Endian) (size : ℕ) (image : List ℕ) (mount : Mount) → AnswersLook nothing_wanted e size image (Ok mount) → IsNoLook e size image OutOfMemory
+first_without e size image mount look = look.mounts.sound.scannable
+
+-- its contents are none
+
+module _ (wants : Wants) (none : (i : ℕ) → wants i ≡ false) (e : Endian) (size : ℕ) (image : List ℕ) where
+  tile_none : (s : ℕ × Seen) → tile_content e size image (looked_tile wants e size image s) ≡ []
+  tile_none (addr, seen.Compressed compr) =
+      ap (λ (b : Bool). tile_content e size image (addr, cond b (seen.Compressed compr) (seen.Inode (inode_with (compressed_node_at e size image addr) Zero)))) (none (compressed_node_at e size image addr).ino)
+  tile_none (addr, _) = refl
+
+  tiles_none : (ss : List (ℕ × Seen)) → contents_of_tiles e size image (map (looked_tile wants e size image) ss) ≡ []
+  tiles_none [] = refl
+  tiles_none (s ∷ ss) = ap₂ (λ (xs ys : List ℕ). xs ++ ys) (tile_none s) (tiles_none ss)
+
+  front_none : (xs ys : List ℕ) → xs ++ ys ≡ [] → xs ≡ []
+  front_none [] ys is = refl
+  front_none (x ∷ xs) ys is = absurd (cc)
+
+  pub without_contents : (held : List ℕ) (look : Look) → IsLookAt wants e size image held look → IsLookAt wants e size image [] look
+  without_contents held look v =
+      let all : contents_of_tiles e size image v.done ++ contents_of_tiles e size image v.rest ≡ [] =
+      sym (flat_map-append (tile_content e size image) v.done v.rest) ∙ ap (contents_of_tiles e size image) (sym v.all) ∙ tiles_none (sightings e size image) in
+      let done : contents_of_tiles e size image v.done ≡ [] = front_none (contents_of_tiles e size image v.done) (contents_of_tiles e size image v.rest) all in
+      record {
+        scannable = v.scannable;
+        done = v.done;
+        rest = v.rest;
+        all = v.all;
+        has = record {
+          none = v.has.none;
+          among = v.has.among;
+          nodes = v.has.nodes;
+          tiles = v.has.tiles;
+          contents = ([], ap (λ (l : List ℕ). l ++ []) (sym done));
+          few = v.has.few;
+        };
+        ends = v.ends;
+      }
+
+pub nothing_is : (numbers : BTreeSet ℕ) → numbers.keys ≡ [] → (i : ℕ) → contains nat_cmp numbers i ≡ false
+nothing_is numbers empty i = none_is numbers i empty
+
+-- ---- the object that a path names
+
+alone : (b : Bool) → cond b true false ≡ b
+alone true = refl
+alone false = refl
+
+pub one_object : (path : List ℕ) (s : State) (ino : ℕ) (old new : BTreeSet ℕ) → old.keys ≡ []
+    → ((q : ℕ) → contains nat_cmp new q ≡ cond (eq_by_cmp nat_cmp ino q) true (contains nat_cmp old q)) → find s path ≡ Ok ino
+    → (i : ℕ) → contains nat_cmp new i ≡ object_by_path path s i
+one_object path s ino old new empty gains found i =
+    gains i
+    ∙ ap (λ (b : Bool). cond (eq_by_cmp nat_cmp ino i) true b) (none_is old i empty)
+    ∙ alone (eq_by_cmp nat_cmp ino i)
+    ∙ unsigned_tied ino i
+    ∙ ap (λ (r : Result ℕ FindFault). is_that_object r i) (sym found)
+
+pub no_object : (path : List ℕ) (s : State) (why : FindFault) (numbers : BTreeSet ℕ) → numbers.keys ≡ [] → find s path ≡ Err why
+    → (i : ℕ) → contains nat_cmp numbers i ≡ object_by_path path s i
+no_object path s why numbers empty found i = none_is numbers i empty ∙ ap (λ (r : Result ℕ FindFault). is_that_object r i) (sym found)

@@ -1,8 +1,11 @@
 pub mod ChosenLemmas
+pub mod FoundLemmas
 pub mod LookLemmas
 pub mod LookedLemmas
 pub mod MountLemmas
 pub mod PlacingLemmas
 pub mod ShowLemmas
+pub mod SightedOfLemmas
 pub mod TilesLemmas
 pub mod TreeLemmas
+pub mod WantedLemmas

@@ -1,9 +1,7 @@
--- A look at an image, extent by extent.
-use Rattle.std.proofs.Common.{◌≡◌, ℕ, ◌<◌, ◌≤◌, Bool, true, false, List, [], ◌∷◌, ◌++◌, length, map, None, Some, Option, refl, sym, ap, subst, ◌∙◌, arith, append_assoc, inl, inr}
-use Rattle.std.specs.Prelude.{◌||◌, Contains, filter_map, option_to_list}
-use Rattle.std.specs.List.{cons_option}
-use Rattle.std.specs.Option.{is_some}
-use Rattle.std.proofs.lemmas.List.{append-nil, map-append}
+-- A look at an image, tile by tile.
+use Rattle.std.proofs.Common.{◌≡◌, ℕ, ◌+◌, suc, get_or, drop, drop-cons, add-one, ◌<◌, ◌≤◌, Bool, List, [], ◌∷◌, ◌++◌, length, map, None, Some, refl, sym, ap, subst, ◌∙◌, arith, append_assoc, inl, inr}
+use Rattle.std.specs.Prelude.{◌||◌, Contains, option_to_list}
+use Rattle.std.proofs.lemmas.List.{append-nil, drop_all, map-append}
 use Rattle.std.proofs.lemmas.List.Elements.{Contains-append_left, Contains-append_right, Contains-append_cases, filter_map-append}
 use Rattle.std.proofs.lemmas.Grind.{flat_map-append}
 use Rattle.flashbase.proofs.MemberLemmas.{Contains-here, Contains-none, Contains-cases}
@@ -11,16 +9,10 @@ use Rattle.jnode.specs.declared.node.NodeRef.{NodeRef}
 use Rattle.jnode.specs.declared.node.Seen.{Seen}
 use Rattle.jnode.specs.declared.node.Seen.TheVariants as seen
 use Rattle.jnode.specs.declared.order.Endian.{Endian}
-use Rattle.jscan.specs.Extents.{sighted, sighted_by}
-use Rattle.jscan.specs.Findings.{finding_of}
 use Rattle.jscan.specs.Image.{sightings}
-use Rattle.jscan.specs.Scans.{IsScannable, image_extents, findings, forbids_writing, is_read_only}
-use Rattle.jscan.specs.declared.extent.Extent.{Extent}
-use Rattle.jscan.specs.declared.extent.ExtentKind.{ExtentKind}
-use Rattle.jscan.specs.declared.extent.ExtentKind.TheVariants.{Tiled, Erased, OtherOrder, Dirt}
+use Rattle.jscan.specs.Scans.{IsScannable, findings, forbids_writing, is_read_only}
 use Rattle.jscan.specs.declared.finding.Finding.{Finding}
-use Rattle.jscan.proofs.ImageLemmas.{image_sighted}
-use Rattle.jscan.proofs.PartialScanLemmas.{any_forbids, cons_append, or_again, or_false}
+use Rattle.jscan.proofs.PartialScanLemmas.{any_forbids, or_again, or_false}
 use Rattle.jexpand.specs.Expanded.{tile_content, contents_of_tiles, compressed_node_at}
 use Rattle.jview.specs.Through.{greatest_contents, through_fault}
 use Rattle.jthrough.specs.Refusals.{HasTileFault, IsRefusedBy}
@@ -28,7 +20,7 @@ use Rattle.jthrough.specs.View.{BeginWith, RefusesTile, HasTiles, kept_tile, pla
 use Rattle.jthrough.specs.declared.fault.ViewFault.{ViewFault}
 use Rattle.jthrough.specs.declared.fault.ViewFault.TheVariants as fault
 use Rattle.jlook.specs.Look.{IsLookBegun, IsSightedIfPacked, AddsLooked, TakesLooked, EndsLook, IsLookAt}
-use Rattle.jlook.specs.Looked.{Wants, looked_by, looked_tile, looked_tiles}
+use Rattle.jlook.specs.Looked.{Wants, looked_by, looked_tile}
 use Rattle.jlook.specs.declared.look.Look.{Look}
 use Rattle.jlook.proofs.LookedLemmas.{packed_sighted, looked_forbids}
 
@@ -144,86 +136,51 @@ module _ (e : Endian) (size : ℕ) (image : List ℕ) where
   begin_more : (front before after : List ℕ) → before ≡ front → BeginWith before after → BeginWith front after
   begin_more front before after same more = (more.0, more.1 ∙ ap (λ (l : List ℕ). l ++ more.0) same)
 
+-- ---- the tiles that are left
+
+pub left_next : (all items : List (ℕ × Seen)) (i : ℕ) (x : ℕ × Seen) → items ≡ all → i < length items → x ≡ get_or items i x → drop i all ≡ x ∷ drop (i + 1) all
+left_next all items i x same within is =
+    drop-cons all i x (subst (λ (l : List (ℕ × Seen)). i < length l) same within)
+    ∙ ap (λ (y : ℕ × Seen). y ∷ drop (suc i) all) (sym (is ∙ ap (λ (l : List (ℕ × Seen)). get_or l i x) same))
+    ∙ ap (λ (n : ℕ). x ∷ drop n all) (sym (add-one i))
+
+pub left_end : (all items : List (ℕ × Seen)) (i : ℕ) → items ≡ all → length items ≤ i → drop i all ≡ []
+left_end all items i same past = drop_all i all (subst (λ (l : List (ℕ × Seen)). length l ≤ i) same past)
+
 module _ (wants : Wants) (e : Endian) (size : ℕ) (image : List ℕ) where
   -- ---- a look on the way
 
-  -- what it has of the extents so far, and what is left
-  pub record Looking (left : List Extent) (look : Look) (held : List ℕ) : Type 0 where
+  -- what it has of the tiles so far, and what is left
+  pub record Looking (left : List (ℕ × Seen)) (look : Look) (held : List ℕ) : Type 0 where
     pub done : List (ℕ × Seen)
-    pub split : sightings e size image ≡ done ++ filter_map sighted left
+    pub split : sightings e size image ≡ done ++ left
     pub has : HasTiles e size image (map (looked_tile wants e size image) done) look.tiles.items held
     pub exact : held ≡ contents_of_tiles e size image (map (looked_tile wants e size image) done)
-    pub found : findings e size image ≡ look.findings.items ++ filter_map finding_of left
-    pub forbids : is_read_only e size image ≡ (look.read_only || any_forbids (filter_map sighted left))
+    pub found : look.findings.items ≡ []
+    pub forbids : is_read_only e size image ≡ (look.read_only || any_forbids left)
     pub going : look.refused ≡ None
 
-  -- the same, and the finding of the next extent
-  pub record LookFound (s : Extent) (left : List Extent) (look : Look) (held : List ℕ) : Type 0 where
-    pub done : List (ℕ × Seen)
-    pub split : sightings e size image ≡ done ++ filter_map sighted (s ∷ left)
-    pub has : HasTiles e size image (map (looked_tile wants e size image) done) look.tiles.items held
-    pub exact : held ≡ contents_of_tiles e size image (map (looked_tile wants e size image) done)
-    pub found : findings e size image ≡ look.findings.items ++ filter_map finding_of left
-    pub forbids : is_read_only e size image ≡ (look.read_only || any_forbids (filter_map sighted (s ∷ left)))
-    pub going : look.refused ≡ None
-
-  pub looking_start : (left : List Extent) (look : Look) (held : List ℕ) → left ≡ image_extents e size image → IsLookBegun look → held ≡ [] → Looking left look held
-  looking_start left look held all begun empty =
-      let seen_are : sightings e size image ≡ filter_map sighted left = sym (image_sighted e size image) ∙ ap (filter_map sighted) (sym all) in
-      record {
-        done = [];
-        split = seen_are;
-        has = has_none e size image held look.tiles.items begun.tiles;
-        exact = empty;
-        found = ap (filter_map finding_of) (sym all) ∙ ap (λ (l : List Finding). l ++ filter_map finding_of left) (sym begun.findings);
-        forbids = ap any_forbids seen_are ∙ ap (λ (b : Bool). b || any_forbids (filter_map sighted left)) (sym begun.read_only);
-        going = begun.refused;
-      }
-
-  pub looking_found : (now left : List Extent) (s : Extent) (old new : Look) (held : List ℕ) → Looking now old held → now ≡ s ∷ left
-      → new.findings.items ≡ old.findings.items ++ option_to_list (finding_of s) → new.tiles.items ≡ old.tiles.items → new.read_only ≡ old.read_only → new.refused ≡ old.refused
-      → LookFound s left new held
-  looking_found now left s old new held v first found tiles forbids refused = record {
-    done = v.done;
-    split = v.split ∙ ap (λ (l : List Extent). v.done ++ filter_map sighted l) first;
-    has = subst (λ (l : List (ℕ × Seen)). HasTiles e size image (map (looked_tile wants e size image) v.done) l held) (sym tiles) v.has;
-    exact = v.exact;
-    found = v.found ∙ ap (λ (l : List Extent). old.findings.items ++ filter_map finding_of l) first
-        ∙ cons_append old.findings.items (finding_of s) (filter_map finding_of left)
-        ∙ ap (λ (l : List Finding). l ++ filter_map finding_of left) (sym found);
-    forbids = v.forbids ∙ ap (λ (l : List Extent). old.read_only || any_forbids (filter_map sighted l)) first
-        ∙ ap (λ (b : Bool). b || any_forbids (filter_map sighted (s ∷ left))) (sym forbids);
-    going = refused ∙ v.going;
+  pub looking_start : (left : List (ℕ × Seen)) (look : Look) (held : List ℕ) → left ≡ sightings e size image → IsLookBegun look → held ≡ [] → Looking left look held
+  looking_start left look held all begun empty = record {
+    done = [];
+    split = sym all;
+    has = has_none e size image held look.tiles.items begun.tiles;
+    exact = empty;
+    found = begun.findings;
+    forbids = ap any_forbids (sym all) ∙ ap (λ (b : Bool). b || any_forbids left) (sym begun.read_only);
+    going = begun.refused;
   }
 
-  -- an extent that is no tile
-  pub looking_skip : (s : Extent) (left : List Extent) (look : Look) (held : List ℕ) → LookFound s left look held → sighted s ≡ None → Looking left look held
-  looking_skip s left look held f none =
-      let same : filter_map sighted (s ∷ left) ≡ filter_map sighted left = ap (λ (o : Option (ℕ × Seen)). cons_option o (filter_map sighted left)) none in
-      record {
-        done = f.done;
-        split = f.split ∙ ap (λ (l : List (ℕ × Seen)). f.done ++ l) same;
-        has = f.has;
-        exact = f.exact;
-        found = f.found;
-        forbids = f.forbids ∙ ap (λ (l : List (ℕ × Seen)). look.read_only || any_forbids l) same;
-        going = f.going;
-      }
+  pub looking_sighted : (now left : List (ℕ × Seen)) (tile : ℕ × Seen) (look : Look) (held : List ℕ) → Looking now look held → now ≡ tile ∷ left → Contains (sightings e size image) tile
+  looking_sighted now left tile look held v first =
+      subst (λ (l : List (ℕ × Seen)). Contains l tile) (sym (v.split ∙ ap (λ (l : List (ℕ × Seen)). v.done ++ l) first))
+      (Contains-append_right v.done (tile ∷ left) tile (Contains-here tile left))
 
-  next_tile : (s : Extent) (left : List Extent) (tile : ℕ × Seen) → sighted s ≡ Some tile → filter_map sighted (s ∷ left) ≡ tile ∷ filter_map sighted left
-  next_tile s left tile some = ap (λ (o : Option (ℕ × Seen)). cons_option o (filter_map sighted left)) some
-
-  pub looking_sighted : (s : Extent) (left : List Extent) (tile : ℕ × Seen) (look : Look) (held : List ℕ) → LookFound s left look held → sighted s ≡ Some tile
-      → Contains (sightings e size image) tile
-  looking_sighted s left tile look held f some =
-      subst (λ (l : List (ℕ × Seen)). Contains l tile) (sym (f.split ∙ ap (λ (l : List (ℕ × Seen)). f.done ++ l) (next_tile s left tile some)))
-      (Contains-append_right f.done (tile ∷ filter_map sighted left) tile (Contains-here tile (filter_map sighted left)))
-
-  pub looking_packed : (s : Extent) (left : List Extent) (addr : ℕ) (what shown : Seen) (look : Look) (held : List ℕ) → LookFound s left look held → sighted s ≡ Some (addr, what)
+  pub looking_packed : (now left : List (ℕ × Seen)) (addr : ℕ) (what shown : Seen) (look : Look) (held : List ℕ) → Looking now look held → now ≡ (addr, what) ∷ left
       → shown ≡ looked_by wants (compressed_node_at e size image addr) what → IsSightedIfPacked e size image (addr, shown)
-  looking_packed s left addr what shown look held f some is =
+  looking_packed now left addr what shown look held v first is =
       subst (λ (w : Seen). IsSightedIfPacked e size image (addr, w)) (sym is)
-      (packed_sighted wants e size image (addr, what) (looking_sighted s left (addr, what) look held f some))
+      (packed_sighted wants e size image (addr, what) (looking_sighted now left (addr, what) look held v first))
 
   -- the tile as it is looked at
   shown_tile : (addr : ℕ) (what shown : Seen) → shown ≡ looked_by wants (compressed_node_at e size image addr) what → ◌≡◌ {A = ℕ × Seen} (addr, shown) (looked_tile wants e size image (addr, what))
@@ -236,71 +193,71 @@ module _ (wants : Wants) (e : Endian) (size : ℕ) (image : List ℕ) where
       ∙ sym (map-append (looked_tile wants e size image) done ((addr, what) ∷ []))
 
   -- a tile that is added
-  pub looking_next : (s : Extent) (left : List Extent) (addr : ℕ) (what shown : Seen) (old new : Look) (before after : List ℕ) → LookFound s left old before → sighted s ≡ Some (addr, what)
+  pub looking_next : (now left : List (ℕ × Seen)) (addr : ℕ) (what shown : Seen) (old new : Look) (before after : List ℕ) → Looking now old before → now ≡ (addr, what) ∷ left
       → shown ≡ looked_by wants (compressed_node_at e size image addr) what → TakesLooked e size image (addr, shown) old new before after → new.refused ≡ None → Looking left new after
-  looking_next s left addr what shown old new before after f some is takes going =
+  looking_next now left addr what shown old new before after v first is takes going =
       let tile : ℕ × Seen = (addr, what) in
       let adds : AddsLooked e size image (addr, shown) old new before after = takes.adds going in
-      let next = next_tile s left tile some in
-      let more = one_more f.done addr what shown is in
+      let more = one_more v.done addr what shown is in
       record {
-        done = f.done ++ tile ∷ [];
-        split = f.split ∙ ap (λ (l : List (ℕ × Seen)). f.done ++ l) next ∙ sym (append_assoc f.done (tile ∷ []) (filter_map sighted left));
+        done = v.done ++ tile ∷ [];
+        split = v.split ∙ ap (λ (l : List (ℕ × Seen)). v.done ++ l) first ∙ sym (append_assoc v.done (tile ∷ []) left);
         has = subst (λ (l : List (ℕ × Seen)). HasTiles e size image l new.tiles.items after) more
-            (has_next e size image (map (looked_tile wants e size image) f.done) old.tiles.items new.tiles.items (addr, shown) before after f.has f.exact adds.none adds.tiles adds.contents adds.few);
-        exact = adds.contents ∙ ap (λ (l : List ℕ). l ++ tile_content e size image (addr, shown)) f.exact ∙ sym (content_more e size image (map (looked_tile wants e size image) f.done) (addr, shown))
+            (has_next e size image (map (looked_tile wants e size image) v.done) old.tiles.items new.tiles.items (addr, shown) before after v.has v.exact adds.none adds.tiles adds.contents adds.few);
+        exact = adds.contents ∙ ap (λ (l : List ℕ). l ++ tile_content e size image (addr, shown)) v.exact ∙ sym (content_more e size image (map (looked_tile wants e size image) v.done) (addr, shown))
             ∙ ap (contents_of_tiles e size image) more;
-        found = f.found ∙ ap (λ (l : List Finding). l ++ filter_map finding_of left) (sym takes.findings);
-        forbids = f.forbids ∙ ap (λ (l : List (ℕ × Seen)). old.read_only || any_forbids l) next
-            ∙ or_again old.read_only (forbids_writing what) (any_forbids (filter_map sighted left))
-            ∙ ap (λ (b : Bool). (old.read_only || b) || any_forbids (filter_map sighted left)) (sym (ap forbids_writing is ∙ looked_forbids wants (compressed_node_at e size image addr) what))
-            ∙ ap (λ (b : Bool). b || any_forbids (filter_map sighted left)) (sym adds.read_only);
+        found = takes.findings ∙ v.found;
+        forbids = v.forbids ∙ ap (λ (l : List (ℕ × Seen)). old.read_only || any_forbids l) first
+            ∙ or_again old.read_only (forbids_writing what) (any_forbids left)
+            ∙ ap (λ (b : Bool). (old.read_only || b) || any_forbids left) (sym (ap forbids_writing is ∙ looked_forbids wants (compressed_node_at e size image addr) what))
+            ∙ ap (λ (b : Bool). b || any_forbids left) (sym adds.read_only);
         going = going;
       }
 
   -- ---- a tile that refuses the image
 
-  pub looking_refused : (s : Extent) (left : List Extent) (addr : ℕ) (what shown : Seen) (old new : Look) (before after : List ℕ) (why : ViewFault) → IsScannable size image
-      → LookFound s left old before → sighted s ≡ Some (addr, what) → shown ≡ looked_by wants (compressed_node_at e size image addr) what
+  pub looking_refused : (now left : List (ℕ × Seen)) (addr : ℕ) (what shown : Seen) (old new : Look) (before after : List ℕ) (why : ViewFault) → IsScannable size image
+      → Looking now old before → now ≡ (addr, what) ∷ left → shown ≡ looked_by wants (compressed_node_at e size image addr) what
       → TakesLooked e size image (addr, shown) old new before after → new.refused ≡ Some why → IsLookAt wants e size image after new
-  looking_refused s left addr what shown old new before after why scannable f some is takes refused =
+  looking_refused now left addr what shown old new before after why scannable v first is takes refused =
       let both = takes.refuses why refused in
       let r : RefusesTile e size image (addr, shown) before after why = both.0 in
       let tiles_are : new.tiles.items ≡ old.tiles.items = both.1 in
-      let next = next_tile s left (addr, what) some in
-      let behind : List (ℕ × Seen) = map (looked_tile wants e size image) (filter_map sighted left) in
+      let behind : List (ℕ × Seen) = map (looked_tile wants e size image) left in
       record {
         scannable = scannable;
-        done = map (looked_tile wants e size image) f.done;
+        done = map (looked_tile wants e size image) v.done;
         rest = (addr, shown) ∷ behind;
-        all = ap (map (looked_tile wants e size image)) (f.split ∙ ap (λ (l : List (ℕ × Seen)). f.done ++ l) next)
-            ∙ map-append (looked_tile wants e size image) f.done ((addr, what) ∷ filter_map sighted left)
-            ∙ ap (λ (t : ℕ × Seen). map (looked_tile wants e size image) f.done ++ t ∷ behind) (sym (shown_tile addr what shown is));
+        all = ap (map (looked_tile wants e size image)) (v.split ∙ ap (λ (l : List (ℕ × Seen)). v.done ++ l) first)
+            ∙ map-append (looked_tile wants e size image) v.done ((addr, what) ∷ left)
+            ∙ ap (λ (t : ℕ × Seen). map (looked_tile wants e size image) v.done ++ t ∷ behind) (sym (shown_tile addr what shown is));
         has = record {
-          none = f.has.none;
-          among = λ t there. f.has.among t (subst (λ (l : List (ℕ × Seen)). Contains l t) tiles_are there);
-          nodes = ap (placed_nodes e size image) tiles_are ∙ f.has.nodes;
-          tiles = ap (contents_of_tiles e size image) tiles_are ∙ f.has.tiles;
-          contents = begin_more e size image (contents_of_tiles e size image (map (looked_tile wants e size image) f.done)) before after f.exact r.contents;
-          few = f.has.few;
+          none = v.has.none;
+          among = λ t there. v.has.among t (subst (λ (l : List (ℕ × Seen)). Contains l t) tiles_are there);
+          nodes = ap (placed_nodes e size image) tiles_are ∙ v.has.nodes;
+          tiles = ap (contents_of_tiles e size image) tiles_are ∙ v.has.tiles;
+          contents = begin_more e size image (contents_of_tiles e size image (map (looked_tile wants e size image) v.done)) before after v.exact r.contents;
+          few = v.has.few;
         };
-        ends = subst (EndsLook e size image (map (looked_tile wants e size image) f.done) ((addr, shown) ∷ behind) new) (sym refused)
-            ((addr, shown), behind, refl, refuses e size image (map (looked_tile wants e size image) f.done) (addr, shown) before after why f.exact r);
+        ends = subst (EndsLook e size image (map (looked_tile wants e size image) v.done) ((addr, shown) ∷ behind) new) (sym refused)
+            ((addr, shown), behind, refl, refuses e size image (map (looked_tile wants e size image) v.done) (addr, shown) before after why v.exact r);
       }
 
-  -- ---- the end
+  -- ---- the end, when the findings are added
 
-  pub looking_end : (left : List Extent) (look : Look) (held : List ℕ) → IsScannable size image → Looking left look held → left ≡ [] → IsLookAt wants e size image held look
-  looking_end left look held scannable v empty =
+  pub looking_end : (left : List (ℕ × Seen)) (old new : Look) (held : List ℕ) (all : List Finding) → IsScannable size image → Looking left old held → left ≡ []
+      → all ≡ findings e size image → new.findings.items ≡ old.findings.items ++ all → new.tiles.items ≡ old.tiles.items → new.read_only ≡ old.read_only → new.refused ≡ old.refused
+      → IsLookAt wants e size image held new
+  looking_end left old new held all scannable v empty all_are found tiles forbids refused =
       record {
         scannable = scannable;
         done = map (looked_tile wants e size image) v.done;
         rest = [];
-        all = ap (map (looked_tile wants e size image)) (v.split ∙ ap (λ (l : List Extent). v.done ++ filter_map sighted l) empty ∙ append-nil v.done) ∙ sym (append-nil (map (looked_tile wants e size image) v.done));
-        has = v.has;
-        ends = subst (EndsLook e size image (map (looked_tile wants e size image) v.done) [] look) (sym v.going) (
+        all = ap (map (looked_tile wants e size image)) (v.split ∙ ap (λ (l : List (ℕ × Seen)). v.done ++ l) empty ∙ append-nil v.done) ∙ sym (append-nil (map (looked_tile wants e size image) v.done));
+        has = subst (λ (l : List (ℕ × Seen)). HasTiles e size image (map (looked_tile wants e size image) v.done) l held) (sym tiles) v.has;
+        ends = subst (EndsLook e size image (map (looked_tile wants e size image) v.done) [] new) (sym (refused ∙ v.going)) (
           refl,
-          sym (v.found ∙ ap (λ (l : List Extent). look.findings.items ++ filter_map finding_of l) empty ∙ append-nil look.findings.items),
-          sym (v.forbids ∙ ap (λ (l : List Extent). look.read_only || any_forbids (filter_map sighted l)) empty ∙ or_false look.read_only),
+          found ∙ ap (λ (l : List Finding). l ++ all) v.found ∙ all_are,
+          forbids ∙ sym (v.forbids ∙ ap (λ (l : List (ℕ × Seen)). old.read_only || any_forbids l) empty ∙ or_false old.read_only),
         );
       }

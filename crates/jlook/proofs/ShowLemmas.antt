@@ -1,6 +1,6 @@
 -- What a look at an image has in common with its mount through its compression.
-use Rattle.std.proofs.Common.{◌≡◌, ℕ, ◌≤◌, Bool, true, false, cond, List, [], ◌∷◌, ◌++◌, length, map, None, Some, Option, refl, sym, ap, ap₂, subst, ◌∙◌, arith, length-append, Contains, IsTrue, IsFalse, Err}
-use Rattle.std.specs.Prelude.{Ok, Result, option_map, ◌↔◌, ◌⊎◌}
+use Rattle.std.proofs.Common.{◌≡◌, ℕ, ◌≤◌, Bool, true, false, cond, List, [], ◌∷◌, length, map, None, Some, Option, refl, sym, ap, ap₂, subst, ◌∙◌, arith, length-append, Contains, Err}
+use Rattle.std.specs.Prelude.{Ok, Result, option_map}
 use Rattle.std.specs.List.{cons_option}
 use Rattle.std.specs.Option.{option_or}
 use Rattle.std.proofs.lemmas.Bool.{true≢false}
@@ -13,8 +13,8 @@ use Rattle.jnode.specs.declared.node.NodeRef.TheVariants as node
 use Rattle.jnode.specs.declared.node.Seen.{Seen}
 use Rattle.jnode.specs.declared.node.Seen.TheVariants as seen
 use Rattle.jnode.specs.declared.order.Endian.{Endian}
-use Rattle.jscan.specs.Image.{sightings, is_block_size}
-use Rattle.jscan.specs.Scans.{IsScannable, findings, is_read_only}
+use Rattle.jscan.specs.Image.{sightings}
+use Rattle.jscan.specs.Scans.{findings, is_read_only}
 use Rattle.jexpand.specs.Expanded.{compressed_node_at, node_content, with_content, expanded_node, expanded_nodes, tile_content, contents_of_tiles}
 use Rattle.jexpand.specs.declared.fault.ConvertFault.{ConvertFault}
 use Rattle.jexpand.proofs.NodeLemmas.{accepted_content}
@@ -23,16 +23,16 @@ use Rattle.jmount.specs.Mount.{Mount}
 use Rattle.jmount.specs.StateOf.{state_of, tops_of}
 use Rattle.jmount.specs.Tree.{State, object, outline, is_directory}
 use Rattle.jmount.proofs.OutlineLemmas.{is_directory-outline}
-use Rattle.jview.specs.Through.{greatest_contents, through_fault, through_fault_among, IsSoundThrough, MountsThroughAs, IsMountThroughOf}
+use Rattle.jview.specs.Through.{through_fault, through_fault_among, IsSoundThrough, MountsThroughAs, IsMountThroughOf}
 use Rattle.jthrough.specs.MountsThrough.{AnswersThrough}
-use Rattle.jthrough.specs.Refusals.{IsRefusedBy, nodes_of_tiles}
+use Rattle.jthrough.specs.Refusals.{nodes_of_tiles}
 use Rattle.jthrough.specs.declared.fault.ViewFault.{ViewFault}
 use Rattle.jthrough.specs.declared.fault.ViewFault.TheVariants as fault
 use Rattle.jthrough.proofs.AddressedLemmas.{none_among}
 use Rattle.jthrough.proofs.RefusalLemmas.{AreHeld, none_of_held}
 use Rattle.jlook.specs.Laws.{ShowsSame, ShowsSameOr, LookingMounts, LookingShowsTheTree, AllWantedIsThrough}
-use Rattle.jlook.specs.Looked.{Wants, zeroed, looked_node, looked_by, looked_tile, looked_tiles}
-use Rattle.jlook.specs.Looks.{AreSoundTiles, TilesMountAs, IsMountOfTiles, IsTilesFaultAt, IsFirstTilesFaultAt, AnswersTiles, AnswersLook, LooksAs}
+use Rattle.jlook.specs.Looked.{Wants, zeroed, looked_node, looked_tile, looked_tiles}
+use Rattle.jlook.specs.Looks.{AreSoundTiles, IsMountOfTiles, IsFirstTilesFaultAt, AnswersTiles, AnswersLook, LooksAs}
 use Rattle.jlook.proofs.TreeLemmas.{outline_looked, wanted_looked, tops_looked, apart_looked}
 
 -- ---- one tile

@@ -1,27 +1,24 @@
 -- Which of some tiles refuses an image first, and at which address.
-use Rattle.std.proofs.Common.{◌≡◌, ℕ, ◌+◌, ◌<◌, ◌≤◌, Bool, true, false, cond, List, [], ◌∷◌, ◌++◌, length, None, Some, Option, refl, sym, ap, ap₂, subst, ◌∙◌, arith, append_assoc, length-append, inl, inr, ⊎_elim, Contains, nat_le, Err}
+use Rattle.std.proofs.Common.{◌≡◌, ℕ, ◌+◌, ◌<◌, ◌≤◌, Bool, true, false, cond, List, [], ◌∷◌, ◌++◌, None, Some, Option, refl, sym, ap, ap₂, subst, ◌∙◌, arith, inl, inr, ⊎_elim, Contains, nat_le, Err}
 use Rattle.std.specs.Option.{is_none, option_or}
 use Rattle.std.proofs.lemmas.Bool.{cases_lt}
-use Rattle.std.proofs.lemmas.List.Elements.{Contains-append_left, Contains-append_right, filter_map-append}
+use Rattle.std.proofs.lemmas.List.Elements.{Contains-append_right}
 use Rattle.std.proofs.lemmas.Option.{same_Some, none-some}
-use Rattle.std.proofs.lemmas.Grind.{flat_map-append}
-use Rattle.flashbase.proofs.MemberLemmas.{Contains-here, Contains-filter_map}
+use Rattle.flashbase.proofs.MemberLemmas.{Contains-here}
 use Rattle.jnode.specs.Reading.{inode_len}
 use Rattle.jnode.specs.Header.{header_len}
 use Rattle.jnode.specs.declared.node.CompressedNode.{CompressedNode}
-use Rattle.jnode.specs.declared.node.NodeRef.{NodeRef}
 use Rattle.jnode.specs.declared.node.Seen.{Seen}
 use Rattle.jnode.specs.declared.node.Seen.TheVariants as seen
 use Rattle.jnode.specs.declared.order.Endian.{Endian}
 use Rattle.jscan.specs.Scans.{IsScannable}
 use Rattle.jcompr.specs.Content.{method_of}
-use Rattle.jexpand.specs.Expanded.{expanded_node, node_content, tile_content, contents_of_tiles, compressed_node_at}
+use Rattle.jexpand.specs.Expanded.{node_content, compressed_node_at}
 use Rattle.jexpand.specs.Refused.{compressed_fault}
 use Rattle.jexpand.specs.declared.fault.ConvertFault.{ConvertFault}
 use Rattle.jexpand.specs.declared.fault.ConvertFault.TheVariants as convert
-use Rattle.jmount.specs.Clash.{NoneClash}
-use Rattle.jmount.proofs.FaultLemmas.{Rises, rises, ascends_from_splits}
-use Rattle.jview.specs.Through.{greatest_contents, through_fault}
+use Rattle.jmount.proofs.FaultLemmas.{Rises}
+use Rattle.jview.specs.Through.{through_fault}
 use Rattle.jthrough.specs.Refusals.{IsRefusedBy}
 use Rattle.jthrough.specs.declared.fault.ViewFault.{ViewFault}
 use Rattle.jthrough.specs.declared.fault.ViewFault.TheVariants as fault

@@ -1,11 +1,11 @@
 -- The file system of nodes as they are looked at: it has the same outline, and the same objects where they are wanted.
-use Rattle.std.proofs.Common.{◌≡◌, ℕ, ◌+◌, ◌<◌, ◌==◌, Bool, true, false, cond, List, [], ◌∷◌, ◌++◌, length, map, filter, None, Some, Option, refl, sym, ap, ap₂, subst, ◌∙◌, Contains}
+use Rattle.std.proofs.Common.{◌≡◌, ℕ, ◌+◌, ◌==◌, Bool, true, false, cond, List, [], ◌∷◌, map, filter, None, Some, Option, refl, sym, ap, ap₂, subst, ◌∙◌}
 use Rattle.std.specs.Prelude.{option_map, flat_map, nat_lt}
 use Rattle.std.specs.Ordering.{nat_cmp}
 use Rattle.std.specs.Cmp.{nat_cmp_total}
-use Rattle.std.specs.FinMap.{FinMap, get, same_map, nat_cmp-IsAntisymmetric}
+use Rattle.std.specs.FinMap.{FinMap, same_map, nat_cmp-IsAntisymmetric}
 use Rattle.std.proofs.lemmas.Bool.{eqb-true}
-use Rattle.flashbase.specs.Lists.{newest, higher_of, greatest, tabled, each_below}
+use Rattle.flashbase.specs.Lists.{newest, higher_of, greatest, tabled}
 use Rattle.flashbase.proofs.ListLemmas.{length-each_below}
 use Rattle.flashbase.proofs.MemberLemmas.{Contains-map_from}
 use Rattle.jnode.specs.declared.node.Dirent.{Dirent}
@@ -14,9 +14,9 @@ use Rattle.jnode.specs.declared.node.NodeRef.{NodeRef}
 use Rattle.jnode.specs.declared.node.NodeRef.TheVariants.{Entry, Inode}
 use Rattle.jfrag.specs.Overlays.{byte_at, visible}
 use Rattle.jname.specs.Live.{key_cmp, live_names}
-use Rattle.jmount.specs.Clash.{NodesClash, InodesClash, NoneClash}
-use Rattle.jmount.specs.StateOf.{inodes, entries, versions_of, latest, piece_of, contents, with_bytes, object_by, or_root, object_from, object_of, numbers_in, next_of, owner, version_of, top, tops_of, state_of}
-use Rattle.jmount.specs.Tree.{ObjectOf, State, Outline, sized, outline, object}
+use Rattle.jmount.specs.Clash.{NodesClash, NoneClash}
+use Rattle.jmount.specs.StateOf.{inodes, entries, versions_of, latest, piece_of, with_bytes, object_by, or_root, object_from, object_of, numbers_in, next_of, owner, version_of, top, tops_of, state_of}
+use Rattle.jmount.specs.Tree.{ObjectOf, Outline, sized, outline, object}
 use Rattle.jmount.proofs.NumbersLemmas.{object-state_of}
 use Rattle.jmount.proofs.OutlineLemmas.{object-outline}
 use Rattle.jmount.proofs.SameLemmas.{tabled-same}

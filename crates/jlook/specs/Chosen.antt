@@ -1,18 +1,16 @@
 -- A look whose wanted objects are chosen by the file system itself: it is looked at first without
 -- contents, which shows all but these.
-use Rattle.std.specs.Prelude.{◌⊎◌, ◌==◌, ℕ, Bool, false, List, Result, Ok, Err}
+use Rattle.std.specs.Prelude.{◌≡◌, ◌⊎◌, ◌==◌, ℕ, false, List, Result, Ok, Err}
 use Rattle.jnode.specs.declared.order.Endian.{Endian}
 use Rattle.jmount.specs.Find.{find}
 use Rattle.jmount.specs.Mount.{Mount}
-use Rattle.jmount.specs.StateOf.{state_of}
 use Rattle.jmount.specs.Tree.{State, object, has_bits, symlink_bits}
 use Rattle.jmount.specs.declared.fault.FindFault.{FindFault}
 use Rattle.jthrough.specs.MountsThrough.{AnswersThrough}
-use Rattle.jthrough.specs.Refusals.{nodes_of_tiles}
 use Rattle.jthrough.specs.declared.fault.ViewFault.{ViewFault}
 use Rattle.jlook.specs.Laws.{ShowsSameOr}
-use Rattle.jlook.specs.Looked.{Wants, looked_tiles}
-use Rattle.jlook.specs.Looks.{AnswersLook}
+use Rattle.jlook.specs.Looked.{Wants}
+use Rattle.jlook.specs.Looks.{AnswersLook, LooksAs}
 
 -- ---- choices
 
@@ -38,27 +36,32 @@ object_by_path path s = is_that_object (find s path)
 abbrev pub nothing_wanted : Wants
 nothing_wanted i = false
 
--- what is chosen in the file system that a look without contents shows
-abbrev pub chosen_in : Choice → Endian → ℕ → List ℕ → Wants
-chosen_in choice e size image = choice
-    (state_of (nodes_of_tiles e size image (looked_tiles nothing_wanted e size image)))
+-- these are the numbers of what is chosen in the file system that a look without contents shows
+abbrev pub AreChosen : Choice → Endian → ℕ → List ℕ → Wants → Type 0
+AreChosen choice e size image numbers = (s : State) × LooksAs nothing_wanted e size image s
+    × ((i : ℕ) → numbers i ≡ choice s i)
 
--- why there is no such look
+-- the answer of a mount of which just these are wanted
+abbrev pub AnswersWith : Choice → Endian → ℕ → List ℕ → Result Mount ViewFault → Type 0
+AnswersWith choice e size image answer = (s : State) × LooksAs nothing_wanted e size image s
+    × AnswersLook (choice s) e size image answer
+
+-- why there is no look without contents
 abbrev pub IsNoLook : Endian → ℕ → List ℕ → ViewFault → Type 0
 IsNoLook e size image why = AnswersLook nothing_wanted e size image (Err why)
 
 -- rule: Compressed data: The mount of an image that shows its tree, with the targets of symlinks or
 --   the bytes of the object that a path names, and no other contents.
---   definitions: jlook.Chosen.AnswersChosen, jlook.Chosen.symlinks_in, jlook.Chosen.object_by_path
---   code: jlook::mounting::mount_looked
---   laws: jlook::laws::chosen_is_the_same
--- The answer of a mount of an image of which just these are wanted; or the image is refused before
--- any contents are looked at.
+--   definitions: jlook.Chosen.AnswersChosen, jlook.Chosen.AnswersWith, jlook.Chosen.symlinks_in,
+--   jlook.Chosen.object_by_path
+--   code: jlook::chosen::mount_tree, jlook::chosen::mount_object
+--   laws: jlook::laws::chosen_is_the_same, jlook::laws::only_the_wanted_refuse
+-- The image mounts so; or it says why there is no look without contents, and else why there is none
+-- with those that are chosen.
 abbrev pub AnswersChosen : Choice → Endian → ℕ → List ℕ → Result Mount ViewFault → Type 0
-AnswersChosen choice e size image (Ok mount) =
-    AnswersLook (chosen_in choice e size image) e size image (Ok mount)
-AnswersChosen choice e size image (Err why) = IsNoLook e size image why
-    ⊎ AnswersLook (chosen_in choice e size image) e size image (Err why)
+AnswersChosen choice e size image (Ok mount) = AnswersWith choice e size image (Ok mount)
+AnswersChosen choice e size image (Err why) =
+    IsNoLook e size image why ⊎ AnswersWith choice e size image (Err why)
 
 -- ---- laws
 

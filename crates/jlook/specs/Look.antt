@@ -12,6 +12,7 @@ use Rattle.jthrough.specs.View.{BeginWith, HasTiles, RefusesTile, kept_tile}
 use Rattle.jthrough.specs.declared.fault.ViewFault.{ViewFault}
 use Rattle.jlook.specs.Looked.{Wants, looked_tiles}
 use Rattle.jlook.specs.declared.look.Look.{Look}
+use Rattle.jlook.specs.declared.sighted.Sighted.{Sighted}
 
 -- a tile that is looked at as compressed is sighted so
 abbrev pub IsSightedIfPacked : Endian → ℕ → List ℕ → ℕ × Seen → Type 0
@@ -25,9 +26,16 @@ pub record AreLookedAt (e : Endian) (size : ℕ) (image : List ℕ) (tiles : Lis
   pub none : (s : ℕ × Seen) → Contains tiles s → through_fault e size image s ≡ None
   pub contents : BeginWith (contents_of_tiles e size image tiles) held
 
+-- ---- an image that was gone over once
+
+pub record IsSightedOf (e : Endian) (size : ℕ) (image : List ℕ) (sighted : Sighted) : Type 0 where
+  pub scannable : IsScannable size image
+  pub tiles : sighted.tiles.items ≡ sightings e size image
+  pub findings : sighted.findings.items ≡ findings e size image
+
 -- ---- a look
 
--- of no extent
+-- of no tile
 pub record IsLookBegun (look : Look) : Type 0 where
   pub tiles : look.tiles.items ≡ []
   pub findings : look.findings.items ≡ []

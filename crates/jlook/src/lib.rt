@@ -8,16 +8,22 @@
 //! promises to the crate above: `mount_looked` answers the mount of the image as it is looked at, or
 //! the fault of least address. If the image mounts through its compression, then it mounts so too,
 //! with the same names, attributes and sizes, and the same bytes of each object that is wanted.
+//! `mount_tree` wants the targets of symlinks, and so shows what `ls` prints; `mount_object` wants
+//! the object that a path names, as `cat` does.
 //!
-//! `specs/Looked.antt` says what a node is looked at as, `specs/Looks.antt` what a mount answers,
+//! `specs/Looked.antt` says what a node is looked at as, `specs/Looks.antt` what a mount answers, and
 //! `specs/Laws.antt` what it has in common with a mount through, and `specs/Chosen.antt` what is
 //! wanted by the tree that is shown.
 #![tactic(auto)]
 
+mod chosen;
+mod copying;
 pub mod laws;
 mod look;
 mod looking;
 mod mounting;
 mod packed;
+mod sighted;
 
+pub use crate::chosen::{mount_object, mount_tree};
 pub use crate::mounting::mount_looked;

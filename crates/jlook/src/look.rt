@@ -1,7 +1,7 @@
 //! What an image shows if it is looked at, before it is mounted.
 
 use jnode::Seen;
-use jscan::{Extent, Finding};
+use jscan::Finding;
 use jthrough::ViewFault;
 use std::alloc::{AllocError, Global};
 
@@ -23,12 +23,11 @@ pub(crate) struct Look<'a> {
 
 impl<'a> Look<'a> {
     ghost use Rattle.std.specs.Prelude.{◌≡◌, ◌++◌, ◌||◌, OnOk, option_to_list};
-    ghost use Rattle.jscan.specs.Findings.{finding_of};
     ghost use Rattle.jscan.specs.Scans.{forbids_writing};
     ghost use Rattle.jthrough.specs.View.{kept_tile};
     ghost use Rattle.jlook.specs.Look.{IsLookBegun};
 
-    /// What an image shows in front of its first extent.
+    /// What an image shows in front of its first tile.
     pub(crate) fn new(alloc: Global) -> Self
         ensures { IsLookBegun result }
     {
@@ -41,17 +40,15 @@ impl<'a> Look<'a> {
         }
     }
 
-    /// Adds what an extent has that is a finding.
-    pub(crate) fn add_finding(&mut self, extent: &Extent<'_>) -> Result<(), AllocError>
-        ensures found { OnOk result (self.new.findings.items
-            ≡ self.old.findings.items ++ option_to_list (finding_of extent.now)) }
+    /// Adds the findings of an image that nothing refuses.
+    pub(crate) fn add_findings(&mut self, findings: &[Finding]) -> Result<(), AllocError>
+        ensures found { OnOk result
+            (self.new.findings.items ≡ self.old.findings.items ++ findings.now) }
         ensures tiles { self.new.tiles.items ≡ self.old.tiles.items }
         ensures read_only { self.new.read_only ≡ self.old.read_only }
         ensures refused { self.new.refused ≡ self.old.refused }
     {
-        if let Some(finding) = extent.finding() {
-            self.findings.push(finding)?;
-        }
+        self.findings.extend_from_slice(findings)?;
         Ok(())
     }
 

@@ -7,14 +7,15 @@ ghost use Rattle.jscan.specs.Image.{is_block_size};
 ghost use Rattle.jexpand.specs.Expanded.{tile_content};
 ghost use Rattle.jview.specs.Through.{through_fault};
 ghost use Rattle.jthrough.specs.Refusals.{HasTileFault};
-ghost use Rattle.jthrough.specs.View.{IsUnviewed};
-ghost use Rattle.jlook.specs.Look.{IsLookAt, IsSightedIfPacked, TakesLooked};
+ghost use Rattle.jlook.specs.Look.{IsLookAt, IsSightedIfPacked, IsSightedOf, TakesLooked};
 
+use crate::copying::copied;
 use crate::look::Look;
 use crate::packed::looked;
+use crate::sighted::Sighted;
 use jexpand::{ConvertFault, expanded_len};
 use jnode::{Order, Seen};
-use jscan::{Extent, ExtentKind, Geometry, ImageExtents};
+use jscan::Geometry;
 use jthrough::{GREATEST_CONTENTS, ViewFault};
 use std::alloc::{AllocError, Global};
 use std::collections::BTreeSet;
@@ -94,34 +95,29 @@ fn take_tile<'a, E: Order>(
 
 /// What an image shows if the contents of the objects of these numbers are wanted, up to the first
 /// tile that refuses it. The contents of their compressed nodes take the place of the bytes in
-/// `contents`, one after another; no other node is decompressed. The missing tail of the last block
-/// counts as erased.
-///
-/// # Errors
-/// `BlockSize` or `TooLarge`, before any byte is read. `OutOfMemory` may come at any time.
-pub(crate) fn look_at<'a, E: Order>(
+/// `contents`, one after another; no other node is decompressed. No checksum is taken again.
+pub(crate) fn look_over<'a, E: Order>(
     alloc: Global,
     image: &'a [u8],
     geometry: Geometry,
+    sighted: &Sighted<'a>,
     wanted: &BTreeSet<u32>,
     contents: &mut Vec<u8>,
-) -> Result<Look<'a>, ViewFault>
-    ensures look { IfOk result (IsLookAt (contains nat_cmp wanted.now) E.order geometry.block
+) -> Result<Look<'a>, AllocError>
+    requires sighted { IsSightedOf E.order geometry.block image.now sighted.now }
+    ensures { IfOk result (IsLookAt (contains nat_cmp wanted.now) E.order geometry.block
         image.now contents.new.items) }
-    ensures err { IfErr result (IsUnviewed geometry.block image.now) }
 {
     contents.clear();
     let mut look = Look::new(alloc);
-    for extent in ImageExtents::<E>::new(image, geometry)? {
-        look.add_finding(&extent)?;
-        let Extent { addr, kind, .. } = extent;
-        if let ExtentKind::Tiled(what) = kind {
-            let seen = looked::<E>(image, geometry, wanted, addr, what);
-            take_tile::<E>(alloc, image, geometry, &mut look, (addr, seen), contents)?;
-            if look.refused.is_some() {
-                return Ok(look);
-            }
+    for tile in &sighted.tiles {
+        let addr = tile.0;
+        let seen = looked::<E>(image, geometry, wanted, addr, copied(&tile.1));
+        take_tile::<E>(alloc, image, geometry, &mut look, (addr, seen), contents)?;
+        if look.refused.is_some() {
+            return Ok(look);
         }
     }
+    look.add_findings(&sighted.findings)?;
     Ok(look)
 }

@@ -7,12 +7,14 @@ ghost use Rattle.jscan.specs.Image.{is_block_size};
 ghost use Rattle.jexpand.specs.Expanded.{expanded_node, tile_content};
 ghost use Rattle.jview.specs.Through.{through_fault};
 ghost use Rattle.jthrough.specs.View.{BeginWith, placed_nodes};
-ghost use Rattle.jlook.specs.Look.{AreLookedAt, IsLookAt, IsSightedIfPacked};
+ghost use Rattle.jlook.specs.Look.{AreLookedAt, IsLookAt, IsSightedIfPacked, IsSightedOf};
+ghost use Rattle.jlook.specs.Chosen.{nothing_wanted};
 ghost use Rattle.jlook.specs.Looked.{Wants};
 ghost use Rattle.jlook.specs.Looks.{AnswersLook};
 
 use crate::look::Look;
-use crate::looking::look_at;
+use crate::looking::look_over;
+use crate::sighted::Sighted;
 use jexpand::{content_len, node_with_content};
 use jmount::{Mounted, mount_nodes, refuse_clashes};
 use jnode::{NodeRef, Order, Seen};
@@ -95,7 +97,7 @@ fn nodes_of<'a, E: Order>(
     Ok(nodes)
 }
 
-/// Mounts what an image shows as it is looked at, by the contents that `look_at` left.
+/// Mounts what an image shows as it is looked at, by the contents that `look_over` left.
 fn mount_look<'a, E: Order>(
     alloc: Global,
     image: &'a [u8],
@@ -129,6 +131,38 @@ fn mount_look<'a, E: Order>(
     }
 }
 
+/// Mounts an image that was gone over, if the contents of the objects of these numbers are wanted.
+pub(crate) fn mount_sighted<'a, E: Order>(
+    alloc: Global,
+    image: &'a [u8],
+    geometry: Geometry,
+    sighted: &Sighted<'a>,
+    wanted: &BTreeSet<u32>,
+    contents: &'a mut Vec<u8>,
+) -> Result<Mounted<'a>, ViewFault>
+    requires sighted { IsSightedOf E.order geometry.block image.now sighted.now }
+    ensures { AnswersLook (contains nat_cmp wanted.now) E.order geometry.block image.now result }
+{
+    let look = look_over::<E>(alloc, image, geometry, sighted, wanted, contents)?;
+    mount_look::<E>(alloc, image, geometry, look, contents)
+}
+
+/// Mounts an image that was gone over, without any contents.
+pub(crate) fn mount_without<'a, E: Order>(
+    alloc: Global,
+    image: &'a [u8],
+    geometry: Geometry,
+    sighted: &Sighted<'a>,
+) -> Result<Mounted<'a>, ViewFault>
+    requires sighted { IsSightedOf E.order geometry.block image.now sighted.now }
+    ensures { AnswersLook nothing_wanted E.order geometry.block image.now result }
+{
+    let nothing = BTreeSet::new(alloc);
+    let mut contents = Vec::new(alloc);
+    let look = look_over::<E>(alloc, image, geometry, sighted, &nothing, &mut contents)?;
+    mount_look::<E>(alloc, image, geometry, look, b"")
+}
+
 /// Mounts an image as it is looked at, if the contents of the objects of these numbers are wanted.
 /// Each compressed node of such an object is decompressed once. A node of another object gives
 /// zeros, as many as its range has: nothing refuses it, whether its data are broken, of a method
@@ -151,6 +185,6 @@ pub fn mount_looked<'a, E: Order>(
 ) -> Result<Mounted<'a>, ViewFault>
     ensures { AnswersLook (contains nat_cmp wanted.now) E.order geometry.block image.now result }
 {
-    let look = look_at::<E>(alloc, image, geometry, wanted, contents)?;
-    mount_look::<E>(alloc, image, geometry, look, contents)
+    let sighted = Sighted::of::<E>(alloc, image, geometry)?;
+    mount_sighted::<E>(alloc, image, geometry, &sighted, wanted, contents)
 }

@@ -1,4 +1,4 @@
-use Rattle.std.proofs.Common.{◌≡◌, ℕ, Contains, sym, subst}
+use Rattle.std.proofs.Common.{Contains, sym, subst}
 use Rattle.jnode.specs.declared.node.Seen.{Seen}
 use Rattle.jscan.specs.Image.{sightings}
 use Rattle.jlook.proofs.looking.judge_tile.Goals as goal

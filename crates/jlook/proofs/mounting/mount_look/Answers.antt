@@ -1,7 +1,6 @@
 use Rattle.std.proofs.Common.{rules, ◌≡◌, Err, sym, subst}
 use Rattle.jmount.specs.MountsNodes.{AreMountable, AnswersNodes}
 use Rattle.jthrough.specs.View.{mount_fault_viewed}
-use Rattle.jlook.specs.Looked.{Wants}
 use Rattle.jlook.specs.Looks.{AnswersLook}
 use Rattle.jlook.proofs.MountLemmas.{look_seen, look_refused, stop_answers, look_mounted, look_unmounted, look_mountable}
 use Rattle.jlook.proofs.mounting.mount_look.Goals as goal
