@@ -1,5 +1,5 @@
 -- What a session in the openings that are taken did.
-use Rattle.std.proofs.Common.{◌≡◌, ◌∙◌, ℕ, ◌+◌, ◌*◌, ◌≤◌, Bool, true, false, not, List, [], length, take, ap, refl, sym, subst, arith, append-nil, Option, None, Some, Result, Ok, Err}
+use Rattle.std.proofs.Common.{◌≡◌, ◌∙◌, ℕ, ◌+◌, ◌*◌, ◌≤◌, Bool, true, false, not, List, [], length, take, ap, refl, subst, append-nil, Option, None, Some, Result, Ok, Err}
 use Rattle.std.specs.Prelude.{IsFalse, IsTrue, IsOk, ◌&&◌, nat_le, nat_lt}
 use Rattle.std.specs.Io.KnownBytes.{Appends}
 use Rattle.std.proofs.KnownBytes.{Appends-trans}

@@ -4,7 +4,6 @@ use Rattle.std.specs.Prelude.{Contains}
 use Rattle.std.specs.List.{AllByRecursion}
 use Rattle.std.proofs.lemmas.List.{take_all}
 use Rattle.jnode.specs.declared.order.Endian.{Endian}
-use Rattle.jscan.specs.Image.{block_of}
 use Rattle.jsteps.specs.Steps.{bytes, after}
 use Rattle.jsteps.specs.declared.op.Op.{Op}
 use Rattle.jview.specs.Through.{MountsThroughAs}

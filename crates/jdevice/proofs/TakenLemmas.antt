@@ -1,5 +1,5 @@
 -- The openings that are taken are openings of the image.
-use Rattle.std.proofs.Common.{◌≡◌, ℕ, zero, suc, ◌+◌, Bool, true, false, List, [], ◌∷◌, filter, refl, sym, ap, subst, ◌∙◌, arith, if◌then◌else◌, Some}
+use Rattle.std.proofs.Common.{◌≡◌, ℕ, zero, suc, ◌+◌, Bool, true, false, List, [], ◌∷◌, filter, refl, sym, ap, subst, arith, if◌then◌else◌, Some}
 use Rattle.std.specs.List.{AllByRecursion}
 use Rattle.jnode.specs.declared.order.Endian.{Endian}
 use Rattle.jscan.specs.Blank.{is_blank}

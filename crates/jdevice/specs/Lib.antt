@@ -1,3 +1,4 @@
+pub mod Blank
 pub mod Taken
 pub mod Run
 pub mod Line

@@ -7,15 +7,18 @@
 //! made.
 //!
 //! `specs/Taken.antt` says which openings are taken, `specs/Run.antt` what a run did,
-//! `specs/Line.antt` what is told of it, and `specs/Laws.antt` what stays of the image.
+//! `specs/Line.antt` what is told of it, `specs/Blank.antt` how many blank blocks it leaves, and
+//! `specs/Laws.antt` what stays of the image.
 #![tactic(auto)]
 
+mod blank;
 pub mod laws;
 mod line;
 mod placing;
 mod running;
 mod taken;
 
+pub use crate::blank::{blank_left, reserve_on};
 pub use crate::line::put_updated;
 pub use crate::placing::put_device;
 pub use crate::running::{DevicePlan, DeviceRun, run_on_device};

@@ -1,4 +1,5 @@
 pub mod AfterLemmas
+pub mod CountLemmas
 pub mod DoneLemmas
 pub mod ExistLemmas
 pub mod FrontLemmas

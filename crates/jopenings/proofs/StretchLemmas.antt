@@ -174,7 +174,7 @@ flash_with_is_whole size blocks base ss bytes some at =
 
 -- ---- images that hold the same
 
-same_block : (size : ℕ) (image other : List ℕ) → HoldSame image other → (b : ℕ) → block_of size image b ≡ block_of size other b
+pub same_block : (size : ℕ) (image other : List ℕ) → HoldSame image other → (b : ℕ) → block_of size image b ≡ block_of size other b
 same_block size image other same b =
     ext_get_or 0xFF (block_of size image b) (block_of size other b) (block_length size image b ∙ sym (block_length size other b)) (λ i inside.
     let small : i < size = omega (arith, inside, block_length size image b) in

@@ -5,7 +5,6 @@ use Rattle.std.specs.List.{AllByRecursion, flat_map}
 use Rattle.flashbase.specs.Ranges.{AreBytes}
 use Rattle.jnode.specs.Header.{header_len}
 use Rattle.jnode.specs.Reading.{inode_len}
-use Rattle.jnode.specs.declared.order.Endian.{Endian}
 use Rattle.jscan.specs.Pages.{IsPage}
 use Rattle.jsteps.specs.Steps.{bytes, after}
 use Rattle.jsteps.specs.Nodes.{Indexed, nodes_of, advanced_all}

@@ -9,6 +9,7 @@
 //! - `put_with_stretches`: an image with what went out to openings of it, put block by block
 //!   without a copy of it, and how much of it went out if the sink failed; `len_with_stretches`
 //!   says how long it is then.
+//! - `erased_with_stretches`: how many blocks are erased in that image, by `jreserve`'s definition.
 //! - `laws`, each the contract of a function that does nothing.
 //!
 //! `specs/After.antt` says what is left of a row, and `specs/AfterLaws.antt` what goes on there.
@@ -19,7 +20,9 @@
 //! there.
 #![tactic(auto)]
 
+mod erased;
 pub mod laws;
 mod placing;
 
+pub use crate::erased::erased_with_stretches;
 pub use crate::placing::{Stretch, StretchesOnFlash, len_with_stretches, put_with_stretches};

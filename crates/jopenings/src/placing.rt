@@ -31,9 +31,9 @@ pub struct StretchesOnFlash<'a> {
 
 /// A block: what lies in front of the bytes that went out to it, and what from there on.
 #[derive(Drop)]
-struct Halves<'a> {
-    front: Part<'a>,
-    behind: Part<'a>,
+pub(crate) struct Halves<'a> {
+    pub front: Part<'a>,
+    pub behind: Part<'a>,
 }
 
 /// Puts the first `len` bytes of a block behind `before` others. A fault counts those too.
@@ -78,21 +78,21 @@ fn halves_of<'a>(
 
 /// Stretches, and what went out to them.
 #[derive(Clone, Copy)]
-struct Written<'a> {
-    stretches: &'a [Stretch],
-    bytes: &'a [u8],
+pub(crate) struct Written<'a> {
+    pub stretches: &'a [Stretch],
+    pub bytes: &'a [u8],
 }
 
 /// A block, and what is left for those behind it.
 #[derive(Drop)]
-struct Step<'a> {
-    block: Halves<'a>,
-    later: Written<'a>,
+pub(crate) struct Step<'a> {
+    pub block: Halves<'a>,
+    pub later: Written<'a>,
 }
 
 /// A block of the flash, and what is left for those behind it. The stretches of those in front of
 /// it are passed.
-fn step_to<'a>(
+pub(crate) fn step_to<'a>(
     flash: &StretchesOnFlash<'_>,
     image: &'a [u8],
     written: &Written<'a>,

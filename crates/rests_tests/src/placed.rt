@@ -1,7 +1,9 @@
 //! What is put of an image with bytes in its openings, beside a plain model of it.
 
 use crate::checks::expect_at;
-use jopenings::{Stretch, StretchesOnFlash, len_with_stretches, put_with_stretches};
+use jopenings::{
+    Stretch, StretchesOnFlash, erased_with_stretches, len_with_stretches, put_with_stretches,
+};
 use jscan::Geometry;
 use std::alloc::{AllocError, Global};
 use std::test::Fail;
@@ -89,6 +91,27 @@ fn model_len(image: &[u8], flash: &[u8]) -> usize {
     image.len().max(last.map_or(0, |last| last.wrapping_add(1)))
 }
 
+/// How many blocks of it are erased.
+fn model_erased(flash: &[u8]) -> usize {
+    let mut count = 0usize;
+    for block in flash.chunks(SIZE) {
+        if block.iter().all(|byte| *byte == 0xFF) {
+            count = count.wrapping_add(1);
+        }
+    }
+    count
+}
+
+/// How many blocks are erased in an image with these bytes.
+fn erased(image: &[u8], bytes: &[u8]) -> u32 {
+    let flash = StretchesOnFlash {
+        geometry: Geometry { block: 4096 },
+        blocks: 7,
+        stretches: &STRETCHES,
+    };
+    erased_with_stretches(&flash, image, bytes)
+}
+
 /// How long an image is with these bytes; and what goes out of its first `len` bytes to a sink that
 /// takes `limit`.
 fn put(alloc: Global, image: &[u8], bytes: &[u8], len: usize, limit: usize) -> (usize, Taker) {
@@ -130,6 +153,30 @@ fn a_sink_that_fails_took_a_beginning(rt: HostRuntime) -> Result<(), Fail> {
         let (_len, failed) = put(alloc, &image, &bytes, usize::MAX, limit);
         let (_len, asked) = put(alloc, &image, &bytes, limit, usize::MAX);
         expect_at(&rt, failed.took(1, front) && asked.took(0, front), limit);
+    }
+    Ok(())
+}
+
+/// The counts of bytes that a stretch begins or ends with: each of the four blank blocks counts
+/// until a byte went out to it.
+#[test]
+fn erased_blocks_are_counted(rt: HostRuntime) -> Result<(), Fail> {
+    let alloc = rt.alloc();
+    let image = image_of(alloc)?;
+    let bytes = bytes_of(alloc, 4220)?;
+    for (count, left) in [
+        (0, 4),
+        (40, 4),
+        (41, 3),
+        (4136, 3),
+        (4166, 3),
+        (4167, 2),
+        (4220, 2),
+    ] {
+        let written = bytes.get(..count).unwrap_or(&[]);
+        let flash = model(alloc, &image, written)?;
+        let is_well = erased(&image, written) == left && model_erased(&flash) == left as usize;
+        expect_at(&rt, is_well, count);
     }
     Ok(())
 }

@@ -1,4 +1,4 @@
-use Rattle.std.proofs.Common.{◌≡◌, ◌∙◌, ℕ, Bool, List, [], is_some, ap, refl, sym, subst, Some}
+use Rattle.std.proofs.Common.{◌≡◌, ◌∙◌, ℕ, List, [], is_some, ap, refl, sym, subst, Some}
 use Rattle.std.specs.Prelude.{IsFalse}
 use Rattle.flashbase.specs.Sinks.{SinkChange}
 use Rattle.jscan.specs.Pages.{page_size}
@@ -11,7 +11,7 @@ use Rattle.jrests.specs.declared.opening.Opening.{Opening}
 use Rattle.jopenings.specs.Stretches.{AreStretches, stretches_of}
 use Rattle.jopenings.specs.declared.placing.Stretch.{Stretch}
 use Rattle.jupdate.specs.Rows.{left_in}
-use Rattle.jdevice.specs.Run.{openings_planned, stops_at_op}
+use Rattle.jdevice.specs.Run.{openings_planned}
 use Rattle.jdevice.specs.declared.running.DevicePlan.{DevicePlan}
 use Rattle.jdevice.proofs.RunLemmas.{begun_same, device_ran, flash_same, gone_on, index_same, packed_same, session_state}
 use Rattle.jdevice.proofs.running.run_in_session.Goals as goal

@@ -1,4 +1,4 @@
-use Rattle.std.proofs.Common.{◌≡◌, ◌∙◌, Bool, List, ap, sym, subst, Some}
+use Rattle.std.proofs.Common.{◌≡◌, ◌∙◌, List, ap, sym, subst, Some}
 use Rattle.jmount.specs.Mount.{Mount}
 use Rattle.jrests.specs.Openings.{AreOpeningsOf}
 use Rattle.jrests.specs.declared.opening.Opening.{Opening}

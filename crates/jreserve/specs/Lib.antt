@@ -1,0 +1,3 @@
+pub mod Erased
+pub mod Reserve
+pub mod Note
