@@ -16,7 +16,7 @@ _jffs2_image_options() {
         extract) echo "$plain $auto --decompress --owners --quiet $help" ;;
         listing) echo "--owner --time --quiet $help" ;;
         info) echo "$help" ;;
-        cuts) echo "$plain $auto $write --on --compress --decompress $help" ;;
+        cuts) echo "$plain $auto $write --on --compress --decompress --update --plain --tail $help" ;;
         diff) echo "$plain $auto --decompress --times $help" ;;
         damage) echo "$plain $auto --decompress $help" ;;
         map) echo "$plain $auto --svg $help" ;;

@@ -63,10 +63,11 @@ complete -c jffs2_image -n '__jffs2_image_in listing pack verify' -l time -x -d 
 # Options of one command
 complete -c jffs2_image -n '__jffs2_image_in check' -l scan -d 'Report alone, no mount'
 complete -c jffs2_image -n '__jffs2_image_in check' -l shape -d 'Whether the directories make a tree'
-complete -c jffs2_image -n '__jffs2_image_in update' -l plain -d 'Do not compress new nodes'
-complete -c jffs2_image -n '__jffs2_image_in update' -l tail -d 'Write into begun blocks too'
+complete -c jffs2_image -n '__jffs2_image_in update cuts' -l plain -d 'Do not compress new nodes'
+complete -c jffs2_image -n '__jffs2_image_in update cuts' -l tail -d 'Write into begun blocks too'
 complete -c jffs2_image -n '__jffs2_image_in map' -l svg -d 'One SVG picture'
 complete -c jffs2_image -n '__jffs2_image_in cuts' -l on -r -d 'Image to go on from'
+complete -c jffs2_image -n '__jffs2_image_in cuts' -l update -d 'Tell the nodes of update'
 complete -c jffs2_image -n '__jffs2_image_in extract' -l owners -d 'Set the owners of the image'
 complete -c jffs2_image -n '__jffs2_image_in decompress compact' -l clashes -x -a higher \
     -d 'If nodes clash, keep one by its address'

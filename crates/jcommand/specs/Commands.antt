@@ -117,6 +117,10 @@ append_app = with_rule
     (word (codes "LISTING")))
     (word (codes "OUT"))
 
+-- the way in which `update` writes: uncompressed, and into the rests of begun blocks
+abbrev pub updating : App → App
+updating app = with_rule (with_rule app (flag (codes "plain"))) (flag (codes "tail"))
+
 -- `update [--blocks N] [--page N] [--plain] [--tail] [--pad] [--atomic] [--auto] [--block N]
 -- [--endian ORDER] IMAGE LISTING OUT`
 abbrev pub update_app : App
@@ -124,12 +128,9 @@ update_app = with_rule
     (with_rule
     (with_rule
     (placing
-    (with_rule
-    (with_rule
+    (updating
     (with_rule (with_rule (reader (codes "update")) (option_of (codes "blocks")))
-    (option_or (codes "page") (codes "4096")))
-    (flag (codes "plain")))
-    (flag (codes "tail"))))
+    (option_or (codes "page") (codes "4096")))))
     (word (codes "IMAGE")))
     (word (codes "LISTING")))
     (word (codes "OUT"))
@@ -207,12 +208,19 @@ listing_app = with_rule
 abbrev pub info_app : App
 info_app = with_rule (new_app (codes "info")) (word (codes "IMAGE"))
 
--- `cuts --blocks N [--page N] [--on IMAGE] [--compress] [--decompress] [--auto] [--block N]
--- [--endian ORDER] LISTING`
+-- `cuts [--blocks N] [--page N] [--on IMAGE] [--compress] [--decompress] [--update [--plain]
+-- [--tail]] [--auto] [--block N] [--endian ORDER] LISTING`
 abbrev pub cuts_app : App
 cuts_app = with_rule
+    (updating
+    (with_rule
     (decompressing
-    (compressing (with_rule (automatic (writer (codes "cuts"))) (option_of (codes "on")))))
+    (compressing
+    (with_rule
+    (with_rule (with_rule (reader (codes "cuts")) (option_of (codes "blocks")))
+    (option_or (codes "page") (codes "4096")))
+    (option_of (codes "on")))))
+    (flag (codes "update"))))
     (word (codes "LISTING"))
 
 -- `diff [--decompress] [--times] [--auto] [--block N] [--endian ORDER] A B`

@@ -5,3 +5,4 @@ pub mod Requests
 pub mod Status
 pub mod Worked
 pub mod Sizes
+pub mod Blocks

@@ -31,6 +31,7 @@ use Rattle.jcommand.specs.declared.parsed.Owner.{Owner}
 use Rattle.jcommand.specs.declared.parsed.Packing.{Packing}
 use Rattle.jcommand.specs.declared.parsed.Placing.{Placing}
 use Rattle.jcommand.specs.declared.parsed.Target.{Target}
+use Rattle.jcommand.specs.declared.parsed.UpdateCuts.{UpdateCuts}
 use Rattle.jcommand.specs.declared.parsed.Updating.{Updating}
 use Rattle.jcommand.specs.declared.parsed.Verification.{Verification}
 
@@ -109,6 +110,17 @@ cuts_through_view c = record {
   page = c.page;
   compress = c.compress;
   on = option_map (λ name. name.now) c.on;
+  listing = c.listing.now;
+}
+
+abbrev pub update_cuts_view : UpdateCuts (Bor Text) → UpdateCuts Text
+update_cuts_view c = record {
+  options = c.options;
+  blocks = c.blocks;
+  page = c.page;
+  plain = c.plain;
+  tail = c.tail;
+  image = c.image.now;
   listing = c.listing.now;
 }
 
@@ -220,6 +232,7 @@ command_view (command.Cuts c) = command.Cuts (record {
   listing = c.listing.now;
 })
 command_view (command.CutsThrough c) = command.CutsThrough (cuts_through_view c)
+command_view (command.CutsUpdate c) = command.CutsUpdate (update_cuts_view c)
 command_view (command.Decompress c) = command.Decompress (conversion_view c)
 command_view (command.Apart c) = command.Apart (conversion_view c)
 command_view (command.Compress c) = command.Compress (conversion_view c)
@@ -249,6 +262,7 @@ order_asked (command.Append a) = a.target.options.endian
 order_asked (command.Update u) = u.options.endian
 order_asked (command.Cuts c) = c.options.endian
 order_asked (command.CutsThrough c) = c.options.endian
+order_asked (command.CutsUpdate c) = c.options.endian
 order_asked (command.Decompress c) = c.options.endian
 order_asked (command.Apart c) = c.options.endian
 order_asked (command.Compress c) = c.options.endian
@@ -438,8 +452,8 @@ cuts_by rows c = if is_compressed rows || is_given (codes "decompress") rows
     else command.Cuts c
 
 -- the image that is gone on from may be left out
-abbrev pub cuts_in : List Row → Option (Command Text)
-cuts_in rows = options_in rows >>= λ options. number_option (codes "blocks") rows >>= λ blocks.
+abbrev pub log_cuts_in : List Row → Option (Command Text)
+log_cuts_in rows = options_in rows >>= λ options. number_option (codes "blocks") rows >>= λ blocks.
     (first_of (codes "page") rows >>= page_of) >>= λ page.
     first_of (codes "LISTING") rows >>= λ listing.
     Some (cuts_by rows (record {
@@ -449,6 +463,30 @@ cuts_in rows = options_in rows >>= λ options. number_option (codes "blocks") ro
       on = first_of (codes "on") rows;
       listing = listing;
     }))
+
+-- of what `update` would write, where the number of blocks may be left out
+abbrev pub update_cuts_in : List Row → Option (Command Text)
+update_cuts_in rows = options_in rows >>= λ options.
+    if_given (first_of (codes "blocks") rows) decimal_number >>= λ blocks.
+    (first_of (codes "page") rows >>= page_of) >>= λ page.
+    first_of (codes "on") rows >>= λ image. first_of (codes "LISTING") rows >>= λ listing.
+    Some (command.CutsUpdate (record {
+      options = options;
+      blocks = blocks;
+      page = page;
+      plain = is_given (codes "plain") rows;
+      tail = is_given (codes "tail") rows;
+      image = image;
+      listing = listing;
+    }))
+
+-- `update` decompresses and compresses without being asked, and only it has `--plain` and `--tail`
+abbrev pub cuts_in : List Row → Option (Command Text)
+cuts_in rows = if is_given (codes "update") rows
+    then (if is_compressed rows || is_given (codes "decompress") rows then None
+    else update_cuts_in rows)
+    else (if is_given (codes "plain") rows || is_given (codes "tail") rows then None
+    else log_cuts_in rows)
 
 -- whether an image with findings may be written over
 abbrev pub is_forced : List Row → Bool

@@ -33,6 +33,7 @@ image_read (command.Append a) = Some a.image
 image_read (command.Update u) = Some u.image
 image_read (command.Cuts c) = c.on
 image_read (command.CutsThrough c) = c.on
+image_read (command.CutsUpdate c) = Some c.image
 image_read (command.Decompress c) = Some c.image
 image_read (command.Apart c) = Some c.image
 image_read (command.Compress c) = Some c.image
@@ -61,6 +62,7 @@ writes_image (command.Append a) = true
 writes_image (command.Update u) = true
 writes_image (command.Cuts c) = true
 writes_image (command.CutsThrough c) = true
+writes_image (command.CutsUpdate c) = true
 writes_image (command.Decompress c) = true
 writes_image (command.Apart c) = true
 writes_image (command.Compress c) = true
@@ -98,6 +100,7 @@ with_options o (command.Cuts c) = command.CutsThrough (record {
   listing = c.listing;
 })
 with_options o (command.CutsThrough c) = command.CutsThrough (record c { options = o })
+with_options o (command.CutsUpdate c) = command.CutsUpdate (record c { options = o })
 with_options o (command.Decompress c) = command.Decompress (record c { options = o })
 with_options o (command.Apart c) = command.Apart (record c { options = o })
 with_options o (command.Compress c) = command.Compress (record c { options = o })

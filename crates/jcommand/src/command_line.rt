@@ -163,6 +163,24 @@ fn auto_objection<'a>(found: &ArgMatches<'a>) -> Objection<'a> {
     Objection::Missing("--on <IMAGE>")
 }
 
+/// Of `cuts`, the first options that do not go together, or one that has to be there.
+fn cuts_objection<'a>(found: &ArgMatches<'a>) -> Option<Objection<'a>> {
+    match is_given(found, "update") {
+        true if is_given(found, "compress") => {
+            Some(Objection::Conflict("--update", "--compress"))
+        }
+        true if is_given(found, "decompress") => {
+            Some(Objection::Conflict("--update", "--decompress"))
+        }
+        true if text_at(found, "on").is_none() => Some(Objection::Missing("--on <IMAGE>")),
+        false if is_given(found, "plain") || is_given(found, "tail") => {
+            Some(Objection::Missing("--update"))
+        }
+        false if text_at(found, "blocks").is_none() => Some(Objection::Missing("--blocks <N>")),
+        _ => None,
+    }
+}
+
 /// The first value that can't be read.
 fn value_objection<'a>(found: &ArgMatches<'a>) -> Objection<'a> {
     if size_at(found).is_none() {
@@ -207,9 +225,15 @@ fn objection_to<'a>(name: &str, found: &ArgMatches<'a>) -> Objection<'a> {
     if name == "listing" {
         return setting_objection(found);
     }
-    let is_alone = name == "cuts" && text_at(found, "on").is_none();
+    let is_cuts = name == "cuts";
+    let is_alone = is_cuts && text_at(found, "on").is_none();
     if is_given(found, "auto") && (is_alone || are_options_given(found)) {
         return auto_objection(found);
+    }
+    if is_cuts {
+        if let Some(objection) = cuts_objection(found) {
+            return objection;
+        }
     }
     if is_given(found, "compress") && is_given(found, "weak") {
         return Objection::Conflict("--compress", "--weak");

@@ -2,7 +2,7 @@
 //! takes.
 ghost use Rattle.std.specs.Prelude.{◌≡◌, Ok, IfOk};
 ghost use Rattle.clap.specs.Words.{App, Rule, new_app, with_rule, with_subcommand};
-ghost use Rattle.jcommand.specs.Commands.{IsApp, IsRule, MakesApp, word, optional_word, option_or, required_option, option_of, option_of_two, flag, lettered_flag, block_option, plain_command, automatic, reader, writer, noting, check_app, ls_app, cat_app, build_app, append_app, update_app, decompress_app, compress_app, compact_app, extract_app, listing_app, info_app, cuts_app, diff_app, damage_app, map_app, pack_app, verify_app, atomic, compressing, replacing, placing, folder_settings, bare, program};
+ghost use Rattle.jcommand.specs.Commands.{IsApp, IsRule, MakesApp, word, optional_word, option_or, required_option, option_of, option_of_two, flag, lettered_flag, block_option, plain_command, automatic, reader, writer, noting, check_app, ls_app, cat_app, build_app, append_app, update_app, decompress_app, compress_app, compact_app, extract_app, listing_app, info_app, cuts_app, diff_app, damage_app, map_app, pack_app, verify_app, atomic, compressing, replacing, placing, updating, folder_settings, bare, program};
 
 use crate::help;
 use clap::{Arg, ArgAction, Command};
@@ -236,6 +236,16 @@ fn add_compressing<'a>(alloc: Global, command: Made<'a>) -> Made<'a>
     add_arg(command, flag)
 }
 
+/// The command that writes as `update` does: uncompressed, and into the rests of begun blocks,
+/// where that is asked for.
+fn add_updating<'a>(alloc: Global, command: Made<'a>) -> Made<'a>
+    ensures { (app : App) → MakesApp command.entry app → MakesApp result (updating app) }
+{
+    let plain = make_flag(alloc, "plain", help::PLAIN);
+    let tail = make_flag(alloc, "tail", help::TAIL);
+    add_arg(add_arg(command, plain), tail)
+}
+
 fn make_build<'a>(alloc: Global) -> Made<'a>
     ensures { MakesApp result build_app }
 {
@@ -264,14 +274,12 @@ fn make_update<'a>(alloc: Global) -> Made<'a>
 {
     let blocks = make_optional(alloc, "blocks", "N", help::BLOCKS);
     let page = make_option(alloc, "page", "N", "4096", help::PAGE);
-    let plain = make_flag(alloc, "plain", help::PLAIN);
-    let tail = make_flag(alloc, "tail", help::TAIL);
     let image = make_word(alloc, "IMAGE", help::IMAGE);
     let listing = make_word(alloc, "LISTING", help::LISTING);
     let output = make_word(alloc, "OUT", help::OUT);
     let command = make_reader(alloc, "update", help::UPDATE, help::UPDATE_EPILOGUE);
     let command = add_arg(add_arg(command, blocks), page);
-    let command = add_placing(alloc, add_arg(add_arg(command, plain), tail));
+    let command = add_placing(alloc, add_updating(alloc, command));
     add_arg(add_arg(add_arg(command, image), listing), output)
 }
 
@@ -356,12 +364,16 @@ fn make_info<'a>(alloc: Global) -> Made<'a>
 fn make_cuts<'a>(alloc: Global) -> Made<'a>
     ensures { MakesApp result cuts_app }
 {
+    let blocks = make_optional(alloc, "blocks", "N", help::BLOCKS);
+    let page = make_option(alloc, "page", "N", "4096", help::PAGE);
     let on = make_optional(alloc, "on", "IMAGE", help::ON);
     let decompress = make_flag(alloc, "decompress", help::MOUNTED_DECOMPRESSED);
+    let update = make_flag(alloc, "update", help::UPDATING);
     let listing = make_word(alloc, "LISTING", help::LISTING);
-    let command = make_writer(alloc, "cuts", help::CUTS, help::CUTS_EPILOGUE);
-    let command = add_arg(add_auto(alloc, command), on);
+    let command = make_reader(alloc, "cuts", help::CUTS, help::CUTS_EPILOGUE);
+    let command = add_arg(add_arg(add_arg(command, blocks), page), on);
     let command = add_arg(add_compressing(alloc, command), decompress);
+    let command = add_updating(alloc, add_arg(command, update));
     add_arg(command, listing)
 }
 

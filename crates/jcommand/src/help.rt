@@ -91,6 +91,8 @@ pub(crate) const PLAIN: &str = "Do not compress new nodes";
 
 pub(crate) const TAIL: &str = "Write behind nodes of begun blocks too: for NOR flash";
 
+pub(crate) const UPDATING: &str = "Tell the nodes of update, on the IMAGE of --on";
+
 pub(crate) const SVG: &str = "Print one SVG picture instead";
 
 pub(crate) const PATH: &str = "Path from the root, as /a/b; \\x and two hex digits are one byte";
@@ -589,9 +591,12 @@ pub(crate) const CUTS_EPILOGUE: &str = "\
 It plans the nodes that build would write for LISTING, or append with --on, and
 writes nothing. With --compress they are those of build --compress. With
 --decompress or --compress, IMAGE may have compressed data, which are left as
-they are. Each operation is written as a few nodes, and each node is one step of
-the file system. It prints a line for each node, in the order of their
-addresses:
+they are. With --update, which needs --on, they are those of update, with its
+--plain and --tail: IMAGE may have compressed data, and without --blocks the
+flash has as many blocks as IMAGE. Without --update, --blocks has to be given.
+
+Each operation is written as a few nodes, and each node is one step of the file
+system. It prints a line for each node, in the order in which they are written:
 
   A N line L step S of T stands from B
 
@@ -614,6 +619,7 @@ Examples:
   jffs2_image cuts --blocks 64 --on flash.img more.txt
   jffs2_image cuts --blocks 64 --decompress --on dump.img more.txt
   jffs2_image cuts --blocks 64 --compress tree.txt
+  jffs2_image cuts --update --on dump.img more.txt
 
 Exit status:
   0  done, and no node is weak

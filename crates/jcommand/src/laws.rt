@@ -190,6 +190,17 @@ pub fn known_requests()
     ensures cut_compressed { parsed_from (codes "jffs2_image" ∷ codes "cuts" ∷ codes "--blocks=2"
         ∷ codes "--page=8192" ∷ codes "a" ∷ codes "--compress" ∷ [])
         ≡ Some (command.CutsThrough (record through_of_a { page = P8192; compress = true })) }
+    ensures cut_update { parsed_from (codes "jffs2_image" ∷ codes "cuts" ∷ codes "--update"
+        ∷ codes "--on=b" ∷ codes "--tail" ∷ codes "a" ∷ [])
+        ≡ Some (command.CutsUpdate (record {
+          options = no_options;
+          blocks = None;
+          page = P4096;
+          plain = false;
+          tail = true;
+          image = codes "b";
+          listing = codes "a";
+        })) }
     ensures compressed { parsed_from (codes "jffs2_image" ∷ codes "compress" ∷ codes "a"
         ∷ codes "--endian=big" ∷ codes "b" ∷ [])
         ≡ Some (command.Compress (record b_of_a { options = options_of 65536 Big })) }
@@ -392,8 +403,17 @@ pub fn known_refusals()
         (codes "jffs2_image" ∷ codes "compress" ∷ codes "a" ∷ []) ≡ MissingRequiredArgument ∷ [] }
     ensures not_of_info { fault_of program (codes "jffs2_image" ∷ codes "info"
         ∷ codes "--block=4096" ∷ codes "a" ∷ []) ≡ UnknownArgument ∷ [] }
-    ensures no_flash { fault_of program (codes "jffs2_image" ∷ codes "cuts" ∷ codes "a" ∷ [])
-        ≡ MissingRequiredArgument ∷ [] }
+    ensures no_flash { parsed_from (codes "jffs2_image" ∷ codes "cuts" ∷ codes "a" ∷ []) ≡ None }
+    ensures not_on_image { parsed_from (codes "jffs2_image" ∷ codes "cuts" ∷ codes "--update"
+        ∷ codes "--blocks=2" ∷ codes "a" ∷ []) ≡ None }
+    ensures always_compressed { parsed_from (codes "jffs2_image" ∷ codes "cuts"
+        ∷ codes "--update" ∷ codes "--on=b" ∷ codes "--compress" ∷ codes "a" ∷ []) ≡ None }
+    ensures always_decompressed { parsed_from (codes "jffs2_image" ∷ codes "cuts"
+        ∷ codes "--update" ∷ codes "--on=b" ∷ codes "--decompress" ∷ codes "a" ∷ []) ≡ None }
+    ensures no_update { parsed_from (codes "jffs2_image" ∷ codes "cuts" ∷ codes "--on=b"
+        ∷ codes "--blocks=2" ∷ codes "--tail" ∷ codes "a" ∷ []) ≡ None }
+    ensures no_plain { parsed_from (codes "jffs2_image" ∷ codes "cuts" ∷ codes "--plain"
+        ∷ codes "--blocks=2" ∷ codes "a" ∷ []) ≡ None }
     ensures not_noted { fault_of program (codes "jffs2_image" ∷ codes "cuts" ∷ codes "--weak"
         ∷ codes "--blocks=2" ∷ codes "a" ∷ []) ≡ UnknownArgument ∷ [] }
     ensures no_second { fault_of program (codes "jffs2_image" ∷ codes "diff" ∷ codes "a" ∷ [])

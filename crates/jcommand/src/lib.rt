@@ -13,10 +13,12 @@
 //! - `request`: a command whose options may be found in its image, `specs/Requests.antt`.
 //! - `command_line`: `asked`, which takes the words to a `Request`, or to the text that answers
 //!   them; `specs/Refused.antt`.
+//! - `blocks`: the number of blocks of a flash, where it is left out; `specs/Blocks.antt`.
 //! - `outcome`: how the program ends, and its exit status; `specs/Status.antt`.
 //! - `laws`: worked command lines.
 #![tactic(auto)]
 
+mod blocks;
 mod command_line;
 mod commands;
 mod help;
@@ -27,11 +29,12 @@ mod parsed;
 mod request;
 mod sizes;
 
+pub use crate::blocks::blocks_asked;
 pub use crate::command_line::{RequestFault, asked};
 pub use crate::outcome::{Outcome, status};
 pub use crate::parsed::{
     Appending, Building, Check, Command, Compaction, Comparison, Conversion, Cuts, CutsThrough,
     Examination, Extraction, FileContent, FolderListing, Image, Mapping, Options, Owner, Packing,
-    Placing, Target, TreeListing, Updating, Verification,
+    Placing, Target, TreeListing, UpdateCuts, Updating, Verification,
 };
 pub use crate::request::Request;

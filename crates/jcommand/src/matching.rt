@@ -1,13 +1,13 @@
 //! What the matches of the program's command line ask for.
 ghost use Rattle.std.specs.Prelude.{◌≡◌, codes, map, option_map};
 ghost use Rattle.clap.specs.Words.{found_of, rows_of, all_of, first_of};
-ghost use Rattle.jcommand.specs.Parsed.{append_in, block_size_in, build_in, cat_in, check_in, command_view, compact_in, conversion_in, conversion_view, cuts_in, damage_in, decimal_number, decompress_in, diff_in, endian_of, extract_in, folder_in, folder_view, if_given, image_in, image_view, info_in, is_apart, is_given, ls_in, map_in, number_option, options_in, order_in, order_named, owner_number, owner_of, pack_in, page_of, parsed, placing_in, target_in, target_view, update_in, verify_in};
+ghost use Rattle.jcommand.specs.Parsed.{append_in, block_size_in, build_in, cat_in, check_in, command_view, compact_in, conversion_in, conversion_view, cuts_in, damage_in, decimal_number, decompress_in, diff_in, endian_of, extract_in, folder_in, folder_view, if_given, image_in, image_view, info_in, is_apart, is_given, log_cuts_in, ls_in, map_in, number_option, options_in, order_in, order_named, owner_number, owner_of, pack_in, page_of, parsed, placing_in, target_in, target_view, update_cuts_in, update_in, verify_in};
 ghost use Rattle.jcommand.specs.Requests.{are_options_given, request_of, request_view};
 
 use crate::parsed::{
     Appending, Building, Check, Command, Compaction, Comparison, Conversion, Cuts, CutsThrough,
     Examination, Extraction, FileContent, FolderListing, Image, Mapping, Options, Owner, Packing,
-    Placing, Target, TreeListing, Updating, Verification,
+    Placing, Target, TreeListing, UpdateCuts, Updating, Verification,
 };
 use crate::request::Request;
 use crate::sizes::size;
@@ -295,8 +295,9 @@ fn update_at<'a>(found: &ArgMatches<'a>) -> Option<Command<&'a str>>
     }))
 }
 
-fn cuts_at<'a>(found: &ArgMatches<'a>) -> Option<Command<&'a str>>
-    ensures { option_map command_view result ≡ cuts_in (rows_of (found_of found.now)) }
+/// `cuts` of what `build` and `append` would write.
+fn log_cuts_at<'a>(found: &ArgMatches<'a>) -> Option<Command<&'a str>>
+    ensures { option_map command_view result ≡ log_cuts_in (rows_of (found_of found.now)) }
 {
     let cuts = Cuts {
         options: options_at(found)?,
@@ -317,6 +318,37 @@ fn cuts_at<'a>(found: &ArgMatches<'a>) -> Option<Command<&'a str>>
         }),
         false => Command::Cuts(cuts),
     })
+}
+
+/// `cuts` of what `update` would write.
+fn update_cuts_at<'a>(found: &ArgMatches<'a>) -> Option<Command<&'a str>>
+    ensures { option_map command_view result ≡ update_cuts_in (rows_of (found_of found.now)) }
+{
+    let tail = is_given(found, "tail");
+    Some(Command::CutsUpdate(UpdateCuts {
+        options: options_at(found)?,
+        blocks: number_if_given(found, "blocks")?,
+        page: page(text_at(found, "page")?)?,
+        plain: is_given(found, "plain"),
+        tail,
+        image: text_at(found, "on")?,
+        listing: text_at(found, "LISTING")?,
+    }))
+}
+
+fn cuts_at<'a>(found: &ArgMatches<'a>) -> Option<Command<&'a str>>
+    ensures { option_map command_view result ≡ cuts_in (rows_of (found_of found.now)) }
+{
+    if is_given(found, "update") {
+        if is_given(found, "compress") || is_given(found, "decompress") {
+            return None;
+        }
+        return update_cuts_at(found);
+    }
+    if is_given(found, "plain") || is_given(found, "tail") {
+        return None;
+    }
+    log_cuts_at(found)
 }
 
 /// An image, and the one that is made of it.

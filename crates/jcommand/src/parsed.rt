@@ -105,6 +105,18 @@ pub struct CutsThrough<T> {
     pub listing: T,
 }
 
+/// What `update` would write of a listing on a device's image: [`Updating`] without its output.
+#[derive(Clone, Copy)]
+pub struct UpdateCuts<T> {
+    pub options: Options,
+    pub blocks: Option<u32>,
+    pub page: Page,
+    pub plain: bool,
+    pub tail: bool,
+    pub image: T,
+    pub listing: T,
+}
+
 /// Where the nodes of an image lie, as a text or, with `svg`, as a picture.
 #[derive(Clone, Copy)]
 pub struct Mapping<T> {
@@ -260,6 +272,8 @@ pub enum Command<T> {
     Cuts(Cuts<T>),
     /// `cuts --decompress` and `cuts --compress`: the same through compression.
     CutsThrough(CutsThrough<T>),
+    /// `cuts --update`: the same of what `update` would write.
+    CutsUpdate(UpdateCuts<T>),
     /// `decompress`: an image of the same nodes, whose data are not compressed.
     Decompress(Conversion<T>),
     /// `decompress --clashes higher`: the same without those that one of a higher address clashes
@@ -305,6 +319,7 @@ impl<T> Command<T> {
             Command::Update(asked) => asked.options.endian,
             Command::Cuts(asked) => asked.options.endian,
             Command::CutsThrough(asked) => asked.options.endian,
+            Command::CutsUpdate(asked) => asked.options.endian,
             Command::Decompress(asked) | Command::Apart(asked) | Command::Compress(asked) => {
                 asked.options.endian
             }

@@ -5,7 +5,8 @@ ghost use Rattle.jcommand.specs.Requests.{image_read, with_options, writes_image
 
 use crate::parsed::{
     Appending, Check, Command, Compaction, Comparison, Conversion, Cuts, CutsThrough, Examination,
-    Extraction, FileContent, Image, Mapping, Options, Target, TreeListing, Updating, Verification,
+    Extraction, FileContent, Image, Mapping, Options, Target, TreeListing, UpdateCuts, Updating,
+    Verification,
 };
 
 /// What a command line asks for. Files, folders and paths are named by texts `T`.
@@ -87,6 +88,7 @@ impl<'a> Command<&'a str> {
             Command::Update(asked) => Some(asked.image),
             Command::Cuts(asked) => asked.on,
             Command::CutsThrough(asked) => asked.on,
+            Command::CutsUpdate(asked) => Some(asked.image),
             Command::Decompress(asked) | Command::Apart(asked) | Command::Compress(asked) => {
                 Some(asked.image)
             }
@@ -113,6 +115,7 @@ impl<'a> Command<&'a str> {
             | Command::Update(_)
             | Command::Cuts(_)
             | Command::CutsThrough(_)
+            | Command::CutsUpdate(_)
             | Command::Decompress(_)
             | Command::Apart(_)
             | Command::Compress(_)
@@ -158,6 +161,7 @@ impl<'a> Command<&'a str> {
             Command::Update(it) => Command::Update(Updating { options, ..it }),
             Command::Cuts(it) => Command::CutsThrough(through(it, options)),
             Command::CutsThrough(it) => Command::CutsThrough(CutsThrough { options, ..it }),
+            Command::CutsUpdate(it) => Command::CutsUpdate(UpdateCuts { options, ..it }),
             Command::Decompress(it) => Command::Decompress(Conversion { options, ..it }),
             Command::Apart(it) => Command::Apart(Conversion { options, ..it }),
             Command::Compress(it) => Command::Compress(Conversion { options, ..it }),

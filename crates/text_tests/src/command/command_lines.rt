@@ -3,7 +3,7 @@
 
 use crate::checks::{equal, equal_at, expect, expect_at};
 use crate::command::packing::shown_packing;
-use crate::command::updating::{shown_mapping, shown_updating};
+use crate::command::updating::{shown_mapping, shown_update_cuts, shown_updating};
 use crate::command::verifying::shown_verification;
 use jcommand::{
     Appending, Building, Check, Command, Compaction, Comparison, Conversion, Cuts, CutsThrough,
@@ -259,6 +259,7 @@ pub(crate) fn shown(alloc: Global, command: Command<&str>) -> Result<String, All
         Command::Update(asked) => shown_updating(alloc, asked),
         Command::Cuts(asked) => shown_cuts(alloc, asked),
         Command::CutsThrough(asked) => shown_cuts_through(alloc, asked),
+        Command::CutsUpdate(asked) => shown_update_cuts(alloc, asked),
         Command::Decompress(asked) => shown_copy(alloc, "decompress", asked),
         Command::Apart(asked) => shown_copy(alloc, "apart", asked),
         Command::Compress(asked) => shown_copy(alloc, "compress", asked),

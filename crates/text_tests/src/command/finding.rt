@@ -74,7 +74,7 @@ const READING: [Row; 9] = [
     },
 ];
 
-const WRITING: [Row; 9] = [
+const WRITING: [Row; 10] = [
     Row {
         line: "t cuts -a --blocks 8 --on i l",
         asked: "auto cuts 65536 false 8 4096 i l",
@@ -86,6 +86,12 @@ const WRITING: [Row; 9] = [
         asked: "auto through cuts 65536 little 8 4096 i l compressed",
         image: "i",
         done: "through cuts 8192 big 8 4096 i l compressed",
+    },
+    Row {
+        line: "t cuts -a --update --plain --on i l",
+        asked: "auto update cuts 65536 little - 4096 i l plain",
+        image: "i",
+        done: "update cuts 8192 big - 4096 i l plain",
     },
     Row {
         line: "t append -a --blocks 8 i l o",

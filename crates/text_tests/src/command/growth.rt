@@ -5,7 +5,7 @@ use jcommand::{Command, RequestFault, asked};
 use std::alloc::Global;
 
 /// Words, and what they ask for.
-const LINES: [(&[&str], &str); 27] = [
+const LINES: [(&[&str], &str); 28] = [
     (
         &["t", "verify", "--owner", "1", "2", "a.img", "b"],
         "verify",
@@ -59,6 +59,10 @@ const LINES: [(&[&str], &str); 27] = [
     ),
     (&["t", "info", "a.img"], "info"),
     (&["t", "cuts", "--blocks=8", "--on", "a.img", "b"], "cuts"),
+    (
+        &["t", "cuts", "--update", "--tail", "--on", "a.img", "b"],
+        "cuts of update",
+    ),
     (&["t", "compress", "a.img", "b.img"], "compress"),
     (&["t", "compact", "--blocks=8", "a.img", "b.img"], "compact"),
     (&["t", "diff", "--times", "a.img", "b.img"], "diff"),
@@ -97,6 +101,7 @@ fn name_of(command: &Command<&str>) -> &'static str {
         Command::Update(_) => "update",
         Command::Cuts(_) => "cuts",
         Command::CutsThrough(_) => "cuts through",
+        Command::CutsUpdate(_) => "cuts of update",
         Command::Decompress(_) => "decompress",
         Command::Apart(_) => "apart",
         Command::Compress(_) => "compress",

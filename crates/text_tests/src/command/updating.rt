@@ -2,7 +2,7 @@
 
 use crate::checks::{equal_at, expect_at};
 use crate::command::command_lines::{answer_to, is_text, is_wrong, placing_mark, shown_options};
-use jcommand::{Mapping, Updating};
+use jcommand::{Mapping, UpdateCuts, Updating};
 use std::alloc::{AllocError, Global};
 use std::test::Fail;
 
@@ -32,6 +32,20 @@ pub(crate) fn shown_updating(alloc: Global, asked: Updating<&str>) -> Result<Str
     format!(in alloc; "{command} {blocks} {page} {files}{plain}{tail}{placing}")
 }
 
+/// What is to be told of a stop of it, in the same way.
+pub(crate) fn shown_update_cuts(
+    alloc: Global,
+    asked: UpdateCuts<&str>,
+) -> Result<String, AllocError> {
+    let command = shown_options(alloc, "update cuts", asked.options)?;
+    let blocks = shown_blocks(alloc, asked.blocks)?;
+    let page = asked.page.size();
+    let plain = if asked.plain { " plain" } else { "" };
+    let tail = if asked.tail { " tail" } else { "" };
+    let UpdateCuts { image, listing, .. } = asked;
+    format!(in alloc; "{command} {blocks} {page} {image} {listing}{plain}{tail}")
+}
+
 /// Whose nodes are to be told of in the same way.
 pub(crate) fn shown_mapping(alloc: Global, asked: Mapping<&str>) -> Result<String, AllocError> {
     let Mapping {
@@ -45,7 +59,7 @@ pub(crate) fn shown_mapping(alloc: Global, asked: Mapping<&str>) -> Result<Strin
 }
 
 /// Lines, and what they ask for.
-const ASKED: [(&str, &str); 14] = [
+const ASKED: [(&str, &str); 18] = [
     (
         "t update a.img b.txt c.img",
         "update 65536 little - 4096 a.img b.txt c.img",
@@ -79,6 +93,22 @@ const ASKED: [(&str, &str); 14] = [
         "t update --plain -- --tail --pad --atomic",
         "update 65536 little - 4096 --tail --pad --atomic plain",
     ),
+    (
+        "t cuts --update --on a.img b.txt",
+        "update cuts 65536 little - 4096 a.img b.txt",
+    ),
+    (
+        "t cuts b.txt --tail --on=a.img --update --blocks 8",
+        "update cuts 65536 little 8 4096 a.img b.txt tail",
+    ),
+    (
+        "t cuts --plain --update --page 8192 --on=--update b.txt -e 8KiB -b",
+        "update cuts 8192 big - 8192 --update b.txt plain",
+    ),
+    (
+        "t cuts --blocks=0 --on a.img --plain --update --tail -- --tail",
+        "update cuts 65536 little 0 4096 a.img --tail plain tail",
+    ),
     ("t map a.img", "map 65536 little a.img"),
     ("t map --svg a.img", "map 65536 little a.img svg"),
     ("t map a.img --block 8192", "map 8192 little a.img"),
@@ -104,7 +134,7 @@ fn args_that_update_and_map(rt: HostRuntime) -> Result<(), Fail> {
 }
 
 /// Lines that ask for nothing, and a part of the text that says why.
-const WRONG: [(&str, &str); 24] = [
+const WRONG: [(&str, &str); 40] = [
     ("t update", "<IMAGE>"),
     ("t update a.img", "<LISTING>"),
     ("t update a.img b.txt", "<OUT>"),
@@ -130,6 +160,40 @@ const WRONG: [(&str, &str); 24] = [
         "t update --endian=middle --blocks=x a b c",
         "'middle' for '--endian <ORDER>'",
     ),
+    ("t cuts --update", "<LISTING>"),
+    ("t cuts --update b", "--on <IMAGE>"),
+    ("t cuts --update --blocks 8 --tail b", "--on <IMAGE>"),
+    ("t cuts --update -a b", "--on <IMAGE>"),
+    ("t cuts --update --on a", "<LISTING>"),
+    ("t cuts --update --on a b c", "'c'"),
+    ("t cuts --update --update --on a b", "--update"),
+    ("t cuts --tail --blocks 8 --on a b", "provided:\n  --update"),
+    ("t cuts --plain --blocks 8 b", "provided:\n  --update"),
+    (
+        "t cuts --plain --tail --compress --on a b",
+        "provided:\n  --update",
+    ),
+    ("t cuts --on a b", "provided:\n  --blocks <N>"),
+    (
+        "t cuts --update --compress --on a b",
+        "'--update' cannot be used with '--compress'",
+    ),
+    (
+        "t cuts --decompress --update --on a b",
+        "'--update' cannot be used with '--decompress'",
+    ),
+    (
+        "t cuts --update -a --big-endian --on a b",
+        "'--auto' cannot be used with '--big-endian'",
+    ),
+    (
+        "t cuts --update --on a --blocks x b",
+        "'x' for '--blocks <N>'",
+    ),
+    (
+        "t cuts --update --on a --page 4095 b",
+        "'4095' for '--page <N>'",
+    ),
     ("t map", "<IMAGE>"),
     ("t map --svg", "<IMAGE>"),
     ("t map a.img b.img", "'b.img'"),
@@ -154,13 +218,18 @@ fn args_that_update_and_map_wrongly(rt: HostRuntime) -> Result<(), Fail> {
 }
 
 /// Lines that ask for help, and a part of it.
-const HELP: [(&str, &str); 7] = [
+const HELP: [(&str, &str); 9] = [
     (
         "t update --help",
         "Usage: t update [OPTIONS] <IMAGE> <LISTING> <OUT>",
     ),
     ("t update -h", "Do not compress new nodes"),
     ("t help update", "new nodes in its blank blocks"),
+    ("t cuts --help", "Usage: t cuts [OPTIONS] <LISTING>"),
+    (
+        "t cuts -h",
+        "Tell the nodes of update, on the IMAGE of --on",
+    ),
     ("t map --help", "Usage: t map [OPTIONS] <IMAGE>"),
     ("t map -h", "Print one SVG picture instead"),
     ("t --help", "jffs2_image update dump.img more.txt new.img"),

@@ -2,8 +2,10 @@ use Rattle.jcommand.proofs.commands.make_cuts.Goals as goal
 
 pub returns : goal.returns
 returns c =
-    let found = c.add_auto.ensures _ c.make_writer-command.ensures in
-    let first = c.add_arg-command.ensures _ _ found c.make_optional-on.ensures in
-    let packed = c.add_compressing.ensures _ first in
-    let second = c.add_arg-command-2.ensures _ _ packed c.make_flag-decompress.ensures in
-    c.add_arg.ensures _ _ second c.make_word-listing.ensures
+    let first = c.add_arg.ensures _ _ c.make_reader-command.ensures c.make_optional-blocks.ensures in
+    let second = c.add_arg-2.ensures _ _ first c.make_option-page.ensures in
+    let third = c.add_arg-command.ensures _ _ second c.make_optional-on.ensures in
+    let packed = c.add_compressing.ensures _ third in
+    let fourth = c.add_arg-command-2.ensures _ _ packed c.make_flag-decompress.ensures in
+    let fifth = c.add_arg-3.ensures _ _ fourth c.make_flag-update.ensures in
+    c.add_arg-4.ensures _ _ (c.add_updating-command.ensures _ fifth) c.make_word-listing.ensures

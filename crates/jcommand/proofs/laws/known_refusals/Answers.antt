@@ -147,3 +147,23 @@ returns-clause-compacted_lower c = refl
 pub returns-clause-weak_of_compressed : goal.returns-clause-weak_of_compressed
 unfolding clap_on_literals program parsed parsed_from
 returns-clause-weak_of_compressed c = refl
+
+pub returns-clause-not_on_image : goal.returns-clause-not_on_image
+unfolding clap_on_literals program parsed parsed_from
+returns-clause-not_on_image c = refl
+
+pub returns-clause-always_compressed : goal.returns-clause-always_compressed
+unfolding clap_on_literals program parsed parsed_from
+returns-clause-always_compressed c = refl
+
+pub returns-clause-no_update : goal.returns-clause-no_update
+unfolding clap_on_literals program parsed parsed_from
+returns-clause-no_update c = refl
+
+pub returns-clause-always_decompressed : goal.returns-clause-always_decompressed
+unfolding clap_on_literals program parsed parsed_from
+returns-clause-always_decompressed c = refl
+
+pub returns-clause-no_plain : goal.returns-clause-no_plain
+unfolding clap_on_literals program parsed parsed_from
+returns-clause-no_plain c = refl

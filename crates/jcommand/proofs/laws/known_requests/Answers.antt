@@ -183,3 +183,7 @@ returns-clause-packed_compressed c = refl
 pub returns-clause-verified : goal.returns-clause-verified
 unfolding clap_on_literals program parsed parsed_from
 returns-clause-verified c = refl
+
+pub returns-clause-cut_update : goal.returns-clause-cut_update
+unfolding clap_on_literals program parsed parsed_from
+returns-clause-cut_update c = refl
