@@ -7,7 +7,7 @@ use crate::shown::shown;
 use byteorder::LittleEndian;
 use jcommand::status;
 use jedge::fault::Fault;
-use jedge::found::{Found, Note};
+use jedge::found::{BlankLeft, Found, Note};
 use jedge::mounting::judge_nodes;
 use jedge::reporting::report;
 use jscan::Geometry;
@@ -23,7 +23,7 @@ struct Row {
     status: u8,
 }
 
-const ROWS: [Row; 4] = [
+const ROWS: [Row; 6] = [
     Row {
         found: Found {
             counted: 0,
@@ -58,6 +58,35 @@ jffs2_image: note: 2 findings, see check --scan; a wrong --block or --endian sho
         wanted: "say\n\
 jffs2_image: note: 1 finding, see check --scan; a wrong --block or --endian shows as findings too, see info\n",
         status: 3,
+    },
+    Row {
+        found: Found {
+            counted: 0,
+            note: Some(Note::Left(BlankLeft {
+                findings: 0,
+                others: None,
+                left: 1,
+                reserve: 6,
+            })),
+        },
+        wanted: "say\n\
+jffs2_image: note: 1 blank block is left, Linux keeps 6 in reserve\n",
+        status: 0,
+    },
+    Row {
+        found: Found {
+            counted: 0,
+            note: Some(Note::Left(BlankLeft {
+                findings: 2,
+                others: None,
+                left: 0,
+                reserve: 3,
+            })),
+        },
+        wanted: "say\n\
+jffs2_image: note: 2 findings, see check --scan; a wrong --block or --endian shows as findings too, see info\n\
+jffs2_image: note: 0 blank blocks are left, Linux keeps 3 in reserve\n",
+        status: 0,
     },
 ];
 

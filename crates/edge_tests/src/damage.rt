@@ -140,7 +140,8 @@ jffs2_image: note: the other byte order has 1 node, see --endian and info\n",
         wanted: "open a.img\n\
 read a.img 12\n\
 say\n\
-jffs2_image: M3 Incompatible at 00000000 type e0f7\n",
+jffs2_image: M3 Incompatible at 00000000 type e0f7\n\
+jffs2_image: note: no reader may skip the node, a later or different JFFS2 wrote it; check --scan shows the others\n",
         status: 1,
     },
     Row {
@@ -176,7 +177,8 @@ jffs2_image: note: --block takes a multiple of 4 from 4096 to 4194304\n",
         wanted: "open a.img\n\
 read a.img 124\n\
 say\n\
-jffs2_image: P6 OutOfMemory\n",
+jffs2_image: P6 OutOfMemory\n\
+jffs2_image: note: memory ran out; free some, or raise its limit\n",
         status: 1,
     },
     Row {
@@ -195,7 +197,8 @@ print\n\
 missing /a ino 2\n\
 print failed NoSpace\n\
 say\n\
-jffs2_image: P5 Output\n",
+jffs2_image: P5 Output\n\
+jffs2_image: note: standard output took no more; what it got is cut off\n",
         status: 1,
     },
     // the note does not come out: what was found stays

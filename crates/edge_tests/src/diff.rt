@@ -145,7 +145,8 @@ read a.img 116\n\
 open b.img\n\
 read b.img 12\n\
 say\n\
-jffs2_image: M3 Incompatible at 00000000 type e0f7\n",
+jffs2_image: M3 Incompatible at 00000000 type e0f7\n\
+jffs2_image: note: no reader may skip the node, a later or different JFFS2 wrote it; check --scan shows the others\n",
         status: 1,
     },
     Row {
@@ -220,7 +221,8 @@ read b.img 41\n\
 print\n\
 - print failed NoSpace\n\
 say\n\
-jffs2_image: P5 Output\n",
+jffs2_image: P5 Output\n\
+jffs2_image: note: standard output took no more; what it got is cut off\n",
         status: 1,
     },
 ];

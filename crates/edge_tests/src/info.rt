@@ -146,7 +146,8 @@ jffs2_image: note: a.img: was not read to its end\n",
             ..IMAGE
         },
         wanted: "say\n\
-jffs2_image: P6 OutOfMemory\n",
+jffs2_image: P6 OutOfMemory\n\
+jffs2_image: note: memory ran out; free some, or raise its limit\n",
         status: 1,
     },
     Row {
@@ -157,7 +158,8 @@ jffs2_image: P6 OutOfMemory\n",
         wanted: "open a.img\n\
 read part a.img 124\n\
 say\n\
-jffs2_image: L3 OutOfMemory\n",
+jffs2_image: L3 OutOfMemory\n\
+jffs2_image: note: memory ran out; free some, or raise its limit\n",
         status: 1,
     },
     Row {
@@ -168,7 +170,8 @@ jffs2_image: L3 OutOfMemory\n",
         wanted: "open a.img\n\
 read a.img 124\n\
 say\n\
-jffs2_image: P6 OutOfMemory\n",
+jffs2_image: P6 OutOfMemory\n\
+jffs2_image: note: memory ran out; free some, or raise its limit\n",
         status: 1,
     },
     // a sink that takes a beginning
@@ -187,7 +190,8 @@ print\n\
 bytes 124\n\
 order print failed NoSpace\n\
 say\n\
-jffs2_image: P5 Output\n",
+jffs2_image: P5 Output\n\
+jffs2_image: note: standard output took no more; what it got is cut off\n",
         status: 1,
     },
     // all is taken, and a beginning is printed; no note is said of what was not told
@@ -206,7 +210,8 @@ print\n\
 bytes 4\n\
 print failed NoSpace\n\
 say\n\
-jffs2_image: P5 Output\n",
+jffs2_image: P5 Output\n\
+jffs2_image: note: standard output took no more; what it got is cut off\n",
         status: 1,
     },
     // standard error fails: nothing tells of that, and the status stays

@@ -8,6 +8,7 @@ use crate::host::MemoryHost;
 use crate::info::IMAGE;
 use crate::plan::{Lacking, Plan, Stream};
 use crate::shown::shown;
+use crate::through::BROKEN_IMAGE;
 use byteorder::{BigEndian, LittleEndian};
 use jcommand::{Check, FileContent, Options, Outcome, TreeListing, status};
 use jedge::commands::{run_cat, run_check, run_list};
@@ -187,7 +188,8 @@ jffs2_image: note: a.img: is a directory\n",
         wanted: "open a.img\n\
 read a.img 116\n\
 say\n\
-jffs2_image: P6 OutOfMemory\n",
+jffs2_image: P6 OutOfMemory\n\
+jffs2_image: note: memory ran out; free some, or raise its limit\n",
         status: 1,
     },
     Row {
@@ -207,12 +209,13 @@ print\n\
 block 0\n\
 print failed NoSpace\n\
 say\n\
-jffs2_image: P5 Output\n",
+jffs2_image: P5 Output\n\
+jffs2_image: note: standard output took no more; what it got is cut off\n",
         status: 1,
     },
 ];
 
-const LISTS: [Row; 10] = [
+const LISTS: [Row; 11] = [
     Row {
         ask: ALL,
         plan: FILE,
@@ -253,6 +256,21 @@ d 0755 0 0 0 0 1 /\n\
 - 0644 0 0 2 0 2 /a\n",
         status: 0,
     },
+    // data that are not shown are not decompressed, so it does not matter that they are broken
+    Row {
+        ask: Ask::List {
+            decompress: true,
+            path: None,
+        },
+        plan: BROKEN_IMAGE,
+        block: 4096,
+        wanted: "open a.img\n\
+read a.img 124\n\
+print\n\
+d 0755 0 0 0 0 1 /\n\
+- 0644 0 0 16 0 2 /a\n",
+        status: 0,
+    },
     // the word is judged before the file is opened
     Row {
         ask: Ask::List {
@@ -262,7 +280,8 @@ d 0755 0 0 0 0 1 /\n\
         plan: FILE,
         block: 4097,
         wanted: "say\n\
-jffs2_image: P3 Path BadPath\n",
+jffs2_image: P3 Path BadPath\n\
+jffs2_image: note: a path begins with /, as ls prints it, and no name in it is empty, . or ..\n",
         status: 1,
     },
     Row {
@@ -275,7 +294,8 @@ jffs2_image: P3 Path BadPath\n",
         wanted: "open a.img\n\
 read a.img 116\n\
 say\n\
-jffs2_image: P3 Path NotFound\n",
+jffs2_image: P3 Path NotFound\n\
+jffs2_image: note: a name on the path is not there, or leads to no object; ls shows those that do\n",
         status: 1,
     },
     // the notes on an image in which no node is found
@@ -336,7 +356,8 @@ jffs2_image: note: no node is found in either byte order, see info\n",
         wanted: "open a.img\n\
 read a.img 12\n\
 say\n\
-jffs2_image: M3 Incompatible at 00000000 type e0f7\n",
+jffs2_image: M3 Incompatible at 00000000 type e0f7\n\
+jffs2_image: note: no reader may skip the node, a later or different JFFS2 wrote it; check --scan shows the others\n",
         status: 1,
     },
     Row {
@@ -356,12 +377,13 @@ print\n\
 d 0755 0 0 0 0 1 /\n\
 print failed Busy\n\
 say\n\
-jffs2_image: P5 Output\n",
+jffs2_image: P5 Output\n\
+jffs2_image: note: standard output took no more; what it got is cut off\n",
         status: 1,
     },
 ];
 
-const CATS: [Row; 6] = [
+const CATS: [Row; 8] = [
     Row {
         ask: CAT,
         plan: FILE,
@@ -387,13 +409,42 @@ hi",
     },
     Row {
         ask: Ask::Cat {
+            decompress: true,
+            path: "/a",
+        },
+        plan: BROKEN_IMAGE,
+        block: 4096,
+        wanted: "open a.img\n\
+read a.img 124\n\
+say\n\
+jffs2_image: Z1 Data at 00000000\n\
+jffs2_image: note: the data of the node break the rules of their method, or give another length\n",
+        status: 1,
+    },
+    Row {
+        ask: Ask::Cat {
+            decompress: true,
+            path: "/",
+        },
+        plan: BROKEN_IMAGE,
+        block: 4096,
+        wanted: "open a.img\n\
+read a.img 124\n\
+say\n\
+jffs2_image: P4 NotRegular\n\
+jffs2_image: note: the path leads to something that is no regular file\n",
+        status: 1,
+    },
+    Row {
+        ask: Ask::Cat {
             decompress: false,
             path: "a\\",
         },
         plan: FILE,
         block: 4096,
         wanted: "say\n\
-jffs2_image: P3 Path BadPath\n",
+jffs2_image: P3 Path BadPath\n\
+jffs2_image: note: a path begins with /, as ls prints it, and no name in it is empty, . or ..\n",
         status: 1,
     },
     Row {
@@ -406,7 +457,8 @@ jffs2_image: P3 Path BadPath\n",
         wanted: "open a.img\n\
 read a.img 116\n\
 say\n\
-jffs2_image: P4 NotRegular\n",
+jffs2_image: P4 NotRegular\n\
+jffs2_image: note: the path leads to something that is no regular file\n",
         status: 1,
     },
     // the path is looked for before anything is noted
@@ -417,7 +469,8 @@ jffs2_image: P4 NotRegular\n",
         wanted: "open a.img\n\
 read a.img 16\n\
 say\n\
-jffs2_image: P3 Path NotFound\n",
+jffs2_image: P3 Path NotFound\n\
+jffs2_image: note: a name on the path is not there, or leads to no object; ls shows those that do\n",
         status: 1,
     },
     Row {
@@ -436,7 +489,8 @@ read a.img 116\n\
 print\n\
 hprint failed Other\n\
 say\n\
-jffs2_image: P5 Output\n",
+jffs2_image: P5 Output\n\
+jffs2_image: note: standard output took no more; what it got is cut off\n",
         status: 1,
     },
 ];

@@ -63,7 +63,7 @@ const SOUND_IMAGE: Plan<'static> = Plan {
     ..IMAGE
 };
 
-const BROKEN_IMAGE: Plan<'static> = Plan {
+pub(crate) const BROKEN_IMAGE: Plan<'static> = Plan {
     bytes: &BROKEN,
     ..IMAGE
 };
@@ -144,7 +144,8 @@ jffs2_image: note: --block takes a multiple of 4 from 4096 to 4194304\n",
         wanted: "open a.img\n\
 read a.img 124\n\
 say\n\
-jffs2_image: P6 OutOfMemory\n",
+jffs2_image: P6 OutOfMemory\n\
+jffs2_image: note: memory ran out; free some, or raise its limit\n",
         status: 1,
     },
     Row {
@@ -163,7 +164,8 @@ print\n\
 block 0\n\
 print failed Other\n\
 say\n\
-jffs2_image: P5 Output\n",
+jffs2_image: P5 Output\n\
+jffs2_image: note: standard output took no more; what it got is cut off\n",
         status: 1,
     },
 ];
@@ -190,7 +192,8 @@ total                 124          0          0          0       3972\n",
         wanted: "open a.img\n\
 read a.img 124\n\
 say\n\
-jffs2_image: Z1 Data at 00000000\n",
+jffs2_image: Z1 Data at 00000000\n\
+jffs2_image: note: the data of the node break the rules of their method, or give another length\n",
         status: 1,
     },
     // the size of a block is judged when the file was read

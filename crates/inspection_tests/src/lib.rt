@@ -14,4 +14,6 @@ mod info;
 #[cfg(test)]
 mod report;
 #[cfg(test)]
+mod reserve;
+#[cfg(test)]
 mod spare;

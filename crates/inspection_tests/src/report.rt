@@ -7,5 +7,6 @@ mod growth;
 mod images;
 mod listings;
 mod reads;
+mod sentences;
 mod sinks;
 mod streams;

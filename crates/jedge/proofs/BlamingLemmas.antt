@@ -21,12 +21,13 @@ use Rattle.jedge.specs.Acts.{Act, CountsOutput, Then, Ends, GoesOn, IsPrintedInP
 use Rattle.jedge.specs.Calls.{Event, Answers, Failed, Open, Print, ReadPart, printed}
 use Rattle.jthrough.specs.declared.fault.ViewFault.{ViewFault}
 use Rattle.jthrough.specs.declared.fault.ViewFault.TheVariants as view
+use Rattle.jlook.specs.Chosen.{Choice}
 use Rattle.jedge.specs.Commands.{Cat, Check, Damage, Diff, Info, Ls, cat_act, check_act, compares, damage_act, diff_act, info_act, list_act, shown_told, shows_mount}
 use Rattle.jedge.specs.Comparing.{Compares, compared}
-use Rattle.jedge.specs.Images.{HasNodes, MountsBoth, MountsOrRefuses, MountsWith, NotesNone, view_refusal}
+use Rattle.jedge.specs.Images.{HasNodes, MountsBoth, MountsFor, MountsOrRefuses, MountsWith, NotesNone, view_refusal}
 use Rattle.jedge.specs.Showing.{Checks, Contains, Lists, NamesNothing}
 use Rattle.jedge.specs.Told.{Told}
-use Rattle.jedge.specs.Views.{HasBlockSize, IsViewed, NamesPart, NamesPath, Viewed, conversion_refusal, views}
+use Rattle.jedge.specs.Views.{HasBlockSize, IsViewed, NamesPart, NamesPath, conversion_refusal, views}
 use Rattle.jedge.specs.Laws.{BlamesEvent, BlamedIsFailed, BlamesFailed, Happened, IsOfBytes}
 use Rattle.jedge.specs.declared.fault.Fault.{Fault}
 use Rattle.jedge.specs.declared.fault.Fault.TheVariants as fault
@@ -254,6 +255,17 @@ mounts_as_blame true e size image events (fault.Refused why) is = of_bytes why i
 mounts_as_blame true e size image events fault.Output is = absurd is.1
 mounts_as_blame true e size image events fault.OutOfMemory is = absurd is.1
 
+pub mounts_for_blame : (choice : Choice) (decompress : Bool) (e : Endian) (size : ℕ) (image : List ℕ) → BlamesFailed (answers (MountsFor choice decompress e size image))
+mounts_for_blame choice false e size image events f is = mounts_blame e size image events f is
+mounts_for_blame choice true e size image events (fault.File file) is = absurd is.1
+mounts_for_blame choice true e size image events (fault.NotRead file) is = absurd is.1
+mounts_for_blame choice true e size image events (fault.NoNodes of others) is = absurd is.1
+mounts_for_blame choice true e size image events (fault.NoSpace folder) is = absurd is.1
+mounts_for_blame choice true e size image events (fault.Findings of findings) is = absurd is.1
+mounts_for_blame choice true e size image events (fault.Refused why) is = of_bytes why is.1.1 (view_of is.1.0)
+mounts_for_blame choice true e size image events fault.Output is = absurd is.1
+mounts_for_blame choice true e size image events fault.OutOfMemory is = absurd is.1
+
 pub both_blame : (decompress : Bool) (e : Endian) (size : ℕ) (image other : List ℕ) → BlamesFailed (answers (MountsBoth decompress e size image other))
 both_blame decompress e size image other events f is = elim is.1 [
   | inl first ↦ mounts_as_blame decompress e size image events f (is.0, first)
@@ -263,10 +275,10 @@ both_blame decompress e size image other events f is = elim is.1 [
 pub notes_blame : (e : Endian) (size : ℕ) (image : List ℕ) → BlamesFailed (answers (NotesNone e size image))
 notes_blame e size image events f is = absurd is.1
 
-pub shows_blames : (decompress : Bool) (e : Endian) (size : ℕ) (says : Option ℕ → Mount → Saying Told) → ((others : Option ℕ) (m : Mount) → Unnamed (says others m))
-    → (image : List ℕ) → BlamesFailed (shows_mount decompress e size says image)
-shows_blames decompress e size says unnamed image = then_blames _ _ (notes_blame e size image) (λ (others : Option ℕ).
-    then_blames _ _ (mounts_as_blame decompress e size image) (λ (m : Mount). prints_blames _ (unnamed others m)))
+pub shows_blames : (choice : Choice) (decompress : Bool) (e : Endian) (size : ℕ) (says : Option ℕ → Mount → Saying Told) → ((others : Option ℕ) (m : Mount) → Unnamed (says others m))
+    → (image : List ℕ) → BlamesFailed (shows_mount choice decompress e size says image)
+shows_blames choice decompress e size says unnamed image = then_blames _ _ (notes_blame e size image) (λ (others : Option ℕ).
+    then_blames _ _ (mounts_for_blame choice decompress e size image) (λ (m : Mount). prints_blames _ (unnamed others m)))
 
 pub loads_blames : (name : List ℕ) → BlamesFailed (loads name)
 loads_blames name = then_blames (opens name) reads_whole (opens_blames name) reads_blames
@@ -331,12 +343,12 @@ check_blames options shape name = then_blames (opens name) _ (opens_blames name)
 
 pub list_blames : (options : Options) (decompress : Bool) (name : List ℕ) (word : Option (List ℕ)) → BlamesFailed (list_act options decompress name word)
 list_blames options decompress name word = then_blames _ _ (part_blames word) (λ (part : Option (List ℕ)).
-    then_blames (loads name) _ (loads_blames name) (shows_blames decompress options.endian options.geometry.block _
+    then_blames (loads name) _ (loads_blames name) (shows_blames _ decompress options.endian options.geometry.block _
     (λ (others : Option ℕ) (m : Mount). lists_unnamed m.state part (shown_told others m))))
 
 pub cat_blames : (options : Options) (decompress : Bool) (name word : List ℕ) → BlamesFailed (cat_act options decompress name word)
 cat_blames options decompress name word = then_blames _ _ (path_blames word) (λ (path : List ℕ).
-    then_blames (loads name) _ (loads_blames name) (shows_blames decompress options.endian options.geometry.block _
+    then_blames (loads name) _ (loads_blames name) (shows_blames _ decompress options.endian options.geometry.block _
     (λ (others : Option ℕ) (m : Mount). contains_unnamed (content_of m.state path) (shown_told others m))))
 
 pub info_blames : (name : List ℕ) → BlamesFailed (info_act name)

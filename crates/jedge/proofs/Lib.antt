@@ -1,6 +1,7 @@
 pub mod BlamingLemmas
 pub mod ComparingLemmas
 pub mod CostLemmas
+pub mod InflatingLemmas
 pub mod JudgingLemmas
 pub mod LookingLemmas
 pub mod ShowingLemmas

@@ -1,5 +1,5 @@
 -- What each command does: read it as the manual page. The order is that of the steps.
-use Rattle.std.specs.Prelude.{◌≡◌, ◌++◌, ◌==◌, ◌+◌, ◌-◌, ◌^◌, ℕ, Bool, is_some, min, if◌then◌else◌, List, Option, Some, None, option_map, Result, Ok, Err}
+use Rattle.std.specs.Prelude.{◌≡◌, ◌++◌, ◌==◌, ◌+◌, ◌-◌, ◌^◌, ℕ, nat_lt, Bool, is_some, min, if◌then◌else◌, List, Option, Some, None, option_map, Result, Ok, Err}
 use Rattle.jcommand.specs.Status.{outcome_of}
 use Rattle.jcommand.specs.declared.outcome.Outcome.{Outcome}
 use Rattle.jcommand.specs.declared.outcome.Outcome.TheVariants as outcome
@@ -12,18 +12,20 @@ use Rattle.jdamage.specs.declared.totals.Totals.{Totals}
 use Rattle.jinfo.specs.Containers.{container_line, container_of}
 use Rattle.jinfo.specs.Infos.{order_of}
 use Rattle.jinfo.specs.InfoText.{info_text}
+use Rattle.jlook.specs.Chosen.{Choice, object_by_path, symlinks_in}
 use Rattle.jmount.specs.Mount.{Mount}
 use Rattle.jnode.specs.declared.order.Endian.{Endian}
 use Rattle.jreport.specs.Content.{content_of}
 use Rattle.jreport.specs.NoNodes.{none_notes_of}
 use Rattle.jreport.specs.Notes.{note_line_of, noted as findings}
+use Rattle.jreserve.specs.Note.{reserve_line}
 use Rattle.jedge.specs.Acts.{Act, IsSaidBy, Saying, Then, Whole, answers, loads, opens, prints, reads_whole}
 use Rattle.jedge.specs.Calls.{Event}
 use Rattle.jedge.specs.Comparing.{Compares, compared}
 use Rattle.jedge.specs.Faults.{TellsFault}
-use Rattle.jedge.specs.Images.{HasNodes, MountsBoth, MountsWith, NotesNone}
+use Rattle.jedge.specs.Images.{HasNodes, MountsBoth, MountsFor, MountsWith, NotesNone}
 use Rattle.jedge.specs.Showing.{Checks, Contains, Lists}
-use Rattle.jedge.specs.Told.{Told, either}
+use Rattle.jedge.specs.Told.{Told, either, shown_notes}
 use Rattle.jedge.specs.Views.{HasBlockSize, NamesPart, NamesPath}
 use Rattle.jedge.specs.declared.fault.Fault.{Fault}
 use Rattle.jedge.specs.declared.fault.Fault.TheVariants as fault
@@ -128,35 +130,52 @@ abbrev pub shown_noted : ℕ → Option ℕ → Option (List ℕ)
 shown_noted n None = findings_noted n
 shown_noted n (Some others) = Some (none_notes_of n others)
 
+-- the note on one that was written to: that too if fewer blank blocks are left than Linux keeps in
+-- reserve
+abbrev pub left_noted : ℕ → Option ℕ → ℕ → ℕ → Option (List ℕ)
+left_noted n others left reserve = if nat_lt left reserve
+    then Some (shown_notes n others ++ reserve_line left reserve) else shown_noted n others
+
 -- nothing of an image that is shown is found
 abbrev pub shown_told : Option ℕ → Mount → Told
 shown_told others m = record { counted = 0; noted = shown_noted (findings m) others }
 
--- an image is mounted, with `--decompress` through its compression, and what there is to tell of it
--- is printed
-abbrev pub shows_mount : Bool → Endian → ℕ → (Option ℕ → Mount → Saying Told) → List ℕ → Act Told
-shows_mount decompress e size says image =
+abbrev pub left_told : Option ℕ → ℕ → ℕ → Mount → Told
+left_told others left reserve m =
+    record { counted = 0; noted = left_noted (findings m) others left reserve }
+
+-- An image is mounted, and what there is to tell of it is printed. With `--decompress` it mounts
+-- through its compression, and only the data of what is chosen in its tree are decompressed.
+abbrev pub shows_mount : Choice → Bool → Endian → ℕ → (Option ℕ → Mount → Saying Told) → List ℕ
+    → Act Told
+shows_mount choice decompress e size says image =
     Then (answers (NotesNone e size image)) (λ others.
-    Then (answers (MountsWith decompress e size image)) (λ m.
+    Then (answers (MountsFor choice decompress e size image)) (λ m.
     prints (says others m)))
 
+-- the lines of a tree, or of a part of it, with that note
+abbrev pub ls_says : Option (List ℕ) → Option ℕ → Mount → Saying Told
+ls_says part others m = Lists m.state part (shown_told others m)
+
 -- The word of a path is judged, where one is given; the file is read and its image mounted, and the
--- lines of its tree are printed.
+-- lines of its tree are printed. Of compressed data the targets of symlinks alone are chosen.
 abbrev pub lists : Endian → ℕ → Bool → List ℕ → Option (List ℕ) → Act Told
 lists e size decompress name word =
     Then (answers (NamesPart word)) (λ part.
-    Then (loads name)
-    (shows_mount decompress e size (λ others m. Lists m.state part (shown_told others m))))
+    Then (loads name) (shows_mount symlinks_in decompress e size (ls_says part)))
 
 abbrev pub list_act : Options → Bool → List ℕ → Option (List ℕ) → Act Told
 list_act options = lists options.endian options.geometry.block
 
--- the same of the bytes of the file that the path names
+-- the bytes of the file that a path names, with that note
+abbrev pub cat_says : List ℕ → Option ℕ → Mount → Saying Told
+cat_says path others m = Contains (content_of m.state path) (shown_told others m)
+
+-- the same of those bytes; their data alone are chosen
 abbrev pub cats : Endian → ℕ → Bool → List ℕ → List ℕ → Act Told
 cats e size decompress name word =
     Then (answers (NamesPath word)) (λ path.
-    Then (loads name) (shows_mount decompress e size (λ others m.
-    Contains (content_of m.state path) (shown_told others m))))
+    Then (loads name) (shows_mount (object_by_path path) decompress e size (cat_says path)))
 
 abbrev pub cat_act : Options → Bool → List ℕ → List ℕ → Act Told
 cat_act options = cats options.endian options.geometry.block

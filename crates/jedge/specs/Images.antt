@@ -1,6 +1,7 @@
 -- Images that a command goes on with.
 use Rattle.std.specs.Prelude.{◌≡◌, ◌⊎◌, ℕ, Bool, true, false, IsSome, List, Option, option_map, string_bytes, Result, Ok, Err}
 use Rattle.jnode.specs.declared.order.Endian.{Endian}
+use Rattle.jlook.specs.Chosen.{AnswersChosen, Choice}
 use Rattle.jmount.specs.Mount.{Mount}
 use Rattle.jmount.specs.Mounts.{Answers}
 use Rattle.jmount.specs.declared.fault.MountFault.TheVariants as mount
@@ -80,6 +81,26 @@ MountsWith true e size image (Err (fault.Findings told findings)) = ⊥
 MountsWith true e size image (Err (fault.Refused why)) = IsViewRefused e size image why
 MountsWith true e size image (Err fault.Output) = ⊥
 MountsWith true e size image (Err fault.OutOfMemory) = ⊥
+
+-- why an image is not looked at for what is chosen in it, as the program tells it
+abbrev pub IsChosenRefused : Choice → Endian → ℕ → List ℕ → ProgramFault → Type 0
+IsChosenRefused choice e size image why = (refused : ViewFault) × (why ≡ view_refusal refused)
+    × AnswersChosen choice e size image (Err refused)
+
+-- An image mounts, through its compression where that is asked for: then the data of what is chosen
+-- in its file system are decompressed, and no others. Or this says why not.
+abbrev pub MountsFor : Choice → Bool → Endian → ℕ → List ℕ → Result Mount Fault → Type 0
+MountsFor choice false e size image answer = MountsOrRefuses e size image answer
+MountsFor choice true e size image (Ok mount) = AnswersChosen choice e size image (Ok mount)
+MountsFor choice true e size image (Err (fault.File file)) = ⊥
+MountsFor choice true e size image (Err (fault.NotRead file)) = ⊥
+MountsFor choice true e size image (Err (fault.NoNodes told others)) = ⊥
+MountsFor choice true e size image (Err (fault.NoSpace folder)) = ⊥
+MountsFor choice true e size image (Err (fault.Findings told findings)) = ⊥
+MountsFor choice true e size image (Err (fault.Refused why)) =
+    IsChosenRefused choice e size image why
+MountsFor choice true e size image (Err fault.Output) = ⊥
+MountsFor choice true e size image (Err fault.OutOfMemory) = ⊥
 
 -- two images mount, or this says why not: the first, or the second behind it
 abbrev pub MountsBoth : Bool → Endian → ℕ → List ℕ → List ℕ → Result (Mount × Mount) Fault → Type 0

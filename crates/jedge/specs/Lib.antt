@@ -4,6 +4,7 @@ pub mod Commands
 pub mod Comparing
 pub mod Faults
 pub mod Images
+pub mod Inflating
 pub mod Laws
 pub mod Showing
 pub mod Told

@@ -10,7 +10,7 @@ use crate::fault::Fault;
 use crate::found::{Found, finished};
 use crate::host::Host;
 use crate::list::put_found;
-use crate::mounting::mounted_as;
+use crate::mounting::mounted_object;
 use crate::reading::load;
 use crate::subject::{path_named, shown};
 use jcommand::Options;
@@ -62,8 +62,16 @@ pub fn cat<E: Order, H: Host>(
     let geometry = options.geometry;
     let others = others_if_none::<E>(bytes, geometry);
     let mut contents = Vec::new(host.alloc());
-    match mounted_as::<E>(host.alloc(), bytes, geometry, decompress, &mut contents) {
-        Ok(mounted) => print_bytes(host, &mounted, path.as_slice(), shown(&mounted, others)),
+    let names = path.as_slice();
+    match mounted_object::<E>(
+        host.alloc(),
+        bytes,
+        geometry,
+        decompress,
+        names,
+        &mut contents,
+    ) {
+        Ok(mounted) => print_bytes(host, &mounted, names, shown(&mounted, others)),
         Err(fault) => Err(fault),
     }
 }

@@ -18,6 +18,8 @@ pub enum Note<'a> {
     Extraction(Extracted),
     /// Of two images, the findings of each.
     Both(Named<'a>, Named<'a>),
+    /// Of an image that was written to.
+    Left(BlankLeft),
 }
 
 /// How many findings an image has that was extracted, how many objects lost bits of their modes,
@@ -27,6 +29,16 @@ pub struct Extracted {
     pub findings: u64,
     pub lost_bits: u64,
     pub attributes: u64,
+}
+
+/// What is noted of an image that was shown (`findings`, and `others` where no node is found in
+/// it), how many blank blocks it has left, and how many Linux keeps in reserve.
+#[derive(Clone, Copy)]
+pub struct BlankLeft {
+    pub findings: u64,
+    pub others: Option<u64>,
+    pub left: u64,
+    pub reserve: u64,
 }
 
 /// How many findings the image of a name has.

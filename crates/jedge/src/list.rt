@@ -10,7 +10,7 @@ ghost use Rattle.jedge.specs.Told.{found_told};
 use crate::fault::Fault;
 use crate::found::{Found, finished};
 use crate::host::Host;
-use crate::mounting::mounted_as;
+use crate::mounting::mounted_tree;
 use crate::reading::load;
 use crate::subject::{part_named, shown};
 use flashbase::Sink;
@@ -94,7 +94,7 @@ pub fn list<E: Order, H: Host>(
     let geometry = options.geometry;
     let others = others_if_none::<E>(bytes, geometry);
     let mut contents = Vec::new(host.alloc());
-    match mounted_as::<E>(host.alloc(), bytes, geometry, decompress, &mut contents) {
+    match mounted_tree::<E>(host.alloc(), bytes, geometry, decompress, &mut contents) {
         Ok(mounted) => print_lines(host, &mounted, &part, shown(&mounted, others)),
         Err(fault) => Err(fault),
     }

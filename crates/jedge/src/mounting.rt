@@ -1,9 +1,11 @@
 //! Images that a command goes on with, and their mounts.
 ghost use Rattle.std.specs.Prelude.{◌≡◌, true, IfErr, IfOk, IsSome, option_map, string_bytes};
+ghost use Rattle.jlook.specs.Chosen.{object_by_path, symlinks_in};
 ghost use Rattle.jedge.specs.Views.{HasBlockSize};
-ghost use Rattle.jedge.specs.Images.{HasNodes, IsNoNodesOf, MountsWith, MountsOrRefuses, view_refusal};
+ghost use Rattle.jedge.specs.Images.{HasNodes, IsNoNodesOf, MountsFor, MountsWith, MountsOrRefuses, view_refusal};
 
 use crate::fault::Fault;
+use jlook::{mount_object, mount_tree};
 use jmount::{MountFault, Mounted};
 use jnode::Order;
 use jreport::{ProgramFault, mount_or_tell, others_if_none};
@@ -126,6 +128,75 @@ pub fn mounted_as<'a, E: Order>(
 {
     if decompress {
         mounted_through::<E>(alloc, image, geometry, contents)
+    } else {
+        mounted::<E>(alloc, image, geometry)
+    }
+}
+
+/// Looks at an image through its compression for its tree.
+fn tree_through<'a, E: Order>(
+    alloc: Global,
+    image: &'a [u8],
+    geometry: Geometry,
+    contents: &'a mut Vec<u8>,
+) -> Result<Mounted<'a>, Fault>
+    ensures { MountsFor symlinks_in true E.order geometry.block image.now result }
+{
+    match mount_tree::<E>(alloc, image, geometry, contents) {
+        Ok(mounted) => Ok(mounted),
+        Err(fault) => Err(Fault::Refused(view_refusal(fault))),
+    }
+}
+
+/// Mounts an image to print its tree: with `decompress` the targets of its symlinks are
+/// decompressed, and no other data. They take the place of the bytes in `contents`.
+pub fn mounted_tree<'a, E: Order>(
+    alloc: Global,
+    image: &'a [u8],
+    geometry: Geometry,
+    decompress: bool,
+    contents: &'a mut Vec<u8>,
+) -> Result<Mounted<'a>, Fault>
+    ensures { MountsFor symlinks_in decompress E.order geometry.block image.now result }
+{
+    if decompress {
+        tree_through::<E>(alloc, image, geometry, contents)
+    } else {
+        mounted::<E>(alloc, image, geometry)
+    }
+}
+
+/// Looks at an image through its compression for the object that a path names.
+fn object_through<'a, E: Order>(
+    alloc: Global,
+    image: &'a [u8],
+    geometry: Geometry,
+    path: &[u8],
+    contents: &'a mut Vec<u8>,
+) -> Result<Mounted<'a>, Fault>
+    ensures { MountsFor (object_by_path path.now) true E.order geometry.block image.now result }
+{
+    match mount_object::<E>(alloc, image, geometry, path, contents) {
+        Ok(mounted) => Ok(mounted),
+        Err(fault) => Err(Fault::Refused(view_refusal(fault))),
+    }
+}
+
+/// Mounts an image to print what a path names: with `decompress` the data of that object are
+/// decompressed, and no others. They take the place of the bytes in `contents`.
+pub fn mounted_object<'a, E: Order>(
+    alloc: Global,
+    image: &'a [u8],
+    geometry: Geometry,
+    decompress: bool,
+    path: &[u8],
+    contents: &'a mut Vec<u8>,
+) -> Result<Mounted<'a>, Fault>
+    ensures { MountsFor (object_by_path path.now) decompress E.order geometry.block image.now
+        result }
+{
+    if decompress {
+        object_through::<E>(alloc, image, geometry, path, contents)
     } else {
         mounted::<E>(alloc, image, geometry)
     }

@@ -1,18 +1,22 @@
 //! What standard error is told of an answer, and how the program ends.
-ghost use Rattle.std.specs.Prelude.{◌≡◌, ℕ, List, Ok, Err, Some, option_map};
+ghost use Rattle.std.specs.Prelude.{◌≡◌, ◌++◌, ℕ, List, Ok, Err, Some, option_map};
 ghost use Rattle.flashbase.specs.Sinks.{PutsTo};
 ghost use Rattle.jedge.specs.Acts.{DoesFrom, says, seen_as};
 ghost use Rattle.jedge.specs.Commands.{ends};
 ghost use Rattle.jedge.specs.Faults.{TellsFault};
-ghost use Rattle.jedge.specs.Told.{found_told, note_text};
+ghost use Rattle.jedge.specs.Told.{found_told, note_text, shown_notes};
+ghost use Rattle.jreport.specs.ExtractionNotes.{line_of_count};
+ghost use Rattle.jreport.specs.Notes.{note_line_of};
+ghost use Rattle.jreserve.specs.Note.{reserve_line};
 
 use crate::fault::Fault;
-use crate::found::{Found, Note};
+use crate::found::{BlankLeft, Found, Note};
 use crate::host::Host;
 use flashbase::{DeviceFault, Sink};
 use jcommand::Outcome;
 use jinfo::put_container_note;
 use jreport::{put_fault_and_note, put_named_notes, put_none_notes, put_note, put_notes};
+use jreserve::put_reserve_note;
 
 /// Puts the lines of a fault.
 fn put_fault<T: Sink>(fault: &Fault, sink: &mut T) -> Result<(), DeviceFault>
@@ -32,6 +36,35 @@ fn say_fault<H: Host>(host: &mut H, fault: &Fault)
     host.close_errors(errors);
 }
 
+/// Puts the note on so many findings, where there are any.
+fn put_findings<T: Sink>(findings: u64, sink: &mut T) -> Result<(), DeviceFault>
+    ensures { PutsTo T.Sink sink.old sink.new (line_of_count note_line_of findings) result }
+{
+    if findings == 0 {
+        return Ok(());
+    }
+    put_note(findings, sink)
+}
+
+/// Puts the notes on an image that is shown.
+fn put_shown<T: Sink>(findings: u64, others: Option<u64>, sink: &mut T) -> Result<(), DeviceFault>
+    ensures { PutsTo T.Sink sink.old sink.new (shown_notes findings others) result }
+{
+    match others {
+        Some(others) => put_none_notes(findings, others, sink),
+        None => put_findings(findings, sink),
+    }
+}
+
+/// Puts them, and that fewer blank blocks are left than Linux keeps in reserve.
+fn put_left<T: Sink>(of: BlankLeft, sink: &mut T) -> Result<(), DeviceFault>
+    ensures { PutsTo T.Sink sink.old sink.new
+        (shown_notes of.findings of.others ++ reserve_line of.left of.reserve) result }
+{
+    put_shown(of.findings, of.others, sink)?;
+    put_reserve_note(of.left, of.reserve, sink)
+}
+
 /// Puts a note.
 pub fn put_noted<T: Sink>(note: Note<'_>, sink: &mut T) -> Result<(), DeviceFault>
     ensures { PutsTo T.Sink sink.old sink.new (note_text note.entry) result }
@@ -48,6 +81,7 @@ pub fn put_noted<T: Sink>(note: Note<'_>, sink: &mut T) -> Result<(), DeviceFaul
             second.findings,
             sink,
         ),
+        Note::Left(of) => put_left(of, sink),
     }
 }
 

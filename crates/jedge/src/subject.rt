@@ -3,13 +3,13 @@
 ghost use Rattle.std.specs.Prelude.{◌≡◌, true, option_map};
 ghost use Rattle.jreport.specs.NoNodes.{TellsNone};
 ghost use Rattle.jedge.specs.Acts.{DoesFrom, seen_as};
-ghost use Rattle.jedge.specs.Commands.{shown_noted, shown_told};
+ghost use Rattle.jedge.specs.Commands.{left_noted, left_told, shown_noted, shown_told};
 ghost use Rattle.jedge.specs.Told.{found_told, note_text};
 ghost use Rattle.jedge.specs.Views.{IsViewed, NamesPart, NamesPath, conversion_refusal, viewed, views};
 
 use crate::damage::findings_noted;
 use crate::fault::Fault;
-use crate::found::{Found, Note};
+use crate::found::{BlankLeft, Found, Note};
 use crate::host::Host;
 use crate::reading::load;
 use jconvert::{ConvertFault, decompressed};
@@ -150,6 +150,23 @@ fn shown_noted(findings: u64, others: Option<u64>) -> Option<Note<'static>>
     }
 }
 
+/// The note on one that was written to, on which so many blank blocks are left and Linux keeps so
+/// many in reserve.
+fn left_noted(findings: u64, others: Option<u64>, left: u64, reserve: u64) -> Option<Note<'static>>
+    ensures { option_map note_text result ≡ left_noted findings others left reserve }
+{
+    if left < reserve {
+        let of = BlankLeft {
+            findings,
+            others,
+            left,
+            reserve,
+        };
+        return Some(Note::Left(of));
+    }
+    shown_noted(findings, others)
+}
+
 /// What a command comes to that shows a mount. If no node is found in its image, `others` is how
 /// many the other byte order has.
 pub fn shown(mounted: &Mounted<'_>, others: Option<u64>) -> Found<'static>
@@ -158,5 +175,21 @@ pub fn shown(mounted: &Mounted<'_>, others: Option<u64>) -> Found<'static>
     Found {
         counted: 0,
         note: shown_noted(noted(mounted), others),
+    }
+}
+
+/// What a command comes to that wrote to the image of a mount, on which so many blank blocks are
+/// left and Linux keeps so many in reserve.
+pub fn left_found(
+    mounted: &Mounted<'_>,
+    others: Option<u64>,
+    left: u64,
+    reserve: u64,
+) -> Found<'static>
+    ensures { found_told result ≡ left_told others left reserve mounted.now }
+{
+    Found {
+        counted: 0,
+        note: left_noted(noted(mounted), others, left, reserve),
     }
 }

@@ -340,7 +340,7 @@ fn is_noted(alloc: Global, fault: &ProgramFault<'_>, note: &str) -> bool {
 }
 
 /// Stops the test unless this note comes after the line of a fault.
-fn has_note(rt: &impl Abort, alloc: Global, fault: ProgramFault<'_>, note: &str) {
+pub(super) fn has_note(rt: &impl Abort, alloc: Global, fault: ProgramFault<'_>, note: &str) {
     expect_at(rt, is_noted(alloc, &fault, note), note);
 }
 
@@ -511,8 +511,6 @@ fn mount_notes() -> &'static [(MountFault, &'static str)] {
     &[
         (MountFault::BlockSize, BLOCK_NOTE),
         (MountFault::Clash { addr: 0x50 }, CLASH_NOTE),
-        (MountFault::TooLarge, ""),
-        (MountFault::RootKind, ""),
     ]
 }
 
@@ -529,9 +527,6 @@ fn notes_after_mounts(rt: HostRuntime) {
 
 #[test]
 fn notes_after_faults(rt: HostRuntime) {
-    for &(fault, _) in load_faults() {
-        has_note(&rt, rt.alloc(), ProgramFault::Load(fault), "");
-    }
     has_note(
         &rt,
         rt.alloc(),
@@ -542,8 +537,6 @@ fn notes_after_faults(rt: HostRuntime) {
     has_note(&rt, rt.alloc(), ProgramFault::Scan(compressed), ZLIB_NOTE);
     has_note(&rt, rt.alloc(), clash(0x9C, 0x50), PAIR_NOTE);
     has_note(&rt, rt.alloc(), clash(u32::MAX, 0), FAR_PAIR_NOTE);
-    has_note(&rt, rt.alloc(), ProgramFault::Data { addr: 6 }, "");
-    has_note(&rt, rt.alloc(), ProgramFault::OutOfMemory, "");
 }
 
 /// What a flash is, and the first limit that it does not keep.

@@ -1,8 +1,6 @@
-use Rattle.std.proofs.Common.{ℕ, List, Some, sym}
-use Rattle.std.specs.Borrow.{Bor}
+use Rattle.std.proofs.Common.{Some, sym}
 use Rattle.jnode.specs.declared.order.Endian.{Endian}
 use Rattle.jcommand.specs.Parsed.{comparison_view}
-use Rattle.jcommand.specs.declared.parsed.Comparison.{Comparison}
 use Rattle.jedge.specs.Images.{HasNodes, MountsBoth}
 use Rattle.jedge.proofs.Steps.{answered_at, then_err, then_ok}
 use Rattle.jedge.proofs.diff.compare.Goals as goal

@@ -1,9 +1,9 @@
-use Rattle.std.proofs.Common.{ℕ, List, Option, sym}
+use Rattle.std.proofs.Common.{sym}
 use Rattle.jnode.specs.declared.order.Endian.{Endian}
 use Rattle.std.specs.Prelude.{option_map}
-use Rattle.jmount.specs.Mount.{Mount}
+use Rattle.jlook.specs.Chosen.{symlinks_in}
 use Rattle.jedge.specs.Acts.{prints}
-use Rattle.jedge.specs.Commands.{lists, shown_told, shows_mount}
+use Rattle.jedge.specs.Commands.{lists, ls_says, shows_mount}
 use Rattle.jedge.specs.Showing.{Lists}
 use Rattle.jedge.specs.Told.{Told}
 use Rattle.jedge.proofs.Steps.{answered, does_at, then_err, then_ok}
@@ -18,17 +18,17 @@ returns-in-Err-load g c =
     does_at (λ (e : Endian). lists e c.args.options.geometry.block c.args.decompress c.args.image.now word)
     (sym c.requires) (then_ok (answered c.in-Ok.ensures) (then_err c.in-Err-load.ensures))
 
-pub returns-in-Ok-mounted_as : goal.returns-in-Ok-mounted_as
-returns-in-Ok-mounted_as g c =
+pub returns-in-Ok-mounted_tree : goal.returns-in-Ok-mounted_tree
+returns-in-Ok-mounted_tree g c =
     let word = option_map (λ p. p.now) c.args.path in
     let size = c.args.options.geometry.block in
     let part = option_map (λ path. path.items) c.in-Ok.part in
-    let m = c.in-Ok-mounted_as.mounted in
+    let m = c.in-Ok-mounted_tree.mounted in
     does_at (λ (e : Endian). lists e size c.args.decompress c.args.image.now word)
     (sym c.requires) (then_ok (answered c.in-Ok.ensures) (then_ok c.in-Ok-load.ensures
-    (does_at (shows_mount c.args.decompress g.E.Order.order size (λ (others : Option ℕ) (m : Mount). Lists m.state part (shown_told others m)))
+    (does_at (shows_mount symlinks_in c.args.decompress g.E.Order.order size (ls_says part))
     c.as_slice-bytes.ensures.value
-    (then_ok (answered c.others_if_none-others.ensures) (then_ok (answered c.in-Ok-mounted_as.ensures)
+    (then_ok (answered c.others_if_none-others.ensures) (then_ok (answered c.in-Ok-mounted_tree.ensures)
     (does_at (λ (told : Told). prints (Lists m.state part told)) c.shown.ensures c.print_lines.ensures))))))
 
 pub returns : goal.returns
@@ -38,6 +38,6 @@ returns g c =
     let part = option_map (λ path. path.items) c.in-Ok.part in
     does_at (λ (e : Endian). lists e size c.args.decompress c.args.image.now word)
     (sym c.requires) (then_ok (answered c.in-Ok.ensures) (then_ok c.in-Ok-load.ensures
-    (does_at (shows_mount c.args.decompress g.E.Order.order size (λ (others : Option ℕ) (m : Mount). Lists m.state part (shown_told others m)))
+    (does_at (shows_mount symlinks_in c.args.decompress g.E.Order.order size (ls_says part))
     c.as_slice-bytes.ensures.value
-    (then_ok (answered c.others_if_none-others.ensures) (then_err (answered c.in-Err-mounted_as.ensures))))))
+    (then_ok (answered c.others_if_none-others.ensures) (then_err (answered c.in-Err-mounted_tree.ensures))))))
