@@ -1,5 +1,5 @@
--- The act makes nothing, its faults are events, and it judges before it prints.
-use Rattle.std.proofs.Common.{◌≡◌, ◌∙◌, ℕ, List, [], Option, None, Some, Bool, true, false, Ok, Err, ap, inl, inr, refl, subst}
+-- The acts make nothing, their faults are events, and they judge before they print.
+use Rattle.std.proofs.Common.{◌≡◌, ◌∙◌, ℕ, List, Option, None, Some, Bool, true, false, Ok, Err, ap, inl, inr, refl, subst}
 use Rattle.std.specs.Prelude.{◌&&◌, if◌then◌else◌}
 use Rattle.jnode.specs.declared.order.Endian.{Endian}
 use Rattle.jmount.specs.Mount.{Mount}
@@ -14,6 +14,8 @@ use Rattle.jbuild.specs.declared.host_files.HostFiles.{HostFiles}
 use Rattle.jcuts.specs.Cuts.{Asked}
 use Rattle.jstops.specs.Planned.{Forming, HeldPoint, IsDeclinedAs, forming_with, through_point}
 use Rattle.jstops.specs.declared.planned.StopsPlan.{StopsPlan}
+use Rattle.jdevice.specs.declared.running.DevicePlan.{DevicePlan}
+use Rattle.jhalts.specs.InRow.{IsDeclinedIn, RowPoint, device_point, forming_on}
 use Rattle.jreport.specs.declared.cause.Cause.{Cause}
 use Rattle.jreport.specs.declared.faults.ProgramFault.{ProgramFault}
 use Rattle.jreport.specs.declared.faults.ProgramFault.TheVariants as program
@@ -30,9 +32,12 @@ use Rattle.jreads.specs.ReadLaws.{IsRefusedAtLine}
 use Rattle.jreads.proofs.BlameLemmas.{loads_listed_blames, memory_blames}
 use Rattle.jreads.proofs.JudgeLemmas.{loads_listed_silent}
 use Rattle.jreads.proofs.LookLemmas.{loads_listed_looks}
-use Rattle.jforetells.specs.ForetellLaws.{CutsThroughBlamesFailed, CutsThroughJudgedFirst, CutsThroughReadsOnly}
-use Rattle.jforetells.specs.Foretelling.{foretells_base, foretold_asked, plan_foretold}
+use Rattle.jforetells.specs.ForetellLaws.{CutsThroughBlamesFailed, CutsThroughJudgedFirst, CutsThroughReadsOnly, CutsUpdateBlamesFailed, CutsUpdateJudgedFirst, CutsUpdateReadsOnly}
+use Rattle.jforetells.specs.Foretelling.{TellsPlanned, device_foretold, flash_foretold, foretells_base, foretells_text, foretold_asked, plan_foretold}
 use Rattle.jforetells.specs.ForetoldTexts.{StopsAtLineAs, TellsForms}
+use Rattle.jforetells.specs.UpdateTexts.{StopsAtLineIn, TellsRowForms}
+use Rattle.jforetells.specs.declared.plan.ForetoldPlan.{ForetoldPlan}
+use Rattle.jforetells.specs.declared.plan.ForetoldPlan.TheVariants as plan
 
 -- ---- it makes nothing
 
@@ -40,14 +45,21 @@ base_looks : (on : Option (List ℕ)) → MakesNothing (loads_base on)
 base_looks None = answers_looks _
 base_looks (Some name) = loads_looks name
 
-foretells_looks : (e : Endian) (on : StopsPlan) (base : List ℕ) (asked : Asked) → MakesNothing (foretells_base e on base asked)
+foretells_looks : (e : Endian) (on : ForetoldPlan) (base : List ℕ) (asked : Asked) → MakesNothing (foretells_base e on base asked)
 foretells_looks e on base asked = then_looks _ _ (answers_looks _) (λ _. then_looks _ _ (answers_looks _) (λ (m : Mount).
     then_looks _ _ (answers_looks _) (λ _. prints_looks _)))
 
+text_looks : (e : Endian) (on : ForetoldPlan) (base text : List ℕ) → MakesNothing (foretells_text e on base text)
+text_looks e on base text = then_looks _ _ (answers_looks _) (λ (lines : List Line).
+    then_looks _ _ (loads_listed_looks lines) (λ (files : HostFiles). foretells_looks e on base (foretold_asked e on files lines)))
+
 pub cuts_through_reads_only : CutsThroughReadsOnly
 cuts_through_reads_only e c = reported_looks _ (then_looks _ _ (base_looks c.on) (λ (base : List ℕ).
-    then_looks _ _ (loads_looks c.listing) (λ (text : List ℕ). then_looks _ _ (answers_looks _) (λ (lines : List Line).
-    then_looks _ _ (loads_listed_looks lines) (λ (files : HostFiles). foretells_looks e (plan_foretold c) base (foretold_asked e (plan_foretold c) files lines))))))
+    then_looks _ _ (loads_looks c.listing) (text_looks e (plan.Stops (plan_foretold c)) base)))
+
+pub cuts_update_reads_only : CutsUpdateReadsOnly
+cuts_update_reads_only e c = reported_looks _ (then_looks _ _ (loads_looks c.image) (λ (image : List ℕ).
+    then_looks _ _ (loads_looks c.listing) (text_looks e (plan.Halts (device_foretold c image)) image)))
 
 -- ---- it judges before it prints
 
@@ -70,14 +82,39 @@ tells_unput e on image asked text (fault.Refused why) not (inr is) =
 tells_unput e on image asked text fault.Output not is = tt
 tells_unput e on image asked text fault.OutOfMemory not is = absurd is
 
-foretells_first : (e : Endian) (on : StopsPlan) (base : List ℕ) (asked : Asked) → JudgesFirstBut IsRefusedAtLine (foretells_base e on base asked)
+at_row_line : (on : Forming) (asked : Asked) (from : RowPoint) (flash : Flash) (image text : List ℕ) (why : ProgramFault) → StopsAtLineIn on asked from flash image text why → IsRefusedAtLine (fault.Refused why)
+at_row_line on asked from flash image text why stops = (stops.declined, stops.line, cut_cause flash image stops.declined None, ap (λ (w : ProgramFault). fault.Refused w) stops.is)
+
+row_unput : (e : Endian) (on : DevicePlan) (image : List ℕ) (asked : Asked) (text : List ℕ) (f : Fault) → (IsRefusedAtLine f → ⊥) → TellsRowForms e on image asked text (Err f) → IsUnput f text
+row_unput e on image asked text (fault.File of) not is = absurd is
+row_unput e on image asked text (fault.NotRead of) not is = absurd is
+row_unput e on image asked text (fault.NoNodes of others) not is = absurd is
+row_unput e on image asked text (fault.NoSpace of) not is = absurd is
+row_unput e on image asked text (fault.Findings of count) not is = absurd is
+row_unput e on image asked text (fault.Refused why) not (inl is) = is.0
+row_unput e on image asked text (fault.Refused why) not (inr is) = absurd (not (at_row_line (forming_on e on) asked (device_point e on image) on.flash image text why is))
+row_unput e on image asked text fault.Output not is = tt
+row_unput e on image asked text fault.OutOfMemory not is = absurd is
+
+planned_unput : (e : Endian) (on : ForetoldPlan) (image : List ℕ) (asked : Asked) (text : List ℕ) (f : Fault) → (IsRefusedAtLine f → ⊥) → TellsPlanned e on image asked text (Err f) → IsUnput f text
+planned_unput e (plan.Stops on) image asked text f not is = tells_unput e on image asked text f not is
+planned_unput e (plan.Halts on) image asked text f not is = row_unput e on image asked text f not is
+
+foretells_first : (e : Endian) (on : ForetoldPlan) (base : List ℕ) (asked : Asked) → JudgesFirstBut IsRefusedAtLine (foretells_base e on base asked)
 foretells_first e on base asked = then_first_but _ _ _ (answers_silent _) (λ _. then_first_but _ _ _ (answers_silent _) (λ (m : Mount).
-    then_first_but _ _ _ (answers_silent _) (λ _. prints_first_but _ _ (tells_unput e on m.image asked))))
+    then_first_but _ _ _ (answers_silent _) (λ _. prints_first_but _ _ (planned_unput e on m.image asked))))
+
+text_first : (e : Endian) (on : ForetoldPlan) (base text : List ℕ) → JudgesFirstBut IsRefusedAtLine (foretells_text e on base text)
+text_first e on base text = then_first_but _ _ _ (answers_silent _) (λ (lines : List Line).
+    then_first_but _ _ _ (loads_listed_silent lines) (λ (files : HostFiles). foretells_first e on base (foretold_asked e on files lines)))
 
 pub cuts_through_judged_first : CutsThroughJudgedFirst
 cuts_through_judged_first e c = then_first_but _ _ _ (base_silent c.on) (λ (base : List ℕ).
-    then_first_but _ _ _ (loads_silent c.listing) (λ (text : List ℕ). then_first_but _ _ _ (answers_silent _) (λ (lines : List Line).
-    then_first_but _ _ _ (loads_listed_silent lines) (λ (files : HostFiles). foretells_first e (plan_foretold c) base (foretold_asked e (plan_foretold c) files lines)))))
+    then_first_but _ _ _ (loads_silent c.listing) (text_first e (plan.Stops (plan_foretold c)) base))
+
+pub cuts_update_judged_first : CutsUpdateJudgedFirst
+cuts_update_judged_first e c = then_first_but _ _ _ (loads_silent c.image) (λ (image : List ℕ).
+    then_first_but _ _ _ (loads_silent c.listing) (text_first e (plan.Halts (device_foretold c image)) image))
 
 -- ---- a fault is an event
 
@@ -147,11 +184,40 @@ tells_unnamed e on image asked text (fault.Refused why) (inr is) = stopped_of (f
 tells_unnamed e on image asked text fault.Output is = tt
 tells_unnamed e on image asked text fault.OutOfMemory is = absurd is
 
-foretells_blames : (e : Endian) (on : StopsPlan) (base : List ℕ) (asked : Asked) → BlamesFailed (foretells_base e on base asked)
-foretells_blames e on base asked = then_blames _ _ memory_blames (λ _. then_blames _ _ (mounts_as_blame true e on.flash.geometry.block base) (λ (m : Mount).
-    then_blames _ _ (starts_blame e on.flash m) (λ _. prints_blames _ (tells_unnamed e on m.image asked))))
+row_declined_of : (on : Forming) (from : RowPoint) (o : Op) (f : SessionFault) → IsDeclinedIn on from o f → f ≡ session.Sink → ⊥
+row_declined_of on from o f is sink = absurd (subst (λ (g : SessionFault). IsDeclinedIn on from o g) sink is)
+
+row_stopped_of : (on : Forming) (asked : Asked) (from : RowPoint) (flash : Flash) (image text : List ℕ) (why : ProgramFault) → StopsAtLineIn on asked from flash image text why → IsOfBytes why
+row_stopped_of on asked from flash image text why stops =
+    of_bytes why stops.is (session_of stops.declined (Some stops.line) (cut_cause flash image stops.declined None) (row_declined_of on stops.next.at stops.next.next stops.declined stops.next.declines))
+
+row_unnamed : (e : Endian) (on : DevicePlan) (image : List ℕ) (asked : Asked) → Unnamed (TellsRowForms e on image asked)
+row_unnamed e on image asked text (fault.File of) is = absurd is
+row_unnamed e on image asked text (fault.NotRead of) is = absurd is
+row_unnamed e on image asked text (fault.NoNodes of others) is = absurd is
+row_unnamed e on image asked text (fault.NoSpace of) is = absurd is
+row_unnamed e on image asked text (fault.Findings of count) is = absurd is
+row_unnamed e on image asked text (fault.Refused why) (inl is) = unplanned_of on.flash image text why is
+row_unnamed e on image asked text (fault.Refused why) (inr is) = row_stopped_of (forming_on e on) asked (device_point e on image) on.flash image text why is
+row_unnamed e on image asked text fault.Output is = tt
+row_unnamed e on image asked text fault.OutOfMemory is = absurd is
+
+planned_unnamed : (e : Endian) (on : ForetoldPlan) (image : List ℕ) (asked : Asked) → Unnamed (TellsPlanned e on image asked)
+planned_unnamed e (plan.Stops on) image asked = tells_unnamed e on image asked
+planned_unnamed e (plan.Halts on) image asked = row_unnamed e on image asked
+
+foretells_blames : (e : Endian) (on : ForetoldPlan) (base : List ℕ) (asked : Asked) → BlamesFailed (foretells_base e on base asked)
+foretells_blames e on base asked = then_blames _ _ memory_blames (λ _. then_blames _ _ (mounts_as_blame true e (flash_foretold on).geometry.block base) (λ (m : Mount).
+    then_blames _ _ (starts_blame e (flash_foretold on) m) (λ _. prints_blames _ (planned_unnamed e on m.image asked))))
+
+text_blames : (e : Endian) (on : ForetoldPlan) (base text : List ℕ) → BlamesFailed (foretells_text e on base text)
+text_blames e on base text = then_blames _ _ (lines_blame text) (λ (lines : List Line).
+    then_blames _ _ (loads_listed_blames lines) (λ (files : HostFiles). foretells_blames e on base (foretold_asked e on files lines)))
 
 pub cuts_through_blames_failed : CutsThroughBlamesFailed
 cuts_through_blames_failed e c = then_blames _ _ (base_blames c.on) (λ (base : List ℕ).
-    then_blames _ _ (loads_blames c.listing) (λ (text : List ℕ). then_blames _ _ (lines_blame text) (λ (lines : List Line).
-    then_blames _ _ (loads_listed_blames lines) (λ (files : HostFiles). foretells_blames e (plan_foretold c) base (foretold_asked e (plan_foretold c) files lines)))))
+    then_blames _ _ (loads_blames c.listing) (text_blames e (plan.Stops (plan_foretold c)) base))
+
+pub cuts_update_blames_failed : CutsUpdateBlamesFailed
+cuts_update_blames_failed e c = then_blames _ _ (loads_blames c.image) (λ (image : List ℕ).
+    then_blames _ _ (loads_blames c.listing) (text_blames e (plan.Halts (device_foretold c image)) image))

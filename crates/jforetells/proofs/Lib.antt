@@ -1,2 +1,3 @@
 pub mod ForetoldLemmas
 pub mod ForetellLaws
+pub mod LoadLemmas

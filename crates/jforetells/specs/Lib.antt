@@ -1,3 +1,4 @@
 pub mod ForetellLaws
 pub mod Foretelling
 pub mod ForetoldTexts
+pub mod UpdateTexts

@@ -1,38 +1,44 @@
-//! What stands after a stop of writing on an image that is mounted through its compression, told of
-//! the operations of a listing.
-ghost use Rattle.std.specs.Prelude.{◌≡◌, IfErr, IfOk, IsOk, None, length, map, option_map};
+//! What stands after a stop of writing on an image that is mounted through its compression, or of
+//! `update` on it, told of the operations of a listing.
+ghost use Rattle.std.specs.Prelude.{◌≡◌, ◌≤◌, IsOk, None, length};
 ghost use Rattle.flashbase.specs.Sinks.{change_of};
 ghost use Rattle.jview.specs.Through.{IsMountThroughOf};
 ghost use Rattle.jlog.specs.Resuming.{resumes};
 ghost use Rattle.jpacked.specs.View.{base_of_mount};
-ghost use Rattle.jcommand.specs.Parsed.{cuts_through_view};
+ghost use Rattle.jcommand.specs.Parsed.{cuts_through_view, update_cuts_view};
 ghost use Rattle.jedge.specs.Acts.{DoesFrom, PutsBy, prints, seen_as};
 ghost use Rattle.jedge.specs.Told.{found_told};
-ghost use Rattle.jreads.specs.CutTexts.{ReadsLines, StartsOn, cut_cause};
-ghost use Rattle.jreads.specs.Cutting.{loads_base};
+ghost use Rattle.jreads.specs.CutTexts.{StartsOn, cut_cause};
 ghost use Rattle.jforetells.specs.ForetoldTexts.{TellsForms, stops_found};
-ghost use Rattle.jforetells.specs.Foretelling.{cuts_through_act, foretells_base, foretells_mounted, foretells_text, foretold_asked, forms_foretold, plan_foretold};
+ghost use Rattle.jforetells.specs.Foretelling.{TellsPlanned, cuts_through_act, cuts_update_act, device_foretold, flash_foretold, foretells_base, foretells_mounted, foretells_text, foretold_asked, forms_foretold, plan_foretold, telling_foretold};
+ghost use Rattle.jforetells.specs.UpdateTexts.{TellsRowForms};
+ghost use Rattle.jcuts.specs.declared.lines.Telling.TheVariants.{Nodes};
+ghost use Rattle.jscan.specs.Image.{greatest_image};
 
+use crate::plan::{ForetoldPlan, flash_of};
 use flashbase::Sink;
 use jbuild::{HostFiles, operations};
-use jcommand::CutsThrough;
+use jcommand::{CutsThrough, UpdateCuts, blocks_asked};
 use jcuts::{CutsFault, Telling};
+use jdevice::DevicePlan;
 use jedge::fault::Fault;
 use jedge::found::{Found, finished};
 use jedge::host::Host;
 use jedge::mounting::mounted_as;
 use jedge::reading::load;
-use jlisting::{Line, ListingFault, listing};
+use jhalts::put_halts;
+use jlisting::Line;
 use jlog::{Flash, SessionFault};
 use jmount::Mounted;
 use jnode::Order;
 use jpacked::{NodeForms, start_at};
+use jreads::cuts::{lines_of, load_base, numbers_of};
 use jreads::files_host::FilesHost;
 use jreads::named::load_listed;
 use jreport::{Cause, Plan, ProgramFault, Reason, cause_of};
 use jsteps::Op;
 use jstops::{StopsPlan, put_stops};
-use std::alloc::{AllocError, Global};
+use std::alloc::Global;
 
 /// Why operations on a mounted image stop: the first limit that the flash does not keep.
 fn cause_on(mounted: &Mounted<'_>, flash: Flash, fault: SessionFault) -> Cause
@@ -105,27 +111,71 @@ fn put_told<E: Order, T: Sink>(
     stops_found(mounted, on.flash, put)
 }
 
-/// Prints it.
-fn print_told<E: Order, H: Host>(
-    host: &mut H,
+/// Puts what stands after a stop of `update`, of operations on a device's image.
+#[tactic(none)]
+fn put_updates<E: Order, T: Sink>(
+    alloc: Global,
     mounted: &Mounted<'_>,
-    on: StopsPlan,
+    on: DevicePlan,
     ops: &[Op<'_>],
     lines: &[usize],
+    sink: &mut T,
 ) -> Result<Found<'static>, Fault>
     requires through { IsMountThroughOf E.order on.flash.geometry.block mounted.now }
     requires goes_on { IsOk (resumes E.order on.flash mounted.now) }
     requires numbered { length lines.now ≡ length ops.now }
+    ensures { PutsBy (TellsRowForms E.order on mounted.now.image
+        (record { telling = Nodes; ops = ops.now; lines = lines.now }))
+        (change_of T.Sink sink.old sink.new) (seen_as found_told result) }
+{
+    let put = put_halts::<E, T>(alloc, mounted, on, ops, lines, sink);
+    stops_found(mounted, on.flash, put)
+}
+
+/// Puts the one or the other.
+#[tactic(none)]
+fn put_planned<E: Order, T: Sink>(
+    alloc: Global,
+    mounted: &Mounted<'_>,
+    on: ForetoldPlan,
+    ops: &[Op<'_>],
+    lines: &[usize],
+    sink: &mut T,
+) -> Result<Found<'static>, Fault>
+    requires through { IsMountThroughOf E.order (flash_foretold on).geometry.block mounted.now }
+    requires goes_on { IsOk (resumes E.order (flash_foretold on) mounted.now) }
+    requires numbered { length lines.now ≡ length ops.now }
+    ensures { PutsBy (TellsPlanned E.order on mounted.now.image
+        (record { telling = telling_foretold on; ops = ops.now; lines = lines.now }))
+        (change_of T.Sink sink.old sink.new) (seen_as found_told result) }
+{
+    match on {
+        ForetoldPlan::Stops(on) => put_told::<E, T>(alloc, mounted, on, ops, lines, sink),
+        ForetoldPlan::Halts(on) => put_updates::<E, T>(alloc, mounted, on, ops, lines, sink),
+    }
+}
+
+/// Prints it.
+fn print_told<E: Order, H: Host>(
+    host: &mut H,
+    mounted: &Mounted<'_>,
+    on: ForetoldPlan,
+    ops: &[Op<'_>],
+    lines: &[usize],
+) -> Result<Found<'static>, Fault>
+    requires through { IsMountThroughOf E.order (flash_foretold on).geometry.block mounted.now }
+    requires goes_on { IsOk (resumes E.order (flash_foretold on) mounted.now) }
+    requires numbered { length lines.now ≡ length ops.now }
     ensures { DoesFrom (H.history host.old) (H.history host.new)
-        (prints (TellsForms E.order on (base_of_mount mounted.now)
-        (record { telling = on.telling; ops = ops.now; lines = lines.now })))
+        (prints (TellsPlanned E.order on mounted.now.image
+        (record { telling = telling_foretold on; ops = ops.now; lines = lines.now })))
         (seen_as found_told result) }
 {
     let mut out = match host.output() {
         Ok(out) => out,
         Err(fault) => return Err(fault),
     };
-    let answer = put_told::<E, _>(host.alloc(), mounted, on, ops, lines, &mut out);
+    let answer = put_planned::<E, _>(host.alloc(), mounted, on, ops, lines, &mut out);
     let closed = host.close(out);
     finished(answer, closed)
 }
@@ -134,34 +184,27 @@ fn print_told<E: Order, H: Host>(
 fn tell_mounted<E: Order, H: Host>(
     host: &mut H,
     mounted: &Mounted<'_>,
-    on: StopsPlan,
+    on: ForetoldPlan,
     ops: &[Op<'_>],
     lines: &[usize],
 ) -> Result<Found<'static>, Fault>
-    requires through { IsMountThroughOf E.order on.flash.geometry.block mounted.now }
+    requires through { IsMountThroughOf E.order (flash_foretold on).geometry.block mounted.now }
     requires numbered { length lines.now ≡ length ops.now }
     ensures { DoesFrom (H.history host.old) (H.history host.new)
         (foretells_mounted E.order on
-        (record { telling = on.telling; ops = ops.now; lines = lines.now }) mounted.now)
+        (record { telling = telling_foretold on; ops = ops.now; lines = lines.now }) mounted.now)
         (seen_as found_told result) }
 {
-    match judge::<E>(mounted, on.flash) {
+    match judge::<E>(mounted, flash_of(on)) {
         Ok(()) => print_told::<E, H>(host, mounted, on, ops, lines),
         Err(refused) => Err(refused),
     }
 }
 
-/// The numbers of lines.
-fn numbers_of(alloc: Global, lines: &[Line<'_>]) -> Result<Vec<usize>, AllocError>
-    ensures { IfOk result (λ numbers. numbers.items ≡ map (λ line. line.number) lines.now) }
-{
-    lines.iter().map(|line| line.number).collect(alloc)
-}
-
 /// Tells the operations of lines on a base, with the bytes of the files that they name.
 fn tell_lines<'p, 'b: 'p, E: Order, H: Host>(
     host: &mut H,
-    on: StopsPlan,
+    on: ForetoldPlan,
     base: &[u8],
     lines: Vec<Line<'b>>,
     files: &'p HostFiles,
@@ -173,14 +216,20 @@ fn tell_lines<'p, 'b: 'p, E: Order, H: Host>(
 {
     let numbers = match numbers_of(host.alloc(), lines.as_slice()) {
         Ok(numbers) => numbers,
-        Err(_) => return Err(Fault::OutOfMemory),
+        Err(fault) => return Err(fault),
     };
     let ops = match operations::<E>(host.alloc(), lines, files) {
         Ok(ops) => ops,
         Err(_) => return Err(Fault::OutOfMemory),
     };
     let mut contents = Vec::new(host.alloc());
-    match mounted_as::<E>(host.alloc(), base, on.flash.geometry, true, &mut contents) {
+    match mounted_as::<E>(
+        host.alloc(),
+        base,
+        flash_of(on).geometry,
+        true,
+        &mut contents,
+    ) {
         Ok(mounted) => {
             tell_mounted::<E, H>(host, &mounted, on, ops.as_slice(), numbers.as_slice())
         }
@@ -188,21 +237,10 @@ fn tell_lines<'p, 'b: 'p, E: Order, H: Host>(
     }
 }
 
-/// The lines of a listing.
-fn lines_of(alloc: Global, text: &[u8]) -> Result<Vec<Line<'_>>, Fault>
-    ensures { ReadsLines text.now (seen_as (λ lines. lines.items) result) }
-{
-    match listing(alloc, text) {
-        Ok(lines) => Ok(lines),
-        Err(ListingFault::Line(bad)) => Err(Fault::Refused(ProgramFault::Listing(bad))),
-        Err(ListingFault::OutOfMemory) => Err(Fault::OutOfMemory),
-    }
-}
-
 /// Tells the operations of a listing's text on a base.
 fn tell_text<E: Order, H: FilesHost>(
     host: &mut H,
-    on: StopsPlan,
+    on: ForetoldPlan,
     base: &[u8],
     text: &[u8],
 ) -> Result<Found<'static>, Fault>
@@ -216,18 +254,6 @@ fn tell_text<E: Order, H: FilesHost>(
     match load_listed(host, lines.as_slice()) {
         Ok(files) => tell_lines::<E, H>(host, on, base, lines, &files),
         Err(fault) => Err(fault),
-    }
-}
-
-/// The image that is gone on from, if one is given.
-fn load_base<H: Host>(host: &mut H, on: Option<&str>) -> Result<Vec<u8>, Fault>
-    ensures { DoesFrom (H.history host.old) (H.history host.new)
-        (loads_base (option_map (λ name. name.now) on.entry))
-        (seen_as (λ base. base.items) result) }
-{
-    match on {
-        Some(name) => load(host, name),
-        None => Ok(Vec::new(host.alloc())),
     }
 }
 
@@ -265,13 +291,54 @@ pub fn cuts_through<E: Order, H: FilesHost>(
     ensures { DoesFrom (H.history host.old) (H.history host.new)
         (cuts_through_act E.order (cuts_through_view asked.entry)) (seen_as found_told result) }
 {
-    let on = plan_of(asked);
+    let on = ForetoldPlan::Stops(plan_of(asked));
     let base = match load_base(host, asked.on) {
         Ok(base) => base,
         Err(fault) => return Err(fault),
     };
     match load(host, asked.listing) {
         Ok(text) => tell_text::<E, H>(host, on, base.as_slice(), text.as_slice()),
+        Err(fault) => Err(fault),
+    }
+}
+
+/// How `update` would write a listing to an image.
+fn device_of(asked: UpdateCuts<&str>, image: &[u8]) -> DevicePlan
+    requires { length image.now ≤ greatest_image }
+    ensures { result ≡ device_foretold (update_cuts_view asked.entry) image.now }
+{
+    let geometry = asked.options.geometry;
+    let blocks = blocks_asked(asked.blocks, geometry, image);
+    let flash = Flash {
+        geometry,
+        blocks,
+        page: asked.page,
+    };
+    DevicePlan {
+        flash,
+        plain: asked.plain,
+        tail: asked.tail,
+    }
+}
+
+/// `cuts --update`.
+pub fn cuts_update<E: Order, H: FilesHost>(
+    host: &mut H,
+    asked: UpdateCuts<&str>,
+) -> Result<Found<'static>, Fault>
+    ensures { DoesFrom (H.history host.old) (H.history host.new)
+        (cuts_update_act E.order (update_cuts_view asked.entry)) (seen_as found_told result) }
+{
+    let image = match load(host, asked.image) {
+        Ok(image) => image,
+        Err(fault) => return Err(fault),
+    };
+    match load(host, asked.listing) {
+        Ok(text) => {
+            let bytes = image.as_slice();
+            let on = ForetoldPlan::Halts(device_of(asked, bytes));
+            tell_text::<E, H>(host, on, bytes, text.as_slice())
+        }
         Err(fault) => Err(fault),
     }
 }

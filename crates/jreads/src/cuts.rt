@@ -165,7 +165,7 @@ fn tell_mounted<E: Order, H: Host>(
 }
 
 /// The numbers of lines.
-fn numbers_of(alloc: Global, lines: &[Line<'_>]) -> Result<Vec<usize>, Fault>
+pub fn numbers_of(alloc: Global, lines: &[Line<'_>]) -> Result<Vec<usize>, Fault>
     ensures numbers { IfOk result
         (λ numbers. numbers.items ≡ map (λ line. line.number) lines.now) }
     ensures memory { IfErr result (λ fault. fault ≡ Fault.OutOfMemory) }
@@ -205,7 +205,7 @@ fn tell_lines<'p, 'b: 'p, E: Order, H: Host>(
 }
 
 /// The lines of a listing.
-fn lines_of(alloc: Global, text: &[u8]) -> Result<Vec<Line<'_>>, Fault>
+pub fn lines_of(alloc: Global, text: &[u8]) -> Result<Vec<Line<'_>>, Fault>
     ensures { ReadsLines text.now (seen_as (λ lines. lines.items) result) }
 {
     match listing(alloc, text) {
@@ -236,7 +236,7 @@ fn tell_text<E: Order, H: FilesHost>(
 }
 
 /// The image that is gone on from, if one is given.
-fn load_base<H: Host>(host: &mut H, on: Option<&str>) -> Result<Vec<u8>, Fault>
+pub fn load_base<H: Host>(host: &mut H, on: Option<&str>) -> Result<Vec<u8>, Fault>
     ensures { DoesFrom (H.history host.old) (H.history host.new)
         (loads_base (option_map (λ name. name.now) on.entry))
         (seen_as (λ base. base.items) result) }

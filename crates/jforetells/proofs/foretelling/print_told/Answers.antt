@@ -7,8 +7,11 @@ use Rattle.jforetells.proofs.foretelling.print_told.Goals as goal
 pub returns-in-Err : goal.returns-in-Err
 returns-in-Err g c = not_printed c.output.ensures.same c.in-Err.ensures.memory
 
+pub put_planned-answer-requires-clause-through : goal.put_planned-answer-requires-clause-through
+put_planned-answer-requires-clause-through g c = c.requires.through
+
 pub returns : goal.returns
 returns g c = printed_put _ c.output.ensures.same c.in-Ok.ensures.sound c.in-Ok.ensures.empty
-    c.put_told-answer.ensures c.close-closed.ensures
+    c.put_planned-answer.ensures c.close-closed.ensures
     (ap (seen_as found_told) c.finished.ensures
-    ∙ seen_closed found_told c.put_told-answer.result c.close-closed.result)
+    ∙ seen_closed found_told c.put_planned-answer.result c.close-closed.result)
