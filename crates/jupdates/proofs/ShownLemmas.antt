@@ -35,7 +35,6 @@ use Rattle.jdevice.proofs.TakenLemmas.{taken_are_openings}
 use Rattle.jthrough.specs.MountsThrough.{AnswersThrough}
 use Rattle.jedge.specs.Acts.{loads}
 use Rattle.jedge.specs.Calls.{Answers, Did, Event, Read}
-use Rattle.jedge.specs.Commands.{shown_told}
 use Rattle.jedge.specs.Laws.{Happened, LooksOnly}
 use Rattle.jedge.specs.Told.{Told}
 use Rattle.jedge.proofs.BlamingLemmas.{after_more, before_more}
@@ -52,7 +51,7 @@ use Rattle.jmakes.specs.declared.wanted.Filling.{Filling}
 use Rattle.jupdates.specs.Asked.{DeviceWanted, device_wanted}
 use Rattle.jupdates.specs.Commands.{updates_listing, updates_text}
 use Rattle.jupdates.specs.Laws.{UpdateShowsOps, WentToFile}
-use Rattle.jupdates.specs.Updating.{PutsImage, ends_well, writes_device}
+use Rattle.jupdates.specs.Updating.{PutsImage, ends_well, updated_told, writes_device}
 
 -- ---- the steps of an act
 
@@ -272,7 +271,7 @@ pub record IsTextRun (e : Endian) (wanted : DeviceWanted) (image : List ℕ) (be
   pub goes : resumes e wanted.on.flash m ≡ Ok from
   pub is : IsDeviceRun e wanted.on m.image of.ops run
   pub looks : LooksOnly looked
-  pub writes : writes_device wanted m.image of.numbers run (shown_told others m) last (Ok told)
+  pub writes : writes_device wanted m.image of.numbers run (updated_told wanted others m run) last (Ok told)
   pub all : events ≡ looked ++ last
 
 pub text_run : (e : Endian) (wanted : DeviceWanted) (image : List ℕ) (before : HostFiles) (text : List ℕ) (events : List Event) (told : Told) → updates_text e wanted image before text events (Ok told)
@@ -316,7 +315,7 @@ run_shown e wanted image before text events told ran none =
 
 pub run_made : (e : Endian) (wanted : DeviceWanted) (image : List ℕ) (before : HostFiles) (text : List ℕ) (events : List Event) (told : Told) → (ran : IsTextRun e wanted image before text events told)
     → IsMadeWell wanted ran.m.image ran.run ran.last
-run_made e wanted image before text events told ran = made_well wanted ran.m.image ran.of.numbers ran.run (shown_told ran.others ran.m) told ran.last ran.writes
+run_made e wanted image before text events told ran = made_well wanted ran.m.image ran.of.numbers ran.run (updated_told wanted ran.others ran.m ran.run) told ran.last ran.writes
 
 text_shown : (e : Endian) (wanted : DeviceWanted) (image : List ℕ) (before : HostFiles) (text : List ℕ) (events : List Event) (told : Told) → (ran : IsTextRun e wanted image before text events told)
     → ShowsDevice e wanted image ran.of.ops events

@@ -11,7 +11,6 @@ use Rattle.jcommand.specs.declared.parsed.Updating.{Updating}
 use Rattle.jdevice.specs.Run.{DeviceDone, IsDeviceRun, device_image, stops_at_op}
 use Rattle.jedge.specs.Acts.{Act, Ends, GoesOn, Then, answers}
 use Rattle.jedge.specs.Calls.{Event}
-use Rattle.jedge.specs.Commands.{shown_told}
 use Rattle.jedge.specs.Laws.{LooksOnly}
 use Rattle.jedge.specs.Told.{Told}
 use Rattle.jedge.specs.declared.fault.Fault.{Fault}
@@ -28,7 +27,7 @@ use Rattle.jmakes.proofs.LeavingLemmas.{makes_leave}
 use Rattle.jupdates.specs.Asked.{DeviceWanted, device_built, device_wanted}
 use Rattle.jupdates.specs.Commands.{updates_lines, updates_listing, updates_text}
 use Rattle.jupdates.specs.Laws.{BuildCompressedIsJudged, BuildCompressedLeavesFiles, UpdateIsJudged, UpdateLeavesFiles}
-use Rattle.jupdates.specs.Updating.{PutsImage, RunsOnDevice, ends_well, prints_updated, ran_of, updates_mounted, writes_device}
+use Rattle.jupdates.specs.Updating.{PutsImage, RunsOnDevice, ends_well, prints_updated, ran_of, updated_told, updates_mounted, writes_device}
 use Rattle.jupdates.proofs.EndLemmas.{printed_by_output, update_late, update_unnamed}
 
 -- ---- the file is made, and the line is printed
@@ -72,14 +71,14 @@ leaves_by wanted image numbers run events f atomic other (NotPrinted is) = absur
 write_leaves : (wanted : DeviceWanted) (image numbers : List ℕ) (run : DeviceDone) (told : Told) → LeavesAtFault wanted.file (writes_device wanted image numbers run told)
 write_leaves wanted image numbers run told = then_leaves wanted.file _ _ (answers_looks _) (λ _ events f atomic other did. leaves_by wanted image numbers run events f atomic other (made_by wanted image numbers run told events f did))
 
-mounted_leaves : (e : Endian) (wanted : DeviceWanted) (m : Mount) (of : Numbered) (told : Told) → LeavesAtFault wanted.file (updates_mounted e wanted m of told)
-mounted_leaves e wanted m of told = then_leaves wanted.file _ _ (answers_looks _) (λ (from : ℕ).
-    then_leaves wanted.file _ _ (answers_looks _) (λ (run : DeviceDone). write_leaves wanted m.image of.numbers run told))
+mounted_leaves : (e : Endian) (wanted : DeviceWanted) (m : Mount) (of : Numbered) (others : Option ℕ) → LeavesAtFault wanted.file (updates_mounted e wanted m of others)
+mounted_leaves e wanted m of others = then_leaves wanted.file _ _ (answers_looks _) (λ (from : ℕ).
+    then_leaves wanted.file _ _ (answers_looks _) (λ (run : DeviceDone). write_leaves wanted m.image of.numbers run (updated_told wanted others m run)))
 
 lines_leave : (e : Endian) (wanted : DeviceWanted) (image : List ℕ) (files : List ℕ → List ℕ) (lines : List Line) → LeavesAtFault wanted.file (updates_lines e wanted image files lines)
 lines_leave e wanted image files lines = then_leaves wanted.file _ _ (answers_looks _) (λ (of : Numbered).
     then_leaves wanted.file _ _ (answers_looks _) (λ (others : Option ℕ).
-    then_leaves wanted.file _ _ (answers_looks _) (λ (m : Mount). mounted_leaves e wanted m of (shown_told others m))))
+    then_leaves wanted.file _ _ (answers_looks _) (λ (m : Mount). mounted_leaves e wanted m of others)))
 
 pub text_leaves : (e : Endian) (wanted : DeviceWanted) (image : List ℕ) (before : HostFiles) (text : List ℕ) → LeavesAtFault wanted.file (updates_text e wanted image before text)
 text_leaves e wanted image before text = then_leaves wanted.file _ _ (answers_looks _) (λ (lines : List Line).
@@ -117,20 +116,20 @@ write_judges : (wanted : DeviceWanted) (image numbers : List ℕ) (run : DeviceD
 write_judges wanted image numbers run told stops = then_judges wanted.file _ _ (answers_looks _) (λ _ events f did. judged_by wanted image numbers run events f stops (made_by wanted image numbers run told events f did))
 
 -- operations run in memory, and what they did goes to the file
-run_judges : (e : Endian) (wanted : DeviceWanted) (m : Mount) (of : Numbered) (told : Told)
-    → JudgesBeforeMaking wanted.file (Then (answers (RunsOnDevice e wanted.on m.image of.ops)) (λ run. writes_device wanted m.image of.numbers run told))
-run_judges e wanted m of told events f (Ends g did is) = inl (answers_looks (RunsOnDevice e wanted.on m.image of.ops) events (Err g) did)
-run_judges e wanted m of told events f (GoesOn run before after did more is) =
+run_judges : (e : Endian) (wanted : DeviceWanted) (m : Mount) (of : Numbered) (others : Option ℕ)
+    → JudgesBeforeMaking wanted.file (Then (answers (RunsOnDevice e wanted.on m.image of.ops)) (λ run. writes_device wanted m.image of.numbers run (updated_told wanted others m run)))
+run_judges e wanted m of others events f (Ends g did is) = inl (answers_looks (RunsOnDevice e wanted.on m.image of.ops) events (Err g) did)
+run_judges e wanted m of others events f (GoesOn run before after did more is) =
     subst (λ (l : List Event). LooksOnly l ⊎ ComesLate wanted.file.name f l) (sym (is ∙ ap (λ (l : List Event). l ++ after) did.0))
-    (write_judges wanted m.image of.numbers run told did.1.stops after f more)
+    (write_judges wanted m.image of.numbers run (updated_told wanted others m run) did.1.stops after f more)
 
-mounted_judges : (e : Endian) (wanted : DeviceWanted) (m : Mount) (of : Numbered) (told : Told) → JudgesBeforeMaking wanted.file (updates_mounted e wanted m of told)
-mounted_judges e wanted m of told = then_judges wanted.file _ _ (answers_looks _) (λ (from : ℕ). run_judges e wanted m of told)
+mounted_judges : (e : Endian) (wanted : DeviceWanted) (m : Mount) (of : Numbered) (others : Option ℕ) → JudgesBeforeMaking wanted.file (updates_mounted e wanted m of others)
+mounted_judges e wanted m of others = then_judges wanted.file _ _ (answers_looks _) (λ (from : ℕ). run_judges e wanted m of others)
 
 lines_judge : (e : Endian) (wanted : DeviceWanted) (image : List ℕ) (files : List ℕ → List ℕ) (lines : List Line) → JudgesBeforeMaking wanted.file (updates_lines e wanted image files lines)
 lines_judge e wanted image files lines = then_judges wanted.file _ _ (answers_looks _) (λ (of : Numbered).
     then_judges wanted.file _ _ (answers_looks _) (λ (others : Option ℕ).
-    then_judges wanted.file _ _ (answers_looks _) (λ (m : Mount). mounted_judges e wanted m of (shown_told others m))))
+    then_judges wanted.file _ _ (answers_looks _) (λ (m : Mount). mounted_judges e wanted m of others)))
 
 pub text_judges : (e : Endian) (wanted : DeviceWanted) (image : List ℕ) (before : HostFiles) (text : List ℕ) → JudgesBeforeMaking wanted.file (updates_text e wanted image before text)
 text_judges e wanted image before text = then_judges wanted.file _ _ (answers_looks _) (λ (lines : List Line).

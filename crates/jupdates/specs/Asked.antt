@@ -1,7 +1,7 @@
 -- What is asked of `update` and `build --compress`.
-use Rattle.std.specs.Prelude.{◌*◌, ◌==◌, ℕ, Bool, false, List, Option, Some, None, if◌then◌else◌}
-use Rattle.jscan.specs.Image.{block_count}
+use Rattle.std.specs.Prelude.{◌*◌, ℕ, Bool, true, false, List, Option, Some, None, if◌then◌else◌}
 use Rattle.jlog.specs.declared.start.Flash.{Flash}
+use Rattle.jcommand.specs.Blocks.{blocks_asked}
 use Rattle.jcommand.specs.declared.parsed.Target.{Target}
 use Rattle.jcommand.specs.declared.parsed.Updating.{Updating}
 use Rattle.jdevice.specs.declared.running.DevicePlan.{DevicePlan}
@@ -11,17 +11,14 @@ use Rattle.jmakes.specs.declared.wanted.Filling.{Filling}
 use Rattle.jmakes.specs.declared.wanted.Filling.TheVariants as filling
 use Rattle.jupdates.specs.declared.asked.DeviceToWrite.{DeviceToWrite}
 
--- how the flash is written, and the file that is made
+-- how the flash is written, the file that is made, and whether it is noted that few blank blocks
+-- are left
 pub record DeviceWanted : Type 0 where
   pub on : DevicePlan
   pub file : WantedFile
+  pub notes_left : Bool
 
 -- ---- of an image that is read
-
--- as many blocks as are asked for, or as the image has or begins
-abbrev pub blocks_asked : Option ℕ → ℕ → List ℕ → ℕ
-blocks_asked None size image = if size == 0 then 0 else block_count size image
-blocks_asked (Some blocks) size image = blocks
 
 abbrev pub flash_updated : Updating (List ℕ) → List ℕ → Flash
 flash_updated u image = record {
@@ -44,14 +41,18 @@ device_wanted u image = record {
     atomic = u.placing.atomic;
     filling = filling_updated u.placing.pad (flash_updated u image);
   };
+  notes_left = true;
 }
 
 -- ---- of a new image
 
 -- a flash that is blank, which new nodes go to compressed where that is shorter, and this file
 abbrev pub device_packed : Flash → WantedFile → DeviceWanted
-device_packed flash file =
-    record { on = record { flash = flash; plain = false; tail = false }; file = file }
+device_packed flash file = record {
+  on = record { flash = flash; plain = false; tail = false };
+  file = file;
+  notes_left = false;
+}
 
 -- those that `build` is asked for
 abbrev pub device_built : Target (List ℕ) → DeviceWanted
@@ -60,4 +61,5 @@ device_built target = device_packed (flash_of_asked target) (file_asked target)
 -- ---- as the code has it
 
 abbrev pub device_to_write : DeviceToWrite → DeviceWanted
-device_to_write device = record { on = device.on; file = wanted_file device.file }
+device_to_write device =
+    record { on = device.on; file = wanted_file device.file; notes_left = device.notes_left }

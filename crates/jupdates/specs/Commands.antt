@@ -9,7 +9,6 @@ use Rattle.jcommand.specs.declared.parsed.Building.{Building}
 use Rattle.jcommand.specs.declared.parsed.Updating.{Updating}
 use Rattle.jreads.specs.Named.{NoneRead, loads_named}
 use Rattle.jedge.specs.Acts.{Act, Then, answers, loads}
-use Rattle.jedge.specs.Commands.{shown_told}
 use Rattle.jedge.specs.Images.{MountsWith, NotesNone}
 use Rattle.jedge.specs.Told.{Told}
 use Rattle.jmakes.specs.Writing.{HasOps, ReadsListingLines}
@@ -17,15 +16,15 @@ use Rattle.jupdates.specs.Asked.{DeviceWanted, device_built, device_wanted}
 use Rattle.jupdates.specs.Updating.{updates_mounted}
 
 -- The lines of a listing, with the bytes of the files that they name, are run on an image that
--- mounts through its compression, and it goes to the file. Its findings are noted, and nodes of the
--- other byte order where it has none.
+-- mounts through its compression, and it goes to the file. Its findings are noted, nodes of the
+-- other byte order where it has none, and for `update` that few blank blocks are left.
 abbrev pub updates_lines : Endian → DeviceWanted → List ℕ → (List ℕ → List ℕ) → List Line
     → Act Told
 updates_lines e wanted image files lines =
     Then (answers (HasOps e files lines)) (λ of.
     Then (answers (NotesNone e wanted.on.flash.geometry.block image)) (λ others.
     Then (answers (MountsWith true e wanted.on.flash.geometry.block image)) (λ m.
-    updates_mounted e wanted m of (shown_told others m))))
+    updates_mounted e wanted m of others)))
 
 -- A listing's lines are read, and the files that they name, but those that were read before; the
 -- lines are run on an image.

@@ -1,13 +1,15 @@
 -- What `update` does with a mounted image: operations run in its openings, in memory, and the image
 -- with what they make goes to a file.
-use Rattle.std.specs.Prelude.{◌≡◌, ◌&&◌, ℕ, Bool, true, false, is_none, List, length, None, Result, Ok, Err}
+use Rattle.std.specs.Prelude.{◌≡◌, ◌&&◌, ℕ, Bool, true, false, if◌then◌else◌, is_none, List, length, Option, None, Result, Ok, Err}
 use Rattle.jnode.specs.declared.order.Endian.{Endian}
 use Rattle.jmount.specs.Mount.{Mount}
 use Rattle.jsteps.specs.declared.op.Op.{Op}
+use Rattle.jdevice.specs.Blank.{blank_left, reserve_on}
 use Rattle.jdevice.specs.Line.{updated_line}
 use Rattle.jdevice.specs.Run.{DeviceDone, IsDeviceRun, device_image}
 use Rattle.jdevice.specs.declared.running.DevicePlan.{DevicePlan}
 use Rattle.jedge.specs.Acts.{Act, Then, answers, prints_put}
+use Rattle.jedge.specs.Commands.{left_told, shown_told}
 use Rattle.jedge.specs.Showing.{IsFrontOf}
 use Rattle.jedge.specs.Told.{Told}
 use Rattle.jedge.specs.declared.fault.Fault.{Fault}
@@ -67,9 +69,16 @@ writes_device wanted image numbers run told =
 
 -- ---- a mounted image
 
+-- What is told where an image is shown: with `notes_left` also that fewer blank blocks are left
+-- than Linux keeps in reserve.
+abbrev pub updated_told : DeviceWanted → Option ℕ → Mount → DeviceDone → Told
+updated_told wanted others m run = if wanted.notes_left
+    then left_told others (blank_left wanted.on m.image run) (reserve_on wanted.on) m
+    else shown_told others m
+
 -- It is judged whether it is gone on from; operations run in its openings; and it goes to the file.
-abbrev pub updates_mounted : Endian → DeviceWanted → Mount → Numbered → Told → Act Told
-updates_mounted e wanted m of told =
+abbrev pub updates_mounted : Endian → DeviceWanted → Mount → Numbered → Option ℕ → Act Told
+updates_mounted e wanted m of others =
     Then (answers (IsStartedBehind e wanted.on.flash m)) (λ _.
     Then (answers (RunsOnDevice e wanted.on m.image of.ops)) (λ run.
-    writes_device wanted m.image of.numbers run told))
+    writes_device wanted m.image of.numbers run (updated_told wanted others m run)))

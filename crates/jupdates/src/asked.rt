@@ -3,33 +3,20 @@ ghost use Rattle.std.specs.Prelude.{◌≡◌, ◌≤◌, length};
 ghost use Rattle.jscan.specs.Image.{greatest_image};
 ghost use Rattle.jcommand.specs.Parsed.{target_view, updating_view};
 ghost use Rattle.jmakes.specs.Making.{wanted_file};
-ghost use Rattle.jupdates.specs.Asked.{blocks_asked, device_built, device_packed, device_to_write, device_wanted, filling_updated, flash_updated};
+ghost use Rattle.jupdates.specs.Asked.{device_built, device_packed, device_to_write, device_wanted, filling_updated, flash_updated};
 
-use jcommand::{Target, Updating};
+use jcommand::{Target, Updating, blocks_asked};
 use jdevice::DevicePlan;
 use jlog::Flash;
 use jmakes::wanted::{Filling, Wanted};
-use jscan::Geometry;
 
-/// How a flash is written, and the file that is made.
+/// How a flash is written, the file that is made, and whether it is noted that few blank blocks are
+/// left.
 #[derive(Clone, Copy)]
 pub struct DeviceToWrite<'a> {
     pub on: DevicePlan,
     pub file: Wanted<'a>,
-}
-
-/// As many blocks as are asked for, or as an image has or begins.
-fn blocks_asked(blocks: Option<u32>, geometry: Geometry, image: &[u8]) -> u32
-    requires { length image.now ≤ greatest_image }
-    ensures { result ≡ blocks_asked blocks geometry.block image.now }
-{
-    match blocks {
-        Some(blocks) => blocks,
-        None => match geometry.block {
-            0 => 0,
-            size => (image.len() as u32).div_ceil(size),
-        },
-    }
+    pub notes_left: bool,
 }
 
 /// The flash that is written.
@@ -74,6 +61,7 @@ pub fn device_of<'a>(asked: Updating<&'a str>, image: &[u8]) -> DeviceToWrite<'a
             atomic: asked.placing.atomic,
             filling: filling_of(asked.placing.pad, flash),
         },
+        notes_left: true,
     }
 }
 
@@ -88,6 +76,7 @@ pub fn device_packed<'a>(flash: Flash, file: Wanted<'a>) -> DeviceToWrite<'a>
             tail: false,
         },
         file,
+        notes_left: false,
     }
 }
 

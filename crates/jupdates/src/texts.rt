@@ -12,7 +12,6 @@ use jbuild::HostFiles;
 use jedge::fault::Fault;
 use jedge::found::Found;
 use jedge::mounting::mounted_as;
-use jedge::subject::shown;
 use jlisting::Line;
 use jmakes::host::FileHost;
 use jmakes::numbered::numbered;
@@ -43,9 +42,7 @@ fn update_lines<'b, 'a: 'b, E: Order, H: FileHost>(
     let others = others_if_none::<E>(image, geometry);
     let mut contents = Vec::new(host.alloc());
     match mounted_as::<E>(host.alloc(), image, geometry, true, &mut contents) {
-        Ok(mounted) => {
-            update_mounted::<E, H>(host, device, &mounted, &of, shown(&mounted, others))
-        }
+        Ok(mounted) => { update_mounted::<E, H>(host, device, &mounted, &of, others) }
         Err(fault) => Err(fault),
     }
 }

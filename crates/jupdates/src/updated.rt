@@ -3,22 +3,25 @@ ghost use Rattle.std.specs.Prelude.{◌≡◌, ◌*◌, ◌≤◌, true, IsOk, s
 ghost use Rattle.jscan.specs.Image.{is_block_size, greatest_image};
 ghost use Rattle.jopenings.specs.Stretches.{AreStretches};
 ghost use Rattle.jview.specs.Through.{IsMountThroughOf};
+ghost use Rattle.jdevice.specs.Blank.{blank_left, reserve_on};
 ghost use Rattle.jdevice.specs.Run.{device_done};
 ghost use Rattle.jedge.specs.Acts.{DoesFrom, seen_as};
+ghost use Rattle.jedge.specs.Commands.{left_told};
 ghost use Rattle.jedge.specs.Told.{found_told};
 ghost use Rattle.jmakes.specs.Seen.{done_seen, numbered_seen};
 ghost use Rattle.jmakes.specs.Writing.{EndsAs, IsStartedBehind, ending_of, plan_on};
 ghost use Rattle.jlog.specs.Resuming.{resumes};
 ghost use Rattle.jupdates.specs.Asked.{device_to_write};
-ghost use Rattle.jupdates.specs.Updating.{RunsOnDevice, ran_of, updates_mounted, writes_device};
+ghost use Rattle.jupdates.specs.Updating.{RunsOnDevice, ran_of, updated_told, updates_mounted, writes_device};
 
 use crate::asked::DeviceToWrite;
 use crate::making::make_device;
 use crate::printing::print_updated;
 use jbuild::Emitted;
-use jdevice::{DevicePlan, DeviceRun, run_on_device};
+use jdevice::{DevicePlan, DeviceRun, blank_left, reserve_on, run_on_device};
 use jedge::fault::Fault;
 use jedge::found::Found;
+use jedge::subject::{left_found, shown};
 use jlog::{Flash, RunReport};
 use jmakes::emitting::ImageMade;
 use jmakes::ending::{DoneOps, ended};
@@ -137,6 +140,48 @@ fn write_device<H: FileHost>(
     }
 }
 
+/// What is told of a mount whose openings a run wrote: what is noted of it, and that few blank
+/// blocks are left.
+fn left_of(
+    on: DevicePlan,
+    mounted: &Mounted<'_>,
+    others: Option<u64>,
+    run: &DeviceRun,
+) -> Found<'static>
+    requires readable { is_block_size on.flash.geometry.block ≡ true }
+    requires small { on.flash.blocks * on.flash.geometry.block ≤ greatest_image }
+    requires lie { AreStretches on.flash.geometry.block 0 on.flash.blocks
+        (device_done run.now).stretches }
+    ensures { found_told result ≡ left_told others (blank_left on mounted.now.image
+        (device_done run.now)) (reserve_on on) mounted.now }
+{
+    let left = blank_left(on, mounted.image(), run);
+    let reserve = reserve_on(on);
+    left_found(mounted, others, u64::from(left), u64::from(reserve))
+}
+
+/// What is told of it where that is to be noted, or not.
+fn updated_found(
+    device: DeviceToWrite<'_>,
+    mounted: &Mounted<'_>,
+    others: Option<u64>,
+    run: &DeviceRun,
+) -> Found<'static>
+    requires readable { is_block_size device.on.flash.geometry.block ≡ true }
+    requires small { device.on.flash.blocks * device.on.flash.geometry.block
+        ≤ greatest_image }
+    requires lie { AreStretches device.on.flash.geometry.block 0
+        device.on.flash.blocks (device_done run.now).stretches }
+    ensures { found_told result
+        ≡ updated_told (device_to_write device.entry) others mounted.now (device_done run.now) }
+{
+    if device.notes_left {
+        left_of(device.on, mounted, others, run)
+    } else {
+        shown(mounted, others)
+    }
+}
+
 /// Runs operations in the openings of an image mounted through its compression, and writes it with
 /// what they make.
 pub(crate) fn update_mounted<E: Order, H: FileHost>(
@@ -144,19 +189,22 @@ pub(crate) fn update_mounted<E: Order, H: FileHost>(
     device: DeviceToWrite<'_>,
     mounted: &Mounted<'_>,
     of: &NumberedOps<'_>,
-    found: Found<'static>,
+    others: Option<u64>,
 ) -> Result<Found<'static>, Fault>
     requires { IsMountThroughOf E.order device.on.flash.geometry.block mounted.now }
     ensures { DoesFrom (H.history host.old) (H.history host.new)
         (updates_mounted E.order (device_to_write device.entry) mounted.now
-        (numbered_seen of.now) (found_told found.entry)) (seen_as found_told result) }
+        (numbered_seen of.now) others) (seen_as found_told result) }
 {
     match judge::<E>(mounted, device.on.flash) {
         Ok(_) => {}
         Err(fault) => return Err(fault),
     }
     match run::<E>(host.alloc(), mounted, device.on, &of.ops) {
-        Ok(run) => write_device(host, device, mounted.image(), &of.numbers, run, found),
+        Ok(run) => {
+            let found = updated_found(device, mounted, others, &run);
+            write_device(host, device, mounted.image(), &of.numbers, run, found)
+        }
         Err(fault) => Err(fault),
     }
 }

@@ -16,7 +16,7 @@ returns-in-Ok-mounted_as g c =
     let m = c.in-Ok-mounted_as.mounted in
     let of = numbered_seen c.in-Ok.of in
     then_ok (answered c.in-Ok.ensures) (then_ok (answered c.others_if_none-others.ensures) (then_ok (answered c.in-Ok-mounted_as.ensures)
-    (does_at (λ (told : Told). updates_mounted g.E.Order.order (device_to_write c.args.device) m of told) c.shown.ensures c.update_mounted.ensures)))
+    c.update_mounted.ensures))
 
 pub returns : goal.returns
 returns g c =

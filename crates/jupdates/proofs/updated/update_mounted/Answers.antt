@@ -3,10 +3,10 @@ use Rattle.std.specs.Prelude.{IsOk}
 use Rattle.jsteps.specs.declared.op.Op.{Op}
 use Rattle.jdevice.specs.Run.{device_done}
 use Rattle.jdevice.proofs.RunLemmas.{gone_on_at}
-use Rattle.jedge.specs.Told.{found_told}
+use Rattle.jedge.specs.Told.{Told}
 use Rattle.jedge.proofs.Steps.{answered, answered_at, does_at, then_err, then_ok}
 use Rattle.jupdates.specs.Asked.{device_to_write}
-use Rattle.jupdates.specs.Updating.{RunsOnDevice, writes_device}
+use Rattle.jupdates.specs.Updating.{RunsOnDevice, updated_told, writes_device}
 use Rattle.jupdates.proofs.updated.update_mounted.Goals as goal
 
 pub returns-in-Err : goal.returns-in-Err
@@ -14,6 +14,15 @@ returns-in-Err g c = then_err (answered c.in-Err.ensures)
 
 pub run-requires-clause-goes_on : goal.run-requires-clause-goes_on
 run-requires-clause-goes_on g c = subst IsOk (sym c.in-Ok.ensures) refl
+
+pub updated_found-found-requires-clause-readable : goal.updated_found-found-requires-clause-readable
+updated_found-found-requires-clause-readable g c = (gone_on_at g.E.Order.order c.args.device.on.flash c.args.mounted.now _ c.in-Ok.ensures).readable
+
+pub updated_found-found-requires-clause-small : goal.updated_found-found-requires-clause-small
+updated_found-found-requires-clause-small g c = (gone_on_at g.E.Order.order c.args.device.on.flash c.args.mounted.now _ c.in-Ok.ensures).small
+
+pub updated_found-found-requires-clause-lie : goal.updated_found-found-requires-clause-lie
+updated_found-found-requires-clause-lie g c = c.in-Ok-run.ensures.lie
 
 pub write_device-requires-clause-readable : goal.write_device-requires-clause-readable
 write_device-requires-clause-readable g c = (gone_on_at g.E.Order.order c.args.device.on.flash c.args.mounted.now _ c.in-Ok.ensures).readable
@@ -31,10 +40,12 @@ returns-in-Ok-run g c =
     let m = a.mounted.now in
     let wanted = device_to_write a.device in
     let run = device_done c.in-Ok-run.run' in
+    let told = updated_told wanted a.others m run in
     then_ok (answered c.in-Ok.ensures)
     (then_ok (answered_at (λ (ops : List Op). RunsOnDevice e a.device.on m.image ops) c.deref.ensures.value c.in-Ok-run.ensures)
-    (does_at (λ (i : List ℕ). writes_device wanted i a.of.now.numbers.items run (found_told a.found)) c.image.ensures
-    (does_at (λ (n : List ℕ). writes_device wanted c.image.result.now n run (found_told a.found)) c.deref-in-Ok-run.ensures.value c.write_device.ensures)))
+    (does_at (λ (i : List ℕ). writes_device wanted i a.of.now.numbers.items run told) c.image.ensures
+    (does_at (λ (n : List ℕ). writes_device wanted c.image.result.now n run told) c.deref-in-Ok-run.ensures.value
+    (does_at (λ (t : Told). writes_device wanted c.image.result.now c.deref-in-Ok-run.result.now run t) c.updated_found-found.ensures c.write_device.ensures))))
 
 pub returns-in-Err-run : goal.returns-in-Err-run
 returns-in-Err-run g c =
