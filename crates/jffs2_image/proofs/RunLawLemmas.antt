@@ -22,7 +22,7 @@ use Rattle.jreads.proofs.LookLemmas.{cuts_read_only}
 use Rattle.jreads.proofs.ScanLawLemmas.{scan_reads_only}
 use Rattle.jfolders.specs.Reading.{listing_settings}
 use Rattle.jfolders.proofs.ReadLaws.{reading_makes_nothing}
-use Rattle.jforetells.proofs.ForetellLaws.{cuts_through_reads_only}
+use Rattle.jforetells.proofs.ForetellLaws.{cuts_through_reads_only, cuts_update_reads_only}
 use Rattle.jmakes.specs.Commands.{Append, Build}
 use Rattle.jmakes.specs.Writing.{image_asked}
 use Rattle.jmakes.specs.Leaving.{LeavesFiles}
@@ -54,6 +54,7 @@ command_looks (command.Append a) is = absurd is
 command_looks (command.Update u) is = absurd is
 command_looks (command.Cuts c) is = cuts_read_only c.options c.blocks c.page c.on c.listing
 command_looks (command.CutsThrough c) is = cuts_through_reads_only c.options.endian c
+command_looks (command.CutsUpdate c) is = cuts_update_reads_only c.options.endian c
 command_looks (command.Decompress c) is = absurd is
 command_looks (command.Apart c) is = absurd is
 command_looks (command.Compress c) is = absurd is
@@ -87,6 +88,7 @@ product_kept o (command.Append x) = refl
 product_kept o (command.Update x) = refl
 product_kept o (command.Cuts x) = refl
 product_kept o (command.CutsThrough x) = refl
+product_kept o (command.CutsUpdate x) = refl
 product_kept o (command.Decompress x) = refl
 product_kept o (command.Apart x) = refl
 product_kept o (command.Compress x) = refl
@@ -132,6 +134,7 @@ command_leaves (command.Append a) events f atomic other did =
 command_leaves (command.Update u) events f atomic other did = update_leaves_files u.options.endian u events f atomic other did
 command_leaves (command.Cuts c) events f atomic other did = absurd atomic
 command_leaves (command.CutsThrough c) events f atomic other did = absurd atomic
+command_leaves (command.CutsUpdate c) events f atomic other did = absurd atomic
 command_leaves (command.Decompress c) events f atomic other did = remade_is_left (Decompress (remaking_asked None c)) events f atomic other did
 command_leaves (command.Apart c) events f atomic other did = remade_is_left (Apart (remaking_asked None c)) events f atomic other did
 command_leaves (command.Compress c) events f atomic other did = remade_is_left (Compress (remaking_asked None c)) events f atomic other did

@@ -41,6 +41,7 @@ product_of (command.Append a) = NewFile a.target.placing
 product_of (command.Update u) = NewFile u.placing
 product_of (command.Cuts c) = NoProduct
 product_of (command.CutsThrough c) = NoProduct
+product_of (command.CutsUpdate c) = NoProduct
 product_of (command.Decompress c) = NewFile c.placing
 product_of (command.Apart c) = NewFile c.placing
 product_of (command.Compress c) = NewFile c.placing

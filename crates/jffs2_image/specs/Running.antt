@@ -28,7 +28,7 @@ use Rattle.jremakes.specs.Asked.{AskedRemaking}
 use Rattle.jremakes.specs.Commands.{apart_act, compact_act, compact_apart_act, compress_act, decompress_act}
 use Rattle.jfolders.specs.Commands.{extract_act, listing_act}
 use Rattle.jfolders.specs.Reading.{listing_settings}
-use Rattle.jforetells.specs.Foretelling.{cuts_through_act}
+use Rattle.jforetells.specs.Foretelling.{cuts_through_act, cuts_update_act}
 use Rattle.jpacks.specs.Packing.{filling_packed, pack_act, pack_compressed_act}
 use Rattle.jupdates.specs.Commands.{build_compressed_act, update_act}
 use Rattle.jverifies.specs.Verifying.{verify_act}
@@ -69,6 +69,7 @@ command_act (command.Append a) =
 command_act (command.Update u) = update_act u.options.endian u
 command_act (command.Cuts c) = cuts_act c.options c.blocks c.page c.on c.listing
 command_act (command.CutsThrough c) = cuts_through_act c.options.endian c
+command_act (command.CutsUpdate c) = cuts_update_act c.options.endian c
 command_act (command.Decompress c) = decompress_act (remaking_asked None c)
 command_act (command.Apart c) = apart_act (remaking_asked None c)
 command_act (command.Compress c) = compress_act (remaking_asked None c)

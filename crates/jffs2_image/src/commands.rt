@@ -10,7 +10,7 @@ use jcommand::{Command, Outcome};
 use jedge::commands::{run_cat, run_check, run_damage, run_diff, run_info, run_list};
 use jfolders::commands::{run_extract, run_listing};
 use jfolders::host::FolderHost;
-use jforetells::commands::run_cuts_through;
+use jforetells::commands::{run_cuts_through, run_cuts_update};
 use jinspects::commands::{run_check_through, run_map};
 use jmakes::commands::{run_append, run_build};
 use jmakes::host::FileHost;
@@ -48,6 +48,7 @@ pub fn run_command<E: Order, H: FileHost + FilesHost + StreamHost + FolderHost>(
         Command::Update(asked) => run_update::<E, H>(host, asked),
         Command::Cuts(asked) => run_cuts::<E, H>(host, asked),
         Command::CutsThrough(asked) => run_cuts_through::<E, H>(host, asked),
+        Command::CutsUpdate(asked) => run_cuts_update::<E, H>(host, asked),
         Command::Decompress(asked) => run_decompress::<E, H>(host, remaking(asked, None)),
         Command::Apart(asked) => run_apart::<E, H>(host, remaking(asked, None)),
         Command::Compress(asked) => run_compress::<E, H>(host, remaking(asked, None)),

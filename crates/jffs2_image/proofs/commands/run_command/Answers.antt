@@ -1,10 +1,11 @@
 use Rattle.std.proofs.Common.{ℕ, List, ◌∙◌, ap, sym}
 use Rattle.std.specs.Borrow.{Bor}
 use Rattle.jnode.specs.declared.order.Endian.{Endian}
-use Rattle.jcommand.specs.Parsed.{command_view, order_asked, packing_view, target_view, updating_view}
+use Rattle.jcommand.specs.Parsed.{command_view, order_asked, packing_view, target_view, update_cuts_view, updating_view}
 use Rattle.jcommand.specs.declared.parsed.Command.{Command}
 use Rattle.jedge.specs.Commands.{reported}
 use Rattle.jedge.proofs.Steps.{does_at}
+use Rattle.jforetells.specs.Foretelling.{cuts_update_act}
 use Rattle.jmakes.specs.Commands.{append_act, build_act}
 use Rattle.jmakes.specs.Writing.{image_asked}
 use Rattle.jpacks.specs.Packing.{pack_act}
@@ -80,6 +81,11 @@ pub returns-in-Cuts : goal.returns-in-Cuts
 returns-in-Cuts g c =
     does_at (λ (k : Command (Bor (List ℕ))). reported (command_act (command_view k))) (sym c.in-Cuts.is)
     c.run_cuts.ensures
+
+pub returns-in-CutsUpdate : goal.returns-in-CutsUpdate
+returns-in-CutsUpdate g c =
+    does_at (λ (k : Command (Bor (List ℕ))). reported (command_act (command_view k))) (sym c.in-CutsUpdate.is)
+    (does_at (λ (e : Endian). reported (cuts_update_act e (update_cuts_view c.in-CutsUpdate.asked))) (sym (ap order_asked (sym c.in-CutsUpdate.is) ∙ c.requires)) c.run_cuts_update.ensures)
 
 pub returns-in-Decompress : goal.returns-in-Decompress
 returns-in-Decompress g c =
