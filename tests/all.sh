@@ -64,6 +64,7 @@ tests/compact.py $program
 tests/map.py $program
 tests/update.py $program
 tests/cuts_through.py $program
+tests/cuts_update.py $program
 tests/damage.py $program
 tests/retry.py $program
 tests/diff.py $program

@@ -50,7 +50,7 @@ def options_in(body, bodies):
         options |= {f"--{name}", f"-{letter}"} if letter else {f"--{name}"}
     options |= {f"-{letter}" for letter in re.findall(r"\.short\('(\w)'\)", body)}
     makers = ("make_plain|make_block|make_reader|make_writer|make_noting|add_auto|add_atomic"
-              "|add_compressing|add_replacing|add_placing|add_settings")
+              "|add_compressing|add_replacing|add_placing|add_updating|add_settings")
     for below in re.findall(rf"\b({makers})\(", body):
         options |= options_in(bodies[below], bodies)
     return options

@@ -303,20 +303,30 @@ unmade_of() {
     run decompress "$@" nowhere/none.img; want 1 "" "$fault"
     run append --decompress --blocks 64 "$@" create none.img; want 1 "" "$fault"; unmade none.img
 }
-# unseen_of FAULT WORD..: the commands that look at it
-unseen_of() {
+# unjudged_of FAULT WORD..: the commands that look at all of it
+unjudged_of() {
     local fault="jffs2_image: $1"
     shift
-    run ls --decompress "$@"; want 1 "" "$fault"
-    run cat --decompress "$@" /a; want 1 "" "$fault"
     run damage --decompress "$@"; want 1 "" "$fault"
     run diff --decompress "$@" "${@: -1}"; want 1 "" "$fault"
     run extract --decompress "$@" none.img; want 1 "" "$fault"; unmade none.img
 }
-# refused FAULT WORD..: all of them
+# refused FAULT WORD..: all commands
 refused() {
     unmade_of "$@"
-    unseen_of "$@"
+    unjudged_of "$@"
+    local fault="jffs2_image: $1"
+    shift
+    run ls --decompress "$@"; want 1 "" "$fault"
+    run cat --decompress "$@" /a; want 1 "" "$fault"
+}
+# refused_data FAULT WORD..: all but `ls` and `cat`, which decompress only what they show
+refused_data() {
+    unmade_of "$@"
+    unjudged_of "$@"
+    shift
+    run ls --decompress "$@"; want 0 "$root"$'\n- 0644 11 12 18 14 2 /a*' ""
+    run cat --decompress "$@" /a; want 0 "abcabcabcabcabcabc" ""
 }
 refused "${unopened_none#jffs2_image: }" none
 refused "${unread_folder#jffs2_image: }" folder
@@ -325,12 +335,26 @@ for value in 0 4095 4097 4194308 4294967295; do
     refused "M1 BlockSize$block_note" --block $value good
 done
 refused "M3 Incompatible at 0000008c type e0f7" later
-refused "M4 Compressed at 0000008c compr 3$(unread_note 3 'RUBINMIPS, which is not read')" wrong_method
+rubin_note=$(unread_note 3 'RUBINMIPS, which is not read')
+refused_data "M4 Compressed at 0000008c compr 3$rubin_note" wrong_method
 for name in rtime zlib lzo lzma; do
-    refused "Z1 Data at 0000008c" wrong_$name
+    refused_data "Z1 Data at 0000008c" wrong_$name
     run ls wrong_$name; want 1 "" $'jffs2_image: M4 Compressed at 00000038 compr 6\n'"$note"
 done
-refused "Z2 TooLong at 0000008c" "${small[@]}" long
+refused_data "Z2 TooLong at 0000008c" "${small[@]}" long
+run cat --decompress "${small[@]}" long /long; want 1 "" "jffs2_image: Z2 TooLong at 0000008c"
+# A file of a method that is not read is listed, and hides no other; a symlink is not.
+refused_data "M4 Compressed at 000000b8 compr 3$rubin_note" unread_file
+of_b="jffs2_image: M4 Compressed at 000000b8 compr 3$rubin_note"
+run ls --decompress unread_file
+want 0 "$root"$'\n- 0644 11 12 18 14 2 /a\n- 0644 11 12 4 14 7 /b' ""
+run ls --decompress unread_file /b; want 0 "- 0644 11 12 4 14 7 /b" ""
+run cat --decompress unread_file /b; want 1 "" "$of_b"
+run cat --decompress unread_file /none; want 1 "" "jffs2_image: P3 Path NotFound"
+run ls --decompress unread_link; want 1 "" "$of_b"
+run ls --decompress unread_link /a; want 1 "" "$of_b"
+run cat --decompress unread_link /b; want 1 "" "$of_b"
+run cat --decompress unread_link /a; want 0 "abcabcabcabcabcabc" ""
 unmade_of "S3 ReadOnly" read_only
 unmade_of "S7 Geometry$small_block" --block 4096 good
 unmade_of "S7 Geometry$small_block" --block 8188 good
@@ -343,7 +367,7 @@ done
 # Of two faults the first in this order
 refused "${unopened_none#jffs2_image: }" --block 4097 none
 refused "M1 BlockSize$block_note" --block 4097 wrong_zlib
-refused "Z1 Data at 0000008c" --block 4096 wrong_zlib
+refused_data "Z1 Data at 0000008c" --block 4096 wrong_zlib
 unmade_of "S3 ReadOnly" --block 4096 read_only
 run ls later; want 1 "" $'jffs2_image: M4 Compressed at 00000038 compr 6\n'"$note"
 # `check` prints them behind its report, and looks no further.
@@ -367,10 +391,11 @@ run cat --block 8196 --decompress long /long; whole piece
 # The note on a method that is not read names it: --decompress does not help.
 tail -c +141 wrong_method > unread
 { marker; cat unread; } > wrong_alone
-for words in "ls wrong_alone" "ls --decompress wrong_alone" "cat wrong_alone /a" \
+for words in "ls wrong_alone" "damage --decompress wrong_alone" "cat wrong_alone /a" \
     "append --blocks 2 wrong_alone create none.img" "decompress wrong_alone none.img"; do
-    run $words; want 1 "" "jffs2_image: M4 Compressed at 0000000c compr 3$(unread_note 3 'RUBINMIPS, which is not read')"
+    run $words; want 1 "" "jffs2_image: M4 Compressed at 0000000c compr 3$rubin_note"
 done
+run ls --decompress wrong_alone; want 0 "$root" ""
 unmade none.img
 # What does not mount is decompressed all the same.
 run decompress clash out.img; want 0 "decompressed 2 nodes 3 bytes 232" ""

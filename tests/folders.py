@@ -19,6 +19,7 @@ import time
 import hostile_images as images
 from groups import PROGRAM, Done, run_all, verdict, write
 from hostile_images import DIRECTORY, entry, inode, laid
+from sentences import lines_of
 
 SYMLINK = 0o120777
 TIME = 1000000000
@@ -172,7 +173,7 @@ def packed():
     verdict("an empty folder", done == by_hand("nothing", ["--owner", "0", "0", "--time", "0"], ["--blocks", "1"], "by_hand.img"), done)
     with open("/dev/full", "wb") as full_disk:
         done = run("pack", "plain/tree", "packed.img", stdout=full_disk, stderr=subprocess.PIPE)
-        verdict("a full output", (done.status, done.err) == (1, b"jffs2_image: P5 Output\n"), done)
+        verdict("a full output", (done.status, done.err) == (1, lines_of("P5 Output").encode()), done)
         done = run("pack", "no such folder", "unmade.img", stdout=subprocess.PIPE, stderr=full_disk)
         verdict("notes on a full stream", done.status == 1 and not os.path.exists("unmade.img"), done)
 
@@ -406,7 +407,7 @@ def on_bad_streams():
     """A listing that does not go out whole is a fault."""
     with open("/dev/full", "wb") as full:
         done = run("listing", "plain/tree", stdout=full, stderr=subprocess.PIPE)
-        verdict("a full output", (done.status, done.err) == (1, b"jffs2_image: P5 Output\n"), done)
+        verdict("a full output", (done.status, done.err) == (1, lines_of("P5 Output").encode()), done)
         done = run("listing", "odd2", stdout=subprocess.PIPE, stderr=full)
         verdict("notes on a full stream", done.status == 1, done)
 
@@ -681,7 +682,7 @@ def paths_of_no_part():
         for words in ([], ["--decompress"])[:1 if "M5" in fault else 2]:
             done = run("extract", *words, image, folder, path)
             note = CLASH_NOTE if "M5" in fault else ""
-            told = f"jffs2_image: {fault}\n{note}".encode()
+            told = f"{lines_of(fault)}{note}".encode()
             verdict(f"{fault} of {path} {words}", done == Done(1, b"", told), done)
     verdict("no folder is made of it", not os.path.exists("new") and os.listdir("there") == [])
     done = run("extract", "part.img", "new", "/d/f", "/d")
@@ -698,7 +699,7 @@ def a_full_disk():
     try:
         write("large.img", laid(node for k in range(60) for node in (inode(k + 2, 1, 0, 4000, b"x" * 4000), entry(1, k + 1, k + 2, b"%02d" % k))))
         done = run("extract", "large.img", "small_disk/new")
-        verdict("a full disk", done == Done(1, b"", b"jffs2_image: P7 NoSpace small_disk/new\n"), done)
+        verdict("a full disk", done == Done(1, b"", lines_of("P7 NoSpace small_disk/new").encode()), done)
     finally:
         subprocess.run(["umount", "small_disk"], check=True)
 

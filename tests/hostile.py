@@ -20,8 +20,12 @@ import hostile_images as images
 import hostile_model as model
 import hostile_rows as rows
 from groups import PROGRAM, ROOT, Done, run_all, verdict, write
+from sentences import lines_of, sentence_of
 
-NO_MEMORY = re.compile(rb"((?:left out .*\n)*)jffs2_image: (?:L3|C5|M7|P6|S5) OutOfMemory(?: line \d+)?\n")
+NO_MEMORY = re.compile(
+    rb"((?:left out .*\n)*)jffs2_image: (?:L3|C5|M7|P6|S5) OutOfMemory(?: line \d+)?\n"
+    + re.escape(sentence_of("P6 OutOfMemory").encode())
+)
 NOTE = (
     b"jffs2_image: note: %d %s, see check --scan; "
     b"a wrong --block or --endian shows as findings too, see info\n"
@@ -32,7 +36,7 @@ CLASH = (
 )
 UNPAIRED = b"jffs2_image: note: two nodes differ; decompress --clashes higher keeps that of the higher address\n"
 BLOCK = b"jffs2_image: note: --block takes a multiple of 4 from 4096 to 4194304\n"
-OUTPUT = b"jffs2_image: P5 Output\n"
+OUTPUT = lines_of("P5 Output").encode()
 SIZES = 10
 # A command is given up after so many seconds.
 PATIENCE = 120
@@ -368,7 +372,7 @@ def fault(text):
         note = UNPAIRED
     if text.startswith("M4 "):
         note = opened.method_note(int(text.split()[-1])).encode()
-    return Done(1, b"", f"jffs2_image: {text}\n".encode() + note)
+    return Done(1, b"", lines_of(text).encode() + note)
 
 
 NOWHERE = b"d 0755 0 0 0 0 1 /\n"

@@ -8,6 +8,7 @@ import subprocess
 import sys
 
 from groups import PROGRAM, ROOT, Done, run_all, verdict, write
+from sentences import lines_of
 
 # What is made first, and where its nodes go.
 MADE = ((0x0C, "inode", 68), (0x50, "entry", 44))
@@ -111,7 +112,7 @@ def refused():
     for blocks, lines, told, length in REFUSED:
         for order in ORDERS:
             done = build(("--block", "8192", "--endian", order), blocks, lines)
-            verdict(f"{lines}, {order}", done == Done(1, b"", f"jffs2_image: {told}\n".encode()), done)
+            verdict(f"{lines}, {order}", done == Done(1, b"", lines_of(told).encode()), done)
             verdict(f"{length} bytes of {lines}, {order}", len(read("built")) == length)
 
 

@@ -42,8 +42,9 @@ OTHERS = ("Tests", "Benchmarks")
 CLAUSE = re.compile(r"(requires|ensures\*?)(?: (\w+))? \{(.*)\}\s*;?", re.S)
 # where specs/ say what each command does, in the order of the page
 ACTS = ("jedge/specs/Commands", "jreads/specs/Scanning", "jreads/specs/Cutting",
-        "jmakes/specs/Commands", "jremakes/specs/Commands", "jfolders/specs/Commands",
-        "jpacks/specs/Packing", "jverifies/specs/Verifying", "jffs2_image/specs/Running")
+        "jforetells/specs/Foretelling", "jmakes/specs/Commands", "jremakes/specs/Commands",
+        "jfolders/specs/Commands", "jpacks/specs/Packing", "jverifies/specs/Verifying",
+        "jffs2_image/specs/Running")
 KINDS = r"(?:pub|unfoldable|abbrev|record|data|opaque) "
 HEAD = re.compile(rf"(?:{KINDS})+(\S+)")
 

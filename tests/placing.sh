@@ -88,7 +88,7 @@ run append "${flash[@]}" --blocks 48 --pad --weak plain text out.img; want 0 "ac
 length out.img 393216
 # A fault pads nothing.
 for options in --pad "--pad --weak"; do
-    run build "${flash[@]}" --blocks 16 $options wrong out.img; want 1 "" "jffs2_image: S*line 2"
+    run build "${flash[@]}" --blocks 16 $options wrong out.img; want 1 "" "jffs2_image: S1 Refused O5 Exists line 2"
     [[ $(stat -c %s out.img) -lt 131072 ]]; count $?
 done
 # What can't be padded to its end.
@@ -150,11 +150,11 @@ rm out.img.tmp*
 # ---- after a fault
 
 cp old out.img
-run build "${flash[@]}" --blocks 16 --atomic wrong out.img; holds 1 "" "jffs2_image: S*line 2"
+run build "${flash[@]}" --blocks 16 --atomic wrong out.img; holds 1 "" "jffs2_image: S1 Refused O5 Exists line 2"
 run build "${flash[@]}" --blocks 16 --atomic nothing out.img; holds 1 "" "jffs2_image: P2 Listing line 1*no operation has this name"
 run build "${flash[@]}" --blocks 16 --atomic none out.img; holds 1 "" "$(unopened none)"
 run build "${flash[@]}" --blocks 1 --atomic text out.img; holds 1 "" "jffs2_image: S*"
-run build --weak "${flash[@]}" --blocks 16 --atomic wrong out.img; holds 1 "" "jffs2_image: S*line 2"
+run build --weak "${flash[@]}" --blocks 16 --atomic wrong out.img; holds 1 "" "jffs2_image: S1 Refused O5 Exists line 2"
 run append "${flash[@]}" --blocks 1 --atomic plain text out.img; holds 1 "" "jffs2_image: S*"
 run append "${flash[@]}" --blocks 48 --atomic none text out.img; holds 1 "" "$(unopened none)"
 run decompress "${flash[@]}" --atomic none out.img; holds 1 "" "$(unopened none)"
@@ -207,7 +207,7 @@ fi
 
 ln -s out.img link; ln -s link second; ln -s none lost
 cp old out.img
-run build "${flash[@]}" --blocks 16 --atomic wrong second; holds 1 "" "jffs2_image: S*"
+run build "${flash[@]}" --blocks 16 --atomic wrong second; holds 1 "" "jffs2_image: S1 Refused O5 Exists line 2"
 run build "${flash[@]}" --blocks 16 --atomic create second; want 0 "accepted *" ""; same out.img plain; alone
 [[ -L link && -L second ]]; count $?
 run build "${flash[@]}" --blocks 16 --atomic create lost; want 0 "accepted *" ""; same lost plain; alone

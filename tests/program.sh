@@ -920,7 +920,12 @@ run append "${small[@]}" --blocks 4 --endian big "$tree" create_b built; want 0 
 run append --weak --blocks 2 --endian big file create_b built; want 0 "accepted 1 nodes 2 bytes 124" "$(unseen "[1-9]*" 2)"
 run append --decompress --blocks 2 other create_b built; want 0 "accepted 1 nodes 2 bytes 124" "$(unseen 1)"
 run append --blocks 1 flipped create_b built; want 1 "" "jffs2_image: S2 Full needed 112 free 0 line 1$(fits 2)"
-run update --blocks 2 flipped create_b built; want 0 "accepted 1 nodes 2 bytes 124" "$(noted 1)"
+# So is, of `update`, that fewer blank blocks are left than Linux keeps in reserve.
+run update --blocks 2 flipped create_b built
+want 0 "accepted 1 nodes 2 bytes 124" "$(noted 1)"$'\n'"jffs2_image: note: 0 blank blocks are left, Linux keeps 3 in reserve"
+run update --blocks 3 file create_b built
+want 0 "accepted 1 nodes 2 bytes 124" "jffs2_image: note: 1 blank block is left, Linux keeps 3 in reserve"
+run update --blocks 5 file create_b built; want 0 "accepted 1 nodes 2 bytes 124" ""
 run update flipped create_b built; want 1 "" "jffs2_image: S2 Full needed 112 free 0 line 1"
 run update none create_b built; want 1 "" "$(unopened none)"
 run update flipped none built; want 1 "" "$(unopened none)"
@@ -1193,13 +1198,13 @@ block_of() {
 }
 jffs2_image() { "$program" "$@"; }
 mkdir power_cuts
-for block in 1 2 3 4 5 6 7; do
+for block in 1 2 3 4 5 6 7 8; do
     line="docs/POWER-CUTS.md, commands $block"
     (cd power_cuts && set -e && eval "$(block_of sh $block)") > out 2> err; got=$?
     want 0 "$(block_of text $block)" "*"
 done
-line="docs/POWER-CUTS.md has seven blocks of commands on cuts, the last of four lines"
-got="$(block_of sh 7 | wc -l) $(block_of sh 8 | wc -l)"; want "4 0" "*" "*"
+line="docs/POWER-CUTS.md has eight blocks of commands on cuts, the last of seven lines"
+got="$(block_of sh 8 | wc -l) $(block_of sh 9 | wc -l)"; want "7 0" "*" "*"
 
 # ---- Options that the image shows
 

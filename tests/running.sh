@@ -15,9 +15,30 @@ count() {
     if [[ $1 == 0 ]]; then passed=$((passed + 1)); else failed=$((failed + 1)); fi
 }
 
-# want STATUS OUTPUT ERRORS: what the last run gave; a text is a pattern of bash
+# What is said of a fault after its line: the first words of the fault, and the sentence.
+declare -A sentences
+while IFS=$'\t' read -r fault sentence; do
+    sentences[$fault]=$sentence
+done < "$top/tests/sentences.txt"
+
+# with_sentence ERRORS: the same, and the sentence of the fault in its last line, where it has one
+with_sentence() {
+    local fault last=${1##*$'\n'}
+    last=${last#jffs2_image: }
+    for fault in "${!sentences[@]}"; do
+        if [[ "$last " == "$fault "* ]]; then
+            printf '%s\n%s' "$1" "jffs2_image: note: ${sentences[$fault]}"
+            return
+        fi
+    done
+    printf %s "$1"
+}
+
+# want STATUS OUTPUT ERRORS: what the last run gave; a text is a pattern of bash, and a fault at the
+# end of ERRORS is one with its sentence
 want() {
-    local status=$1 output=$2 errors=$3
+    local status=$1 output=$2 errors
+    errors=$(with_sentence "$3")
     # shellcheck disable=SC2053
     if [[ $got != "$status" || $(cat out) != $output || $(cat err) != $errors ]]; then
         echo "FAILED: $line"

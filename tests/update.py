@@ -5,8 +5,9 @@ Usage: tests/update.py [PROGRAM]. Images of `build`, `compress` and mkfs.jffs2, 
 ones between them, take the lines of listings, in both orders, with --plain and with --tail. Each byte of IMAGE stays that is not
 in a blank block (with --tail: nor in the rest of a begun one); each new node stands where tests/update_model.py says; OUT shows
 the file system of the plain model of tests/cuts.py, and so does what is left after a stop behind each node and one byte before
-it. Then thirty updates one after another, what is refused, and what OUT is then. `build --compress` and `pack --compress` write the
-nodes that `build` and `pack` write, in their order, some of them compressed. The last line is 'N passed, M failed'.
+it. The note on the blank blocks that are left is that of Linux's own lines. Then thirty updates one after another, what is
+refused, and what OUT is then. `build --compress` and `pack --compress` write the nodes that `build` and `pack` write, in their
+order, some of them compressed. The last line is 'N passed, M failed'.
 """
 import os
 import random
@@ -99,6 +100,11 @@ def is_kept(image, out, row, order, size=BLOCK):
     return len(out) >= len(image)
 
 
+def blocks_of(image, words, size=BLOCK):
+    """How many blocks the flash has: those that are given, or else those of the image."""
+    return int(words[words.index("--blocks") + 1]) if "--blocks" in words else -(-len(image) // size)
+
+
 def update(image, order, lines, *words, size=BLOCK):
     """Runs `update`, and answers what it told, OUT, the openings that it had, and the nodes that it put there."""
     write("image", image)
@@ -107,8 +113,7 @@ def update(image, order, lines, *words, size=BLOCK):
         os.remove("out")
     told = run("update", *options_of(order, size), *words, "image", "listing", "out")
     out = read("out") if os.path.exists("out") else None
-    blocks = int(words[words.index("--blocks") + 1]) if "--blocks" in words else -(-len(image) // size)
-    row = list(model.openings(image, size, blocks, order, "--tail" in words))
+    row = list(model.openings(image, size, blocks_of(image, words, size), order, "--tail" in words))
     return told, out, row, list(model.nodes_in(out, row, size, order)) if out else []
 
 
@@ -128,9 +133,11 @@ def try_update(about, image, order, base, lines, *words):
     tree, steps = tree_of(base, lines)
     ops = sum(line.split(" ")[0] not in ("time", "owner") for line in lines)
     line = f"accepted {ops} nodes {len(nodes)} bytes {put_bytes(nodes)}\n"
-    verdict(f"{about}: what is told", (status, told, said) == (0, line, note_of(image, order)))
     if out is None:
+        verdict(f"{about}: an image", False)
         return None, []
+    note = note_of(image, order) + model.note_of_left(out, BLOCK, blocks_of(image, words), order)
+    verdict(f"{about}: what is told", (status, told, said) == (0, line, note))
     verdict(f"{about}: what is kept", is_kept(image, out, row, order))
     wanted = list(model.places(row, [length for _, length, _ in nodes], BLOCK))
     verdict(f"{about}: places", [address for address, _, _ in nodes] == wanted and len(nodes) == steps)
@@ -159,6 +166,23 @@ def updates():
                     out, nodes = try_update(name, image, order, BASE, lines, *words)
                     some = any(is_packed(node, order) for node in nodes)
                     verdict(f"{name}: forms", some == (about != "a name" and "--plain" not in words))
+
+
+def left():
+    """The note on the blank blocks that are left: one more, as many as Linux keeps in reserve, fewer, and none."""
+    seen = set()
+    for order, size, some in (("<", BLOCK, 3), (">", BLOCK, 3), ("<", 65536, 4)):
+        write_lines("base.txt", BASE)
+        run("build", "--blocks", "16", *options_of(order, size), "base.txt", "base")
+        base = -(-len(read("base")) // size)
+        for blank in range(1, some + 3):
+            words, blocks = ["--blocks", str(base + blank)], base + blank
+            told, out, *_ = update(read("base"), order, ["create 0644 /b"], *words, size=size)
+            seen.add((blank - 1) - model.linux_reserve(size, blocks))
+            note = model.note_of_left(out, size, blocks, order)
+            is_noted = blank - 1 < model.linux_reserve(size, blocks)
+            verdict(f"{blank} blank blocks of {size}, {ORDERS[order]}", told[0] == 0 and told[2] == note and bool(note) == is_noted)
+    verdict("more, as many and fewer", {-1, 0, 1} <= seen)
 
 
 def stops():
@@ -336,7 +360,8 @@ def refused():
     at = next(at for at, what, _ in hostile_model.report(image, BLOCK)[1] if what == "compressed")
     broken[at + 80] ^= 1
     told, out, *_ = update(bytes(broken), "<", ["create 0644 /b"])
-    verdict("a damaged node", told[0] == 0 and told[2] == note_of(bytes(broken), "<") != note_of(image, "<") and out is not None)
+    note = note_of(bytes(broken), "<") + model.note_of_left(out or image, BLOCK, blocks_of(broken, []), "<")
+    verdict("a damaged node", told[0] == 0 and told[2] == note and note_of(bytes(broken), "<") != note_of(image, "<") and out is not None)
     verdict("IMAGE itself is never changed", read("image") == bytes(broken))
 
 
@@ -360,4 +385,4 @@ def files():
 
 
 if __name__ == "__main__":
-    sys.exit(run_all((updates, stops, thirty, built, packed_folders, refused_compressed, refused, files)))
+    sys.exit(run_all((updates, left, stops, thirty, built, packed_folders, refused_compressed, refused, files)))

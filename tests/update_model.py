@@ -43,6 +43,21 @@ def openings(image, size, blocks, order, tail=False):
             yield number, at
 
 
+def linux_reserve(size, blocks):
+    """How many free blocks Linux wants before it writes: resv_blocks_write of jffs2_calc_trigger_levels, line by line."""
+    level = size * blocks // 50
+    level += blocks * 100
+    level += size - 1
+    return 2 + level // size
+
+
+def note_of_left(image, size, blocks, order):
+    """What stands on standard error if fewer blocks are blank than Linux keeps in reserve."""
+    left, reserve = sum(is_blank(block_of(image, number, size), order) for number in range(blocks)), linux_reserve(size, blocks)
+    are = "block is" if left == 1 else "blocks are"
+    return f"jffs2_image: note: {left} blank {are} left, Linux keeps {reserve} in reserve\n" if left < reserve else ""
+
+
 def places(row, lengths, size):
     """The address of each node in a row of openings, or None from the first on that has no room."""
     left = list(row)

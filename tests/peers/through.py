@@ -77,8 +77,8 @@ def judge(what, image, order, block, folder):
     words = ["--decompress", "--block", str(block), "--endian", order]
     nodes, fault = model.through(data, block, decompress.ORDERS[order][1])
     if fault:
-        status, out, errors = run("ls", *words, image)
-        fine = (status, out) == (1, b"") and errors.splitlines()[0] == f"jffs2_image: {fault}"
+        status, out, errors = run("check", *words, image)
+        fine = status == 3 and out.endswith(f"\nmount refused {fault}\n".encode()) and not errors
         test(f"{what}: {fault}", [] if fine else [f"status {status}: {errors}"])
         return
     status, out, errors = run("ls", *words, image)
