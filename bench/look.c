@@ -16,21 +16,11 @@
 #include <unistd.h>
 #include <zlib.h>
 
-enum { MAGIC = 0x1985, ACCURATE = 0x2000, DIRENT = 0xE001, INODE = 0xE002, BLOCK = 65536, ZLIB = 6 };
+#include "nodes.h"
+
+enum { BLOCK = 65536, ZLIB = 6 };
 
 static uint8_t block[BLOCK], content[BLOCK];
-
-static uint32_t checksum(const uint8_t *bytes, size_t count)
-{
-	return crc32(0xFFFFFFFF, bytes, count) ^ 0xFFFFFFFF;
-}
-
-static uint32_t number(const uint8_t *bytes)
-{
-	uint32_t value;
-	memcpy(&value, bytes, 4);
-	return value;
-}
 
 static void put(const uint8_t *node, uint32_t count, uint32_t size)
 {

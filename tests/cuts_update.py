@@ -18,7 +18,7 @@ import hostile_model
 import update_model as model
 from cuts import laid
 from groups import BLOCK, ORDERS, options_of, read, run, run_all, verdict, write, write_lines
-from update import BASE, LISTINGS, device_image, tree_of, update
+from update import BASE, LISTINGS, cases, device_image, tree_of, update
 
 WEAK = ["create 0644 /a", "write /a 0 bef98e24fe"]
 
@@ -86,13 +86,8 @@ def try_listing(about, order, image, lines, words):
 
 
 def lines_of_updates():
-    for seed, (about, lines) in enumerate(LISTINGS.items()):
-        for order in "<>":
-            for packed in (False, True):
-                image = device_image(order, packed, seed)
-                for words in ([], ["--plain"], ["--tail"], ["--tail", "--plain", "--blocks", "20"]):
-                    name = f"{about}, {ORDERS[order]}{', compressed' if packed else ''} {' '.join(words)}"
-                    try_listing(name, order, image, ["# more", ""] + lines, words)
+    for name, order, image, lines, words in cases():
+        try_listing(name, order, image, ["# more", ""] + lines, words)
 
 
 def blank_blocks():

@@ -156,16 +156,22 @@ def node_kind(node, order):
     return int.from_bytes(node[2][2:4], {"<": "little", ">": "big"}[order])
 
 
-def updates():
+def cases():
+    """Each listing on a device's image in each order, compressed or not, with the words of `update`, and a name for it."""
     for seed, (about, lines) in enumerate(LISTINGS.items()):
         for order in "<>":
             for packed in (False, True):
                 image = device_image(order, packed, seed)
                 for words in ([], ["--plain"], ["--tail"], ["--tail", "--plain", "--blocks", "20"]):
                     name = f"{about}, {ORDERS[order]}{', compressed' if packed else ''} {' '.join(words)}"
-                    out, nodes = try_update(name, image, order, BASE, lines, *words)
-                    some = any(is_packed(node, order) for node in nodes)
-                    verdict(f"{name}: forms", some == (about != "a name" and "--plain" not in words))
+                    yield name, order, image, lines, words
+
+
+def updates():
+    for name, order, image, lines, words in cases():
+        _, nodes = try_update(name, image, order, BASE, lines, *words)
+        some = any(is_packed(node, order) for node in nodes)
+        verdict(f"{name}: forms", some == (not name.startswith("a name,") and "--plain" not in words))
 
 
 def left():
