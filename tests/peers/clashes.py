@@ -1,12 +1,13 @@
 #!/usr/bin/env python3
 """Boots Linux, lets it write images in which two nodes of one version differ, and compares what
-`decompress --clashes higher` leaves of them with what Linux shows: see clashes.sh."""
+`decompress --clashes higher` leaves of them with what Linux shows, and `compact --clashes higher` with its model: see clashes.sh."""
 import collections
 import glob
 import os
 import random
 import sys
 
+import compact
 import linux
 import tree
 from judging import ended, run, test
@@ -47,8 +48,10 @@ def judge(got):
         if not linux.clashes(what, WORDS, image):
             linux.verdict(what, WORDS, image)
             continue
-        out = parted(what, image)
+        out, small = parted(what, image), image + ".compacted"
         clashed += 1
+        if compact.compacted(what, WORDS, image, small):
+            compact.is_sound(what, WORDS, small)
         tar = image[:-4] + (".tar" if ".live" in what else ".again.tar")
         test(f"{what}: Linux shows it", [] if os.path.exists(tar) else ["Linux did not mount it"])
         if out and os.path.exists(tar):

@@ -12,7 +12,11 @@ import tars
 import tree
 from judging import ended, run, test
 
+sys.path.append(os.path.dirname(os.path.dirname(os.path.abspath(__file__))))
+import compact_model as model  # noqa: E402
+
 BLOCKS = {"used64": 65536, "used16": 16384, "usednand": 8192, "usedholes": 16384}
+HIGHER = ("--clashes", "higher")
 LINE = re.compile(rb"compacted (\d+) of (\d+) nodes bytes (\d+)\n")
 
 
@@ -30,6 +34,11 @@ def inputs(given, flag):
         tree.write(os.path.join(given, flag), b"")
 
 
+def read(name):
+    with open(name, "rb") as file:
+        return file.read()
+
+
 def tar_of(image):
     """The tree that Linux showed of an image after it was mounted anew."""
     return image[:-4] + (".tar" if ".live" in image else ".again.tar")
@@ -38,12 +47,11 @@ def tar_of(image):
 def compacted(what, words, image, out):
     """Runs `compact`, with --clashes higher where nodes clash; whether it made OUT, and that it leaves out nodes where it should."""
     status, told, errors = run("compact", *words, image, out)
-    if status == 1 and "M5 Clash" in errors:
+    apart = status == 1 and "M5 Clash" in errors
+    if apart:
         print(f"{what}: {errors.splitlines()[0]}")
-        status, told, errors = run("compact", "--clashes", "higher", *words, image, out)
-        if status == 2:
-            print(f"{what}: left out, since this program has no --clashes of `compact`")
-            return None
+        as_model(f"{what}: refused as the model", words, image, out, (status, told, errors), False)
+        status, told, errors = run("compact", *HIGHER, *words, image, out)
     line = LINE.fullmatch(told)
     print(f"{what}: {told.decode().strip()}, of {os.path.getsize(image)}; {errors}")
     faults = [] if status in (0, 3) and line else [f"status {status}: {told} {errors}"]
@@ -51,7 +59,24 @@ def compacted(what, words, image, out):
         kept, nodes, size = map(int, line.groups())
         faults = [] if kept < nodes and size == os.path.getsize(out) < os.path.getsize(image) else [f"{told}"]
     test(f"{what}: compact", faults)
+    as_model(f"{what}: compact as the model", words, image, out, (status, told, errors), apart)
+    if not apart:
+        again = run("compact", *HIGHER, *words, image, out + ".higher")
+        as_model(f"{what}: compact --clashes higher as the model", words, image, out + ".higher", again, True)
     return out if line else None
+
+
+def as_model(what, words, image, out, ran, apart):
+    """The status, both outputs and each byte of OUT are those of compact_model.py, or there is no OUT where the model refuses."""
+    made, fault = model.compact(read(image), int(words[1]), apart=apart)
+    if made:
+        notes = "\n".join(model.notes_of(made))
+        wanted = (3 if notes else 0, f"{model.line_of(made)}\n".encode(), notes)
+    else:
+        ran, wanted = (*ran[:2], ran[2].splitlines()[0]), (1, b"", f"jffs2_image: {fault}")
+    written = read(out) if os.path.exists(out) else None
+    faults = [] if ran == wanted else [f"{ran}, wanted {wanted}"]
+    test(what, faults + ([] if written == (made.image if made else None) else ["other bytes than those of the model"]))
 
 
 def is_sound(what, words, out):
@@ -63,8 +88,7 @@ def is_sound(what, words, out):
     status, told, errors = run("compact", *words, out, out + ".again")
     line, fine = LINE.fullmatch(told), False
     if status == 0 and line:
-        with open(out, "rb") as first, open(out + ".again", "rb") as second:
-            fine = line[1] == line[2] and first.read() == second.read()
+        fine = line[1] == line[2] and read(out) == read(out + ".again")
         os.remove(out + ".again")
     test(f"{what}: compact again", [] if fine else [f"status {status}: {told} {errors}"])
 

@@ -77,14 +77,17 @@ def loaded(tar):
 
 
 def wanted_of(plain):
-    """What Linux has to show of a file system, as tars.py has it; devices without their numbers."""
+    """What Linux has to show of a file system, as tars.py has it; devices without their numbers. Between the two nodes of a rename a
+    directory has two names. Linux shows what lies in it below both, and only an object with more names of its own as one."""
     found, names = dict(put_model.files_of(plain)), collections.defaultdict(list)
-    for path, (*_, number) in found.items():
-        names[number].append(path)
+    linked = collections.Counter(plain.names.values())
+    own = {path: fact[-1] if linked[fact[-1]] > 1 and fact[0] != "d" else path for path, fact in found.items()}
+    for path, which in own.items():
+        names[which].append(path)
     shown = {}
-    for path, (kind, mode, uid, gid, time, body, number) in found.items():
+    for path, (kind, mode, uid, gid, time, body, _) in found.items():
         body = body.decode() if kind == "l" else None if kind in "cb" else body
-        shown[path] = (kind, mode, uid, gid, 0 if kind == "d" else time, body, tuple(sorted(names[number])))
+        shown[path] = (kind, mode, uid, gid, 0 if kind == "d" else time, body, tuple(sorted(names[own[path]])))
     return shown
 
 
