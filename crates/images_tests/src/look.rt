@@ -146,6 +146,110 @@ fn a_file_that_is_wanted_refuses(rt: HostRuntime) -> Result<(), Fail> {
     is_refused::<BigEndian>(&rt, rt.alloc())
 }
 
+/// The first byte of an object.
+fn first_of(mounted: &Mounted<'_>, ino: u32) -> Option<u8> {
+    let mut bytes = [b'#'];
+    let count = mounted.read_at(ino, 0, &mut bytes);
+    (count == 1).then_some(bytes[0])
+}
+
+/// Nodes of object 2, and the byte that it begins with where the tree alone is wanted: it is a
+/// symlink or none by the newest, whatever an older one says.
+fn symlinks() -> &'static [(&'static [Item], u8)] {
+    &[
+        (
+            &[Item::Plain(Version(2, 1, SYMLINK, 20), 0, &[b'b'; 20])],
+            b'b',
+        ),
+        (&[Item::Plain(Version(2, 1, FILE, 20), 0, &[b'b'; 20])], 0),
+        (
+            &[
+                Item::Plain(Version(2, 1, SYMLINK, 20), 0, &[b'b'; 20]),
+                Item::Plain(Version(2, 2, FILE, 20), 0, &[b'c'; 20]),
+            ],
+            0,
+        ),
+        (
+            &[
+                Item::Plain(Version(2, 2, SYMLINK, 20), 0, &[b'b'; 20]),
+                Item::Packed(Version(2, 1, FILE, 20), 0, 20, ZLIB, ZLIB_A),
+            ],
+            b'b',
+        ),
+        (
+            &[
+                Item::Plain(Version(2, 1, SYMLINK, 20), 0, &[b'b'; 20]),
+                Item::Packed(Version(2, 2, SYMLINK, 20), 0, 20, ZLIB, ZLIB_A),
+            ],
+            b'a',
+        ),
+        (
+            &[
+                Item::Plain(Version(2, 1, SYMLINK, 20), 0, &[b'b'; 20]),
+                Item::Packed(Version(2, 2, FILE, 20), 0, 20, ZLIB, ZLIB_BROKEN),
+            ],
+            0,
+        ),
+    ]
+}
+
+#[test]
+fn a_symlink_is_one_by_its_newest_node(rt: HostRuntime) -> Result<(), Fail> {
+    let alloc = rt.alloc();
+    for &(items, first) in symlinks() {
+        let image = image_of::<LittleEndian>(alloc, items)?;
+        let mut contents = Vec::new(alloc);
+        let mounted = mount_tree::<LittleEndian>(alloc, &image, GEOMETRY, &mut contents)?;
+        equal(&rt, first_of(&mounted, 2), Some(first));
+    }
+    Ok(())
+}
+
+/// Objects 2 and 3, which are not empty, and names of the root: `a` was first 2 and is 3 now, `b`
+/// was removed, and `r` is the root itself.
+const NAMED: &[Item] = &[
+    Item::Entry(1, 2, 3, b"a"),
+    Item::Entry(1, 1, 2, b"a"),
+    Item::Entry(1, 3, 2, b"b"),
+    Item::Entry(1, 4, 0, b"b"),
+    Item::Entry(1, 5, 1, b"r"),
+    Item::Plain(Version(2, 1, FILE, 20), 0, &[b'b'; 20]),
+    Item::Packed(Version(3, 1, FILE, 20), 0, 20, ZLIB, ZLIB_A),
+];
+
+/// A path, and the bytes that the objects 2 and 3 begin with where what it names is wanted.
+fn objects() -> &'static [(&'static [u8], u8, u8)] {
+    &[
+        (b"/a", 0, b'a'),
+        (b"/b", 0, 0),
+        (b"/c", 0, 0),
+        (b"/a/a", 0, 0),
+        (b"a", 0, 0),
+        (b"/", 0, 0),
+        (b"/r/r/a", 0, b'a'),
+        // Of so many names that they are looked up in the tree alone.
+        (
+            b"/r/r/r/r/r/r/r/r/r/r/r/r/r/r/r/r/r/r/r/r/r/r/r/r/r/r/r/r/r/r/r/r\
+              /r/r/r/r/r/r/r/r/r/r/r/r/r/r/r/r/r/r/r/r/r/r/r/r/r/r/r/r/r/r/r/r/a",
+            0,
+            b'a',
+        ),
+    ]
+}
+
+#[test]
+fn an_object_is_that_of_the_newest_name(rt: HostRuntime) -> Result<(), Fail> {
+    let alloc = rt.alloc();
+    let image = image_of::<LittleEndian>(alloc, NAMED)?;
+    for &(path, second, third) in objects() {
+        let mut contents = Vec::new(alloc);
+        let mounted = mount_object::<LittleEndian>(alloc, &image, GEOMETRY, path, &mut contents)?;
+        equal_at(&rt, first_of(&mounted, 2), Some(second), path);
+        equal_at(&rt, first_of(&mounted, 3), Some(third), path);
+    }
+    Ok(())
+}
+
 /// Two nodes of one version, whose contents differ: as they are 88 bytes.
 const CLASHING: &[Item] = &[
     Item::Plain(Version(2, 1, FILE, 20), 0, &[b'a'; 20]),

@@ -47,7 +47,7 @@ module _ (v w : Wants) (same : (i : ℕ) → v i ≡ w i) (e : Endian) (size : �
 
 -- ---- what is chosen is a matter of the outline
 
-abbrev IsOfOutline : Choice → Type 0
+abbrev pub IsOfOutline : Choice → Type 0
 IsOfOutline choice = (s t : State) → outline s ≡ outline t → (i : ℕ) → choice s i ≡ choice t i
 
 bits_sized : (o : Option (ObjectOf (List ℕ))) → has_bits symlink_bits (option_map sized o) ≡ has_bits symlink_bits o
@@ -57,10 +57,10 @@ bits_sized (Some o) = refl
 symlinks_outline : (s : State) (i : ℕ) → has_bits symlink_bits (object (outline s) i) ≡ symlinks_in s i
 symlinks_outline s i = ap (has_bits symlink_bits) (object-outline s i) ∙ bits_sized (object s i)
 
-symlinks_are_of_outline : IsOfOutline symlinks_in
+pub symlinks_are_of_outline : IsOfOutline symlinks_in
 symlinks_are_of_outline s t is i = sym (symlinks_outline s i) ∙ ap (λ (o : Outline). has_bits symlink_bits (object o i)) is ∙ symlinks_outline t i
 
-object_is_of_outline : (path : List ℕ) → IsOfOutline (object_by_path path)
+pub object_is_of_outline : (path : List ℕ) → IsOfOutline (object_by_path path)
 object_is_of_outline path s t is i =
     ap (λ (found : Result ℕ FindFault). is_that_object found i) (sym (find-outline s path) ∙ ap (λ (o : Outline). find o path) is ∙ find-outline t path)
 

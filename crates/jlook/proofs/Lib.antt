@@ -1,5 +1,6 @@
 pub mod ChosenLemmas
 pub mod FoundLemmas
+pub mod LikelyLemmas
 pub mod LookLemmas
 pub mod LookedLemmas
 pub mod MountLemmas

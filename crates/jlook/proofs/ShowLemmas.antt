@@ -79,20 +79,20 @@ module _ (wants : Wants) (e : Endian) (size : ℕ) (image : List ℕ) where
 
   -- ---- tiles
 
-  nodes_looked : (ss : List (ℕ × Seen)) → ((s : ℕ × Seen) → Contains ss s → through_fault e size image s ≡ None)
+  pub nodes_looked : (ss : List (ℕ × Seen)) → ((s : ℕ × Seen) → Contains ss s → through_fault e size image s ≡ None)
       → nodes_of_tiles e size image (map (looked_tile wants e size image) ss) ≡ map (looked_node wants) (nodes_of_tiles e size image ss)
   nodes_looked [] none = refl
   nodes_looked (s ∷ ss) none =
       ap₂ (λ (o : Option NodeRef) (l : List NodeRef). cons_option o l) (node_looked s (none s (Contains-here s ss))) (nodes_looked ss (λ t has. none t (Contains-there s ss t has)))
       ∙ map_cons (looked_node wants) (expanded_node e size image s) (nodes_of_tiles e size image ss)
 
-  among_looked : (ss : List (ℕ × Seen)) → ((s : ℕ × Seen) → Contains ss s → through_fault e size image s ≡ None)
+  pub among_looked : (ss : List (ℕ × Seen)) → ((s : ℕ × Seen) → Contains ss s → through_fault e size image s ≡ None)
       → through_fault_among e size image (map (looked_tile wants e size image) ss) ≡ None
   among_looked [] none = refl
   among_looked (s ∷ ss) none =
       ap₂ (λ (o p : Option ConvertFault). option_or o p) (none_looked s (none s (Contains-here s ss))) (among_looked ss (λ t has. none t (Contains-there s ss t has)))
 
-  contents_looked : (ss : List (ℕ × Seen)) → length (contents_of_tiles e size image (map (looked_tile wants e size image) ss)) ≤ length (contents_of_tiles e size image ss)
+  pub contents_looked : (ss : List (ℕ × Seen)) → length (contents_of_tiles e size image (map (looked_tile wants e size image) ss)) ≤ length (contents_of_tiles e size image ss)
   contents_looked [] = omega arith
   contents_looked (s ∷ ss) =
       omega (

@@ -1,13 +1,14 @@
 //! Mounting an image of which contents are wanted by what its tree is.
 
-ghost use Rattle.std.specs.Prelude.{◌≡◌, ◌==◌, ◌&&◌, ℕ, true, cond, IfErr, IfOk, OnOk};
-ghost use Rattle.std.specs.BTreeSet.{contains};
+ghost use Rattle.std.specs.Prelude.{◌≡◌, ◌==◌, ◌&&◌, ℕ, true, cond, Ok, Decides, IfErr, IfOk, IfSome, OnOk};
+ghost use Rattle.std.specs.BTreeSet.{contains, IsSameSet};
 ghost use Rattle.std.specs.Ordering.{eq_by_cmp, nat_cmp};
 ghost use Rattle.jmount.specs.Tree.{type_bits, symlink_bits};
 ghost use Rattle.jlook.specs.Chosen.{AnswersChosen, AreChosen, IsNoLook, object_by_path, symlinks_in};
 ghost use Rattle.jlook.specs.Look.{IsSightedOf};
 
-use crate::mounting::{mount_sighted, mount_without};
+use crate::guessing::likely_symlinks;
+use crate::mounting::{mount_plain, mount_sighted, mount_without};
 use crate::sighted::Sighted;
 use jmount::{Mounted, Object, type_bits};
 use jnode::Order;
@@ -17,7 +18,7 @@ use std::alloc::{AllocError, Global};
 use std::collections::BTreeSet;
 
 /// Bits 12 to 15 of the mode of a symlink (Linux, `include/uapi/linux/stat.h`).
-const SYMLINK_BITS: u32 = 10;
+pub(crate) const SYMLINK_BITS: u32 = 10;
 
 fn is_symlink(object: &Object) -> bool
     ensures { result ≡ (type_bits object.now.mode == symlink_bits) }
@@ -65,6 +66,37 @@ fn number_at(alloc: Global, mounted: &Mounted<'_>, path: &[u8]) -> Result<BTreeS
     }
 }
 
+/// Whether two sets have the same numbers.
+fn are_same(numbers: &BTreeSet<u32>, others: &BTreeSet<u32>) -> bool
+    ensures { Decides result (IsSameSet nat_cmp numbers.now others.now) }
+{
+    numbers.is_subset(others) && others.is_subset(numbers)
+}
+
+/// The mount of an image that was gone over for its tree, by one look: if what uncompressed nodes say
+/// are symlinks are just these, and none of their data are compressed.
+fn mount_at_once<'a, E: Order>(
+    alloc: Global,
+    image: &'a [u8],
+    geometry: Geometry,
+    sighted: &Sighted<'a>,
+) -> Result<Option<Mounted<'a>>, AllocError>
+    requires sighted { IsSightedOf E.order geometry.block image.now sighted.now }
+    ensures { IfOk result (λ found. IfSome found (λ mounted.
+        AnswersChosen symlinks_in E.order geometry.block image.now (Ok mounted))) }
+{
+    let likely = likely_symlinks(alloc, sighted)?;
+    let found = mount_plain::<E>(alloc, image, geometry, sighted, &likely)?;
+    let Some(mounted) = found else {
+        return Ok(None);
+    };
+    let numbers = symlinks_of(alloc, &mounted)?;
+    if are_same(&numbers, &likely) {
+        return Ok(Some(mounted));
+    }
+    Ok(None)
+}
+
 /// The symlinks of an image that was gone over, by a look that wants no contents.
 fn find_symlinks<'a, E: Order>(
     alloc: Global,
@@ -105,7 +137,8 @@ fn find_object<'a, E: Order>(
 }
 
 /// Mounts an image for its tree: the targets of symlinks are wanted, and no other contents. The
-/// image is gone over once, and looked at twice, first to find the symlinks. Else as `mount_looked`.
+/// image is gone over once. It is looked at once if its uncompressed nodes alone tell the symlinks and
+/// their targets, and else first to find them. Else as `mount_looked`.
 ///
 /// # Errors
 /// As `mount_looked`, of the first look and then of the second.
@@ -118,6 +151,10 @@ pub fn mount_tree<'a, E: Order>(
     ensures { AnswersChosen symlinks_in E.order geometry.block image.now result }
 {
     let sighted = Sighted::of::<E>(alloc, image, geometry)?;
+    let at_once = mount_at_once::<E>(alloc, image, geometry, &sighted)?;
+    if let Some(mounted) = at_once {
+        return Ok(mounted);
+    }
     let numbers = find_symlinks::<E>(alloc, image, geometry, &sighted)?;
     mount_sighted::<E>(alloc, image, geometry, &sighted, &numbers, contents)
 }

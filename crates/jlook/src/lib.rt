@@ -18,6 +18,7 @@
 
 mod chosen;
 mod copying;
+mod guessing;
 pub mod laws;
 mod look;
 mod looking;

@@ -1,6 +1,6 @@
 //! Mounting an image as it is looked at.
 
-ghost use Rattle.std.specs.Prelude.{◌≡◌, ◌++◌, None, IfOk, OnOk, IsTrue, drop, length, option_map, option_to_list};
+ghost use Rattle.std.specs.Prelude.{◌≡◌, ◌++◌, None, Ok, IfOk, IfSome, OnOk, IsTrue, drop, length, option_map, option_to_list};
 ghost use Rattle.std.specs.BTreeSet.{contains};
 ghost use Rattle.std.specs.Ordering.{nat_cmp};
 ghost use Rattle.jscan.specs.Image.{is_block_size};
@@ -161,6 +161,30 @@ pub(crate) fn mount_without<'a, E: Order>(
     let mut contents = Vec::new(alloc);
     let look = look_over::<E>(alloc, image, geometry, sighted, &nothing, &mut contents)?;
     mount_look::<E>(alloc, image, geometry, look, b"")
+}
+
+/// The mount of an image that was gone over, if the contents of the objects of these numbers are
+/// wanted, and none of these are compressed.
+pub(crate) fn mount_plain<'a, E: Order>(
+    alloc: Global,
+    image: &'a [u8],
+    geometry: Geometry,
+    sighted: &Sighted<'a>,
+    wanted: &BTreeSet<u32>,
+) -> Result<Option<Mounted<'a>>, AllocError>
+    requires sighted { IsSightedOf E.order geometry.block image.now sighted.now }
+    ensures { IfOk result (λ found. IfSome found (λ mounted. AnswersLook
+        (contains nat_cmp wanted.now) E.order geometry.block image.now (Ok mounted))) }
+{
+    let mut contents = Vec::new(alloc);
+    let look = look_over::<E>(alloc, image, geometry, sighted, wanted, &mut contents)?;
+    if !contents.is_empty() {
+        return Ok(None);
+    }
+    match mount_look::<E>(alloc, image, geometry, look, b"") {
+        Ok(mounted) => Ok(Some(mounted)),
+        Err(_) => Ok(None),
+    }
 }
 
 /// Mounts an image as it is looked at, if the contents of the objects of these numbers are wanted.
