@@ -1,16 +1,12 @@
 -- What is taken of what an image tells of itself.
 use Rattle.std.specs.Prelude.{ℕ, ◌==◌, ◌&&◌, not, Bool, false, Option, Some, None, if◌then◌else◌}
 use Rattle.jnode.specs.declared.order.Endian.{Endian}
+use Rattle.jhint.specs.Hints.{size_to_read}
 use Rattle.jinfo.specs.declared.info.Info.{Info}
 use Rattle.jinfo.specs.declared.sizes.SizeRange.{SizeRange}
 use Rattle.jcommand.specs.Parsed.{options_of}
 use Rattle.jauto.specs.declared.taking.Taking.{Taking}
 use Rattle.jauto.specs.declared.taking.Taking.TheVariants as taking
-
--- the greatest size that fits, or that blocks have where nothing tells
-abbrev pub size_taken : Option SizeRange → ℕ
-size_taken None = 4194304
-size_taken (Some range) = range.greatest
 
 -- one size alone fits
 abbrev pub is_one_size : Option SizeRange → Bool
@@ -23,7 +19,7 @@ abbrev pub taking_by : Bool → Option SizeRange → Option Endian → Taking
 taking_by writes sizes None = taking.Nothing
 taking_by writes sizes (Some order) =
     if writes && not (is_one_size sizes) then taking.Unclear order sizes
-    else taking.Taken (options_of (size_taken sizes) order)
+    else taking.Taken (options_of (size_to_read sizes) order)
 
 -- rule: What is printed: What `--auto` takes of an image.
 --   definitions: jauto.Taking.taking_of, jauto.Looking.auto_act

@@ -1,8 +1,9 @@
 //! What is taken of what an image tells of itself.
 ghost use Rattle.std.specs.Prelude.{◌≡◌};
-ghost use Rattle.jauto.specs.Taking.{is_one_size, size_taken, taking_of};
+ghost use Rattle.jauto.specs.Taking.{is_one_size, taking_of};
 
 use jcommand::Options;
+use jhint::size_to_read;
 use jinfo::{Info, SizeRange};
 use jnode::Endian;
 use jscan::Geometry;
@@ -19,16 +20,6 @@ pub enum Taking {
     },
     /// Its byte order and the size of its blocks.
     Taken(Options),
-}
-
-/// The greatest size that fits, or that blocks have where nothing tells.
-fn size_taken(sizes: Option<SizeRange>) -> u32
-    ensures { result ≡ size_taken sizes }
-{
-    match sizes {
-        Some(range) => range.greatest,
-        None => 4_194_304,
-    }
 }
 
 /// Whether one size alone fits.
@@ -54,7 +45,7 @@ pub fn taking_of(info: &Info, writes: bool) -> Taking
     }
     Taking::Taken(Options {
         geometry: Geometry {
-            block: size_taken(sizes),
+            block: size_to_read(sizes),
         },
         endian: order,
     })
