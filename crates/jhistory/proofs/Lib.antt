@@ -1,0 +1,4 @@
+pub mod NewestLemmas
+pub mod TellingLemmas
+pub mod TotalsLemmas
+pub mod WordsLemmas

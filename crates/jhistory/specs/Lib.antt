@@ -1,0 +1,5 @@
+pub mod NodeWords
+pub mod NewestEntries
+pub mod HistoryText
+pub mod HistoryLaws
+pub mod WordExamples

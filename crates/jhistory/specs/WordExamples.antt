@@ -1,0 +1,9 @@
+-- Worked rows of words.
+use Rattle.std.specs.Prelude.{ℕ, Bool, List, map}
+use Rattle.jcompact.specs.Matters.{Placed}
+use Rattle.jhistory.specs.NodeWords.{node_word}
+use Rattle.jhistory.specs.declared.word.NodeWord.{NodeWord}
+
+-- the words of nodes, where these numbers are reached
+abbrev pub words_of_rows : (ℕ → Bool) → List Placed → List NodeWord
+words_of_rows reached ns = map (node_word ns reached) ns
