@@ -31,6 +31,10 @@ option_of id = record (new_rule id) { long = Some id; value_names = 1 }
 abbrev pub option_of_two : Text → Rule
 option_of_two id = record (new_rule id) { long = Some id; value_names = 2 }
 
+-- an option that has a letter too
+abbrev pub lettered_option : Text → ℕ → Rule
+lettered_option id letter = record (option_of id) { short = Some letter }
+
 -- a flag that may be left out
 abbrev pub flag : Text → Rule
 flag id = record (new_rule id) { long = Some id; action = Some SetTrue }
@@ -94,7 +98,12 @@ atomic app = with_rule app (flag (codes "atomic"))
 
 -- the same, and the output is filled up to the end of the flash where that is asked for
 abbrev pub placing : App → App
-placing app = atomic (with_rule app (flag (codes "pad")))
+placing app = atomic (with_rule app (lettered_flag (codes "pad") 112))
+
+-- a subcommand that writes a file, which is named in its place, or by `-o FILE`
+abbrev pub writing : App → App
+writing app = with_rule (with_rule app (lettered_option (codes "output") 111))
+    (optional_word (codes "OUT"))
 
 -- a subcommand that compresses the nodes that it writes, where that is asked for
 abbrev pub compressing : App → App
@@ -103,19 +112,17 @@ compressing app = with_rule app (flag (codes "compress"))
 -- `build --blocks N [--page N] [--weak] [--compress] [--pad] [--atomic] [--block N]
 -- [--endian ORDER] LISTING OUT`
 abbrev pub build_app : App
-build_app = with_rule
-    (with_rule (placing (compressing (noting (codes "build")))) (word (codes "LISTING")))
-    (word (codes "OUT"))
+build_app =
+    writing (with_rule (placing (compressing (noting (codes "build")))) (word (codes "LISTING")))
 
 -- `append --blocks N [--page N] [--weak] [--pad] [--atomic] [--decompress] [--auto] [--block N]
 -- [--endian ORDER] IMAGE LISTING OUT`
 abbrev pub append_app : App
-append_app = with_rule
+append_app = writing
     (with_rule
     (with_rule
     (decompressing (placing (automatic (noting (codes "append"))))) (word (codes "IMAGE")))
     (word (codes "LISTING")))
-    (word (codes "OUT"))
 
 -- the way in which `update` writes: uncompressed, and into the rests of begun blocks
 abbrev pub updating : App → App
@@ -124,7 +131,7 @@ updating app = with_rule (with_rule app (flag (codes "plain"))) (flag (codes "ta
 -- `update [--blocks N] [--page N] [--plain] [--tail] [--pad] [--atomic] [--auto] [--block N]
 -- [--endian ORDER] IMAGE LISTING OUT`
 abbrev pub update_app : App
-update_app = with_rule
+update_app = writing
     (with_rule
     (with_rule
     (placing
@@ -133,7 +140,6 @@ update_app = with_rule
     (option_or (codes "page") (codes "4096")))))
     (word (codes "IMAGE")))
     (word (codes "LISTING")))
-    (word (codes "OUT"))
 
 -- the output may be the image, also where that has findings
 abbrev pub replacing : App → App
@@ -142,21 +148,20 @@ replacing app = with_rule (atomic app) (flag (codes "force"))
 -- `decompress [--clashes RULE] [--atomic] [--force] [--auto] [--block N] [--endian ORDER] IMAGE
 -- OUT`
 abbrev pub decompress_app : App
-decompress_app = with_rule
+decompress_app = writing
     (with_rule
     (replacing (with_rule (reader (codes "decompress")) (option_of (codes "clashes"))))
-    (word (codes "IMAGE"))) (word (codes "OUT"))
+    (word (codes "IMAGE")))
 
 -- `compress [--atomic] [--force] [--auto] [--block N] [--endian ORDER] IMAGE OUT`
 abbrev pub compress_app : App
 compress_app =
-    with_rule (with_rule (replacing (reader (codes "compress"))) (word (codes "IMAGE")))
-    (word (codes "OUT"))
+    writing (with_rule (replacing (reader (codes "compress"))) (word (codes "IMAGE")))
 
 -- `compact [--blocks N] [--clashes RULE] [--pad] [--atomic] [--force] [--auto] [--block N]
 -- [--endian ORDER] IMAGE OUT`
 abbrev pub compact_app : App
-compact_app = with_rule
+compact_app = writing
     (with_rule
     (with_rule
     (placing
@@ -164,7 +169,6 @@ compact_app = with_rule
     (option_of (codes "clashes"))))
     (flag (codes "force")))
     (word (codes "IMAGE")))
-    (word (codes "OUT"))
 
 -- an owner and a time for all that a folder holds, and whether its reading tells no progress
 abbrev pub folder_settings : App → App
@@ -175,7 +179,7 @@ folder_settings app = with_rule
 -- `pack [--owner UID GID] [--time T] [--quiet] [--blocks N] [--page N] [--weak] [--compress]
 -- [--pad] [--atomic] [--block N] [--endian ORDER] DIR OUT`
 abbrev pub pack_app : App
-pack_app = with_rule
+pack_app = writing
     (with_rule
     (folder_settings
     (placing
@@ -185,7 +189,6 @@ pack_app = with_rule
     (option_or (codes "page") (codes "4096")))
     (flag (codes "weak"))))))
     (word (codes "DIR")))
-    (word (codes "OUT"))
 
 -- `extract [--decompress] [--auto] [--block N] [--endian ORDER] [--owners] [--quiet] IMAGE DIR
 -- [PATH]`
@@ -239,6 +242,11 @@ abbrev pub map_app : App
 map_app = with_rule (with_rule (reader (codes "map")) (flag (codes "svg")))
     (word (codes "IMAGE"))
 
+-- `history [--auto] [--block N] [--endian ORDER] IMAGE [PATH]`
+abbrev pub history_app : App
+history_app = with_rule (with_rule (reader (codes "history")) (word (codes "IMAGE")))
+    (optional_word (codes "PATH"))
+
 -- `verify [--times] [--owner UID GID] [--time T] [--quiet] [--auto] [--block N] [--endian ORDER]
 -- IMAGE DIR`
 abbrev pub verify_app : App
@@ -267,11 +275,12 @@ program = with_subcommand
     (with_subcommand
     (with_subcommand
     (with_subcommand
+    (with_subcommand
     (with_subcommand (with_subcommand (with_subcommand (with_subcommand bare
     check_app.top) ls_app.top) cat_app.top) build_app.top) append_app.top) update_app.top)
     decompress_app.top) compress_app.top) compact_app.top) extract_app.top) listing_app.top)
-    info_app.top) cuts_app.top) diff_app.top) damage_app.top) map_app.top) pack_app.top)
-    verify_app.top
+    info_app.top) cuts_app.top) diff_app.top) damage_app.top) map_app.top) history_app.top)
+    pack_app.top) verify_app.top
 
 -- ---- what is made
 

@@ -26,6 +26,7 @@ use Rattle.jcommand.specs.declared.parsed.Extraction.{Extraction}
 use Rattle.jcommand.specs.declared.parsed.FolderListing.{FolderListing}
 use Rattle.jcommand.specs.declared.parsed.Image.{Image}
 use Rattle.jcommand.specs.declared.parsed.Mapping.{Mapping}
+use Rattle.jcommand.specs.declared.parsed.NodeHistory.{NodeHistory}
 use Rattle.jcommand.specs.declared.parsed.Options.{Options}
 use Rattle.jcommand.specs.declared.parsed.Owner.{Owner}
 use Rattle.jcommand.specs.declared.parsed.Packing.{Packing}
@@ -152,6 +153,13 @@ updating_view u = record {
 abbrev pub mapping_view : Mapping (Bor Text) → Mapping Text
 mapping_view m = record { options = m.options; svg = m.svg; image = m.image.now }
 
+abbrev pub history_view : NodeHistory (Bor Text) → NodeHistory Text
+history_view h = record {
+  options = h.options;
+  image = h.image.now;
+  path = option_map (λ p. p.now) h.path;
+}
+
 abbrev pub extraction_view : Extraction (Bor Text) → Extraction Text
 extraction_view x = record {
   options = x.options;
@@ -215,6 +223,7 @@ command_view (command.Diff d) = command.Diff (comparison_view d)
 command_view (command.Damage x) = command.Damage
     (record { options = x.options; decompress = x.decompress; image = x.image.now })
 command_view (command.Map m) = command.Map (mapping_view m)
+command_view (command.History h) = command.History (history_view h)
 command_view (command.Build b) = command.Build (building_view b)
 command_view (command.BuildCompressed b) = command.BuildCompressed (building_view b)
 command_view (command.Append a) = command.Append (record {
@@ -256,6 +265,7 @@ order_asked (command.Info image) = Little
 order_asked (command.Diff d) = d.options.endian
 order_asked (command.Damage x) = x.options.endian
 order_asked (command.Map m) = m.options.endian
+order_asked (command.History h) = h.options.endian
 order_asked (command.Build b) = b.target.options.endian
 order_asked (command.BuildCompressed b) = b.target.options.endian
 order_asked (command.Append a) = a.target.options.endian
@@ -322,6 +332,16 @@ abbrev pub placing_in : List Row → Placing
 placing_in rows =
     record { pad = is_given (codes "pad") rows; atomic = is_given (codes "atomic") rows }
 
+-- the one of two that is given
+abbrev pub one_of_both : Option Text → Option Text → Option Text
+one_of_both None named = named
+one_of_both (Some placed) None = Some placed
+one_of_both (Some placed) (Some named) = None
+
+-- the file that is written, which is named in its place, or by `-o`
+abbrev pub output_in : List Row → Option Text
+output_in rows = one_of_both (first_of (codes "OUT") rows) (first_of (codes "output") rows)
+
 -- the options and the image that a subcommand reads
 abbrev pub image_in : List Row → Option (Image Text)
 image_in rows = options_in rows >>= λ options. first_of (codes "IMAGE") rows >>= λ image.
@@ -382,11 +402,16 @@ abbrev pub map_in : List Row → Option (Command Text)
 map_in rows = image_in rows >>= λ i. Some (command.Map
     (record { options = i.options; svg = is_given (codes "svg") rows; image = i.image }))
 
+-- of the objects that a path ever named, where one is given
+abbrev pub history_in : List Row → Option (Command Text)
+history_in rows = image_in rows >>= λ i. Some (command.History
+    (record { options = i.options; image = i.image; path = first_of (codes "PATH") rows }))
+
 -- the image that a subcommand writes
 abbrev pub target_in : List Row → Option (Target Text)
 target_in rows = options_in rows >>= λ options. number_option (codes "blocks") rows >>= λ blocks.
     (first_of (codes "page") rows >>= page_of) >>= λ page.
-    first_of (codes "OUT") rows >>= λ output.
+    output_in rows >>= λ output.
     Some (record {
       options = options;
       blocks = blocks;
@@ -425,7 +450,7 @@ update_in rows = options_in rows >>= λ options.
     if_given (first_of (codes "blocks") rows) decimal_number >>= λ blocks.
     (first_of (codes "page") rows >>= page_of) >>= λ page.
     first_of (codes "IMAGE") rows >>= λ image. first_of (codes "LISTING") rows >>= λ listing.
-    first_of (codes "OUT") rows >>= λ output.
+    output_in rows >>= λ output.
     Some (command.Update (record {
       options = options;
       blocks = blocks;
@@ -494,7 +519,7 @@ is_forced = is_given (codes "force")
 
 -- an image, and the one that is made of it
 abbrev pub conversion_in : List Row → Option (Conversion Text)
-conversion_in rows = image_in rows >>= λ i. first_of (codes "OUT") rows >>= λ output.
+conversion_in rows = image_in rows >>= λ i. output_in rows >>= λ output.
     Some (record {
       options = i.options;
       force = is_forced rows;
@@ -558,7 +583,7 @@ abbrev pub pack_in : List Row → Option (Command Text)
 pack_in rows = folder_in rows >>= λ l. options_in rows >>= λ options.
     if_given (first_of (codes "blocks") rows) decimal_number >>= λ blocks.
     (first_of (codes "page") rows >>= page_of) >>= λ page.
-    first_of (codes "OUT") rows >>= λ output.
+    output_in rows >>= λ output.
     pack_by (is_compressed rows) (record {
       options = options;
       blocks = blocks;
@@ -604,6 +629,7 @@ parsed name rows =
     else if bytes_eq name (codes "diff") then diff_in rows
     else if bytes_eq name (codes "damage") then damage_in rows
     else if bytes_eq name (codes "map") then map_in rows
+    else if bytes_eq name (codes "history") then history_in rows
     else if bytes_eq name (codes "pack") then pack_in rows
     else if bytes_eq name (codes "verify") then verify_in rows
     else None

@@ -2,6 +2,7 @@
 -- it decompresses are found in the image that it reads.
 use Rattle.std.specs.Prelude.{◌≡◌, ◌&&◌, ◌||◌, Bool, true, false, List, [], Option, Some, None, if◌then◌else◌, codes, is_none, is_some}
 use Rattle.std.specs.Borrow.{Bor}
+use Rattle.std.specs.Str.{bytes_eq}
 use Rattle.clap.specs.Words.{Row, Text, fault_of, first_of, subcommand_of}
 use Rattle.jline.specs.Read.{◌>>=◌}
 use Rattle.jcommand.specs.Commands.{program}
@@ -27,6 +28,7 @@ image_read (command.Info image) = None
 image_read (command.Diff d) = Some d.first
 image_read (command.Damage x) = Some x.image
 image_read (command.Map m) = Some m.image
+image_read (command.History h) = Some h.image
 image_read (command.Build b) = None
 image_read (command.BuildCompressed b) = None
 image_read (command.Append a) = Some a.image
@@ -56,6 +58,7 @@ writes_image (command.Info image) = false
 writes_image (command.Diff d) = false
 writes_image (command.Damage x) = false
 writes_image (command.Map m) = false
+writes_image (command.History h) = false
 writes_image (command.Build b) = true
 writes_image (command.BuildCompressed b) = true
 writes_image (command.Append a) = true
@@ -86,6 +89,7 @@ with_options o (command.Info image) = command.Info image
 with_options o (command.Diff d) = command.Diff (record d { options = o; decompress = true })
 with_options o (command.Damage x) = command.Damage (record x { options = o; decompress = true })
 with_options o (command.Map m) = command.Map (record m { options = o })
+with_options o (command.History h) = command.History (record h { options = o })
 with_options o (command.Build b) = command.Build b
 with_options o (command.BuildCompressed b) = command.BuildCompressed b
 with_options o (command.Append a) =
@@ -126,10 +130,19 @@ are_options_given rows = is_some (first_of (codes "block") rows)
 abbrev pub is_auto : List Row → Bool
 is_auto = is_given (codes "auto")
 
--- `--auto` says nothing beside one of these, or where no image is read
+-- `-` is standard input, which can be read once
+abbrev pub is_read_once : Option Text → Bool
+is_read_once None = false
+is_read_once (Some name) = bytes_eq name (codes "-")
+
+-- nothing is found in an image where none is read, or where it can be read only once
+abbrev pub has_no_second_read : Command Text → Bool
+has_no_second_read asked = is_none (image_read asked) || is_read_once (image_read asked)
+
+-- `--auto` says nothing beside one of these, or where the image is not read twice
 abbrev pub request_of : List Row → Command Text → Option (Request Text)
 request_of rows asked =
-    if is_auto rows && (are_options_given rows || is_none (image_read asked)) then None
+    if is_auto rows && (are_options_given rows || has_no_second_read asked) then None
     else Some (record { auto = is_auto rows; command = asked })
 
 abbrev pub request_by : Option (Text × List Row) → Option (Request Text)

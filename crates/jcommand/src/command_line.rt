@@ -143,8 +143,8 @@ fn order_objection<'a>(found: &ArgMatches<'a>) -> Objection<'a> {
     }
 }
 
-/// An option that `--auto` finds, or that there is no image to find it in.
-fn auto_objection<'a>(found: &ArgMatches<'a>) -> Objection<'a> {
+/// An option that `--auto` finds, or that there is no image to find it in, or one read only once.
+fn auto_objection<'a>(name: &str, found: &ArgMatches<'a>) -> Objection<'a> {
     if text_at(found, "block").is_some() {
         return Objection::Conflict("--auto", "--block <N>");
     }
@@ -160,7 +160,10 @@ fn auto_objection<'a>(found: &ArgMatches<'a>) -> Objection<'a> {
     if is_given(found, "decompress") {
         return Objection::Conflict("--auto", "--decompress");
     }
-    Objection::Missing("--on <IMAGE>")
+    match image_named(name, found) {
+        Some(_) => Objection::Conflict("--auto", "-"),
+        None => Objection::Missing("--on <IMAGE>"),
+    }
 }
 
 /// Of `cuts`, the first options that do not go together, or one that has to be there.
@@ -177,6 +180,26 @@ fn cuts_objection<'a>(found: &ArgMatches<'a>) -> Option<Objection<'a>> {
             Some(Objection::Missing("--update"))
         }
         false if text_at(found, "blocks").is_none() => Some(Objection::Missing("--blocks <N>")),
+        _ => None,
+    }
+}
+
+/// Whether a subcommand writes a file.
+fn writes_file(name: &str) -> bool {
+    matches!(
+        name,
+        "build" | "append" | "update" | "decompress" | "compress" | "compact" | "pack"
+    )
+}
+
+/// Of a subcommand that writes a file, one that is named twice, or not at all.
+fn output_objection<'a>(name: &str, found: &ArgMatches<'a>) -> Option<Objection<'a>> {
+    if !writes_file(name) {
+        return None;
+    }
+    match (text_at(found, "OUT"), text_at(found, "output")) {
+        (Some(_), Some(_)) => Some(Objection::Conflict("--output <FILE>", "[OUT]")),
+        (None, None) => Some(Objection::Missing("<OUT>")),
         _ => None,
     }
 }
@@ -220,20 +243,36 @@ fn value_objection<'a>(found: &ArgMatches<'a>) -> Objection<'a> {
     setting_objection(found)
 }
 
+/// The image that a subcommand reads, and of two the first.
+fn image_named<'a>(name: &str, found: &ArgMatches<'a>) -> Option<&'a str> {
+    match name {
+        "cuts" => text_at(found, "on"),
+        "diff" => text_at(found, "A"),
+        _ => text_at(found, "IMAGE"),
+    }
+}
+
+/// Whether no image is read, or one that can be read only once.
+fn is_alone(name: &str, found: &ArgMatches<'_>) -> bool {
+    matches!(image_named(name, found), None | Some("-"))
+}
+
 /// Why the words of a subcommand ask for nothing.
 fn objection_to<'a>(name: &str, found: &ArgMatches<'a>) -> Objection<'a> {
     if name == "listing" {
         return setting_objection(found);
     }
     let is_cuts = name == "cuts";
-    let is_alone = is_cuts && text_at(found, "on").is_none();
-    if is_given(found, "auto") && (is_alone || are_options_given(found)) {
-        return auto_objection(found);
+    if is_given(found, "auto") && (is_alone(name, found) || are_options_given(found)) {
+        return auto_objection(name, found);
     }
     if is_cuts {
         if let Some(objection) = cuts_objection(found) {
             return objection;
         }
+    }
+    if let Some(objection) = output_objection(name, found) {
+        return objection;
     }
     if is_given(found, "compress") && is_given(found, "weak") {
         return Objection::Conflict("--compress", "--weak");

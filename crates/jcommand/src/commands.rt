@@ -2,7 +2,7 @@
 //! takes.
 ghost use Rattle.std.specs.Prelude.{◌≡◌, Ok, IfOk};
 ghost use Rattle.clap.specs.Words.{App, Rule, new_app, with_rule, with_subcommand};
-ghost use Rattle.jcommand.specs.Commands.{IsApp, IsRule, MakesApp, word, optional_word, option_or, required_option, option_of, option_of_two, flag, lettered_flag, block_option, plain_command, automatic, reader, writer, noting, check_app, ls_app, cat_app, build_app, append_app, update_app, decompress_app, compress_app, compact_app, extract_app, listing_app, info_app, cuts_app, diff_app, damage_app, map_app, pack_app, verify_app, atomic, compressing, replacing, placing, updating, folder_settings, bare, program};
+ghost use Rattle.jcommand.specs.Commands.{IsApp, IsRule, MakesApp, word, optional_word, option_or, required_option, option_of, option_of_two, lettered_option, flag, lettered_flag, block_option, plain_command, automatic, reader, writer, noting, check_app, ls_app, cat_app, build_app, append_app, update_app, decompress_app, compress_app, compact_app, extract_app, listing_app, info_app, cuts_app, diff_app, damage_app, map_app, history_app, pack_app, verify_app, atomic, compressing, replacing, placing, writing, updating, folder_settings, bare, program};
 
 use crate::help;
 use clap::{Arg, ArgAction, Command};
@@ -94,6 +94,19 @@ fn make_lettered_flag<'a>(alloc: Global, id: &'a str, letter: char, help: &'a st
     make_flag(alloc, id, help).short(letter)
 }
 
+/// An option with a value that may be left out, and that has a letter too.
+fn make_lettered_option<'a>(
+    alloc: Global,
+    id: &'a str,
+    letter: char,
+    value: &'a str,
+    help: &'a str,
+) -> Arg<'a>
+    ensures { IsRule result (lettered_option id.now letter) }
+{
+    make_optional(alloc, id, value, help).short(letter)
+}
+
 /// The size of a block, by either name or by the letter.
 fn make_block<'a>(alloc: Global) -> Result<Arg<'a>, AllocError>
     ensures { IfOk result (λ arg. IsRule arg block_option) }
@@ -169,7 +182,7 @@ fn make_check<'a>(alloc: Global) -> Made<'a>
 fn make_ls<'a>(alloc: Global) -> Made<'a>
     ensures { MakesApp result ls_app }
 {
-    let decompress = make_flag(alloc, "decompress", help::DECOMPRESSED);
+    let decompress = make_flag(alloc, "decompress", help::SHOWN_DECOMPRESSED);
     let image = make_word(alloc, "IMAGE", help::IMAGE);
     let path = make_optional_word(alloc, "PATH", help::PART);
     let command = make_reader(alloc, "ls", help::LIST, help::LIST_EPILOGUE);
@@ -179,7 +192,7 @@ fn make_ls<'a>(alloc: Global) -> Made<'a>
 fn make_cat<'a>(alloc: Global) -> Made<'a>
     ensures { MakesApp result cat_app }
 {
-    let decompress = make_flag(alloc, "decompress", help::DECOMPRESSED);
+    let decompress = make_flag(alloc, "decompress", help::SHOWN_DECOMPRESSED);
     let image = make_word(alloc, "IMAGE", help::IMAGE);
     let path = make_word(alloc, "PATH", help::PATH);
     let command = make_reader(alloc, "cat", help::CAT, help::CAT_EPILOGUE);
@@ -224,8 +237,17 @@ fn add_replacing<'a>(alloc: Global, command: Made<'a>) -> Made<'a>
 fn add_placing<'a>(alloc: Global, command: Made<'a>) -> Made<'a>
     ensures { (app : App) → MakesApp command.entry app → MakesApp result (placing app) }
 {
-    let pad = make_flag(alloc, "pad", help::PAD);
+    let pad = make_lettered_flag(alloc, "pad", 'p', help::PAD);
     add_atomic(alloc, add_arg(command, pad))
+}
+
+/// The command that writes a file, which is named in its place, or by `-o`.
+fn add_output<'a>(alloc: Global, command: Made<'a>) -> Made<'a>
+    ensures { (app : App) → MakesApp command.entry app → MakesApp result (writing app) }
+{
+    let named = make_lettered_option(alloc, "output", 'o', "FILE", help::OUTPUT);
+    let placed = make_optional_word(alloc, "OUT", help::OUT);
+    add_arg(add_arg(command, named), placed)
 }
 
 /// The command that compresses the nodes that it writes, where that is asked for.
@@ -250,10 +272,9 @@ fn make_build<'a>(alloc: Global) -> Made<'a>
     ensures { MakesApp result build_app }
 {
     let listing = make_word(alloc, "LISTING", help::LISTING);
-    let output = make_word(alloc, "OUT", help::OUT);
     let command = make_noting(alloc, "build", help::BUILD, help::BUILD_EPILOGUE);
     let command = add_placing(alloc, add_compressing(alloc, command));
-    add_arg(add_arg(command, listing), output)
+    add_output(alloc, add_arg(command, listing))
 }
 
 fn make_append<'a>(alloc: Global) -> Made<'a>
@@ -262,11 +283,10 @@ fn make_append<'a>(alloc: Global) -> Made<'a>
     let decompress = make_flag(alloc, "decompress", help::DECOMPRESSED);
     let image = make_word(alloc, "IMAGE", help::IMAGE);
     let listing = make_word(alloc, "LISTING", help::LISTING);
-    let output = make_word(alloc, "OUT", help::OUT);
     let command = make_noting(alloc, "append", help::APPEND, help::APPEND_EPILOGUE);
     let command = add_placing(alloc, add_auto(alloc, command));
     let command = add_arg(command, decompress);
-    add_arg(add_arg(add_arg(command, image), listing), output)
+    add_output(alloc, add_arg(add_arg(command, image), listing))
 }
 
 fn make_update<'a>(alloc: Global) -> Made<'a>
@@ -276,11 +296,10 @@ fn make_update<'a>(alloc: Global) -> Made<'a>
     let page = make_option(alloc, "page", "N", "4096", help::PAGE);
     let image = make_word(alloc, "IMAGE", help::IMAGE);
     let listing = make_word(alloc, "LISTING", help::LISTING);
-    let output = make_word(alloc, "OUT", help::OUT);
     let command = make_reader(alloc, "update", help::UPDATE, help::UPDATE_EPILOGUE);
     let command = add_arg(add_arg(command, blocks), page);
     let command = add_placing(alloc, add_updating(alloc, command));
-    add_arg(add_arg(add_arg(command, image), listing), output)
+    add_output(alloc, add_arg(add_arg(command, image), listing))
 }
 
 fn make_decompress<'a>(alloc: Global) -> Made<'a>
@@ -288,7 +307,6 @@ fn make_decompress<'a>(alloc: Global) -> Made<'a>
 {
     let clashes = make_optional(alloc, "clashes", "RULE", help::CLASHES);
     let image = make_word(alloc, "IMAGE", help::IMAGE);
-    let output = make_word(alloc, "OUT", help::OUT);
     let command = make_reader(
         alloc,
         "decompress",
@@ -296,16 +314,15 @@ fn make_decompress<'a>(alloc: Global) -> Made<'a>
         help::DECOMPRESS_EPILOGUE,
     );
     let command = add_replacing(alloc, add_arg(command, clashes));
-    add_arg(add_arg(command, image), output)
+    add_output(alloc, add_arg(command, image))
 }
 
 fn make_compress<'a>(alloc: Global) -> Made<'a>
     ensures { MakesApp result compress_app }
 {
     let image = make_word(alloc, "IMAGE", help::IMAGE);
-    let output = make_word(alloc, "OUT", help::OUT);
     let command = make_reader(alloc, "compress", help::COMPRESS, help::COMPRESS_EPILOGUE);
-    add_arg(add_arg(add_replacing(alloc, command), image), output)
+    add_output(alloc, add_arg(add_replacing(alloc, command), image))
 }
 
 fn make_compact<'a>(alloc: Global) -> Made<'a>
@@ -315,10 +332,9 @@ fn make_compact<'a>(alloc: Global) -> Made<'a>
     let clashes = make_optional(alloc, "clashes", "RULE", help::CLASHES);
     let force = make_flag(alloc, "force", help::FORCE);
     let image = make_word(alloc, "IMAGE", help::IMAGE);
-    let output = make_word(alloc, "OUT", help::OUT);
     let command = make_reader(alloc, "compact", help::COMPACT, help::COMPACT_EPILOGUE);
     let command = add_placing(alloc, add_arg(add_arg(command, blocks), clashes));
-    add_arg(add_arg(add_arg(command, force), image), output)
+    add_output(alloc, add_arg(add_arg(command, force), image))
 }
 
 fn make_extract<'a>(alloc: Global) -> Made<'a>
@@ -407,6 +423,15 @@ fn make_map<'a>(alloc: Global) -> Made<'a>
     add_arg(add_arg(command, svg), image)
 }
 
+fn make_history<'a>(alloc: Global) -> Made<'a>
+    ensures { MakesApp result history_app }
+{
+    let image = make_word(alloc, "IMAGE", help::IMAGE);
+    let path = make_optional_word(alloc, "PATH", help::FORMER);
+    let command = make_reader(alloc, "history", help::HISTORY, help::HISTORY_EPILOGUE);
+    add_arg(add_arg(command, image), path)
+}
+
 fn make_pack<'a>(alloc: Global) -> Made<'a>
     ensures { MakesApp result pack_app }
 {
@@ -414,12 +439,11 @@ fn make_pack<'a>(alloc: Global) -> Made<'a>
     let page = make_option(alloc, "page", "N", "4096", help::PAGE);
     let weak = make_flag(alloc, "weak", help::WEAK);
     let folder = make_word(alloc, "DIR", help::FOLDER);
-    let output = make_word(alloc, "OUT", help::OUT);
     let command = make_plain(alloc, "pack", help::PACK, help::PACK_EPILOGUE);
     let command = add_arg(add_arg(add_arg(command, blocks), page), weak);
     let command = add_placing(alloc, add_compressing(alloc, command));
     let command = add_settings(alloc, command);
-    add_arg(add_arg(command, folder), output)
+    add_output(alloc, add_arg(command, folder))
 }
 
 fn make_verify<'a>(alloc: Global) -> Made<'a>
@@ -462,6 +486,7 @@ pub(crate) fn make_program<'a>(alloc: Global) -> Made<'a>
     let command = add_subcommand(command, make_diff(alloc));
     let command = add_subcommand(command, make_damage(alloc));
     let command = add_subcommand(command, make_map(alloc));
+    let command = add_subcommand(command, make_history(alloc));
     let command = add_subcommand(command, make_pack(alloc));
     add_subcommand(command, make_verify(alloc))
 }

@@ -39,6 +39,8 @@ pub(crate) const DAMAGE: &str = "Print what the damaged nodes of an image cost";
 
 pub(crate) const MAP: &str = "Print where the nodes of an image lie, block by block";
 
+pub(crate) const HISTORY: &str = "Print each node of an image, and what became of it";
+
 pub(crate) const PACK: &str = "Make an image of a folder of this host";
 
 pub(crate) const VERIFY: &str = "Print what differs between an image and a folder";
@@ -83,6 +85,8 @@ pub(crate) const CLASHES: &str = "If nodes clash, keep one by its address: highe
 
 pub(crate) const DECOMPRESSED: &str = "Take the image as decompress would write it";
 
+pub(crate) const SHOWN_DECOMPRESSED: &str = "Decompress the data that are shown";
+
 pub(crate) const BOTH_DECOMPRESSED: &str = "Take both images as decompress would write them";
 
 pub(crate) const MOUNTED_DECOMPRESSED: &str = "Mount the image with its data decompressed";
@@ -91,13 +95,15 @@ pub(crate) const PLAIN: &str = "Do not compress new nodes";
 
 pub(crate) const TAIL: &str = "Write behind nodes of begun blocks too: for NOR flash";
 
-pub(crate) const UPDATING: &str = "Tell the nodes of update, on the IMAGE of --on";
+pub(crate) const UPDATING: &str = "Take what update would write to the IMAGE of --on";
 
 pub(crate) const SVG: &str = "Print one SVG picture instead";
 
 pub(crate) const PATH: &str = "Path from the root, as /a/b; \\x and two hex digits are one byte";
 
 pub(crate) const PART: &str = "Path from the root, as for cat: that object and all below it";
+
+pub(crate) const FORMER: &str = "Path, as for cat: the objects that ever had this name";
 
 pub(crate) const LISTING: &str = "File with the operations, one per line";
 
@@ -114,6 +120,8 @@ pub(crate) const TIME: &str = "Time of everything, in seconds since 1970";
 pub(crate) const QUIET: &str = "Print no progress";
 
 pub(crate) const OUT: &str = "File to make or to write over, with the bytes of the flash";
+
+pub(crate) const OUTPUT: &str = "The same as OUT, which is left out then";
 
 /// What is at the end of the program's help.
 pub(crate) const EPILOGUE: &str = "\
@@ -709,6 +717,32 @@ node: of a name the directory and the inode, of data the inode and the bytes.
 Examples:
   jffs2_image map --block 131072 dump.img
   jffs2_image map --svg dump.img > dump.svg
+
+Exit status:
+  0  done
+  1  a fault, which standard error names
+  2  the command line is wrong";
+
+pub(crate) const HISTORY_EPILOGUE: &str = "\
+The image is mounted with its data decompressed. For each sound entry and inode
+node it prints a line, in the order of their addresses: the address, a word, and
+the fields of the node, as Linux names them.
+
+  live        the tree needs it, and compact keeps it
+  superseded  a newer node has taken its place
+  deletion    an entry that removes a name
+  deleted     an entry whose name was removed, or data of an object that no name
+              leads to
+  unreached   it counts, but no path leads to it
+  obsolete    it is marked obsolete; its fields are not printed
+
+The last line has how many nodes have each word. Nothing of the image is
+changed. With PATH it prints the nodes of each object that an entry ever gave
+this name, and these entries; the folder of PATH is found in the tree as it is.
+
+Examples:
+  jffs2_image history --auto dump.img
+  jffs2_image history --auto dump.img /etc/passwd
 
 Exit status:
   0  done

@@ -286,6 +286,20 @@ pub fn known_requests()
           svg = true;
           image = codes "a";
         })) }
+    ensures traced { parsed_from (codes "jffs2_image" ∷ codes "history" ∷ codes "--block=8192"
+        ∷ codes "a" ∷ [])
+        ≡ Some (command.History (record {
+          options = options_of 8192 Little;
+          image = codes "a";
+          path = None;
+        })) }
+    ensures traced_path { parsed_from (codes "jffs2_image" ∷ codes "history" ∷ codes "-b"
+        ∷ codes "a" ∷ codes "/b" ∷ [])
+        ≡ Some (command.History (record {
+          options = options_of 65536 Big;
+          image = codes "a";
+          path = Some (codes "/b");
+        })) }
     ensures packed { parsed_from (codes "jffs2_image" ∷ codes "pack" ∷ codes "a" ∷ codes "b" ∷ [])
         ≡ Some (command.Pack folder_a) }
     ensures packed_compressed { parsed_from (codes "jffs2_image" ∷ codes "pack" ∷ codes "a"
@@ -361,6 +375,14 @@ pub fn known_placings()
     ensures both { parsed_from (codes "jffs2_image" ∷ codes "pack" ∷ codes "a" ∷ codes "--pad"
         ∷ codes "b" ∷ codes "--atomic" ∷ [])
         ≡ Some (command.Pack (record folder_a { placing = record { pad = true; atomic = true } })) }
+    ensures by_letters { parsed_from (codes "jffs2_image" ∷ codes "update" ∷ codes "-o"
+        ∷ codes "c" ∷ codes "-p" ∷ codes "a" ∷ codes "b" ∷ [])
+        ≡ Some (command.Update (record c_of_a {
+          placing = record { pad = true; atomic = false };
+        })) }
+    ensures by_name { parsed_from (codes "jffs2_image" ∷ codes "compress" ∷ codes "--output=b"
+        ∷ codes "a" ∷ [])
+        ≡ Some (command.Compress b_of_a) }
 {}
 
 /// Words that ask for nothing.
@@ -379,9 +401,10 @@ pub fn known_refusals()
         ≡ MissingRequiredArgument ∷ [] }
     ensures no_blocks { fault_of program (codes "jffs2_image" ∷ codes "build" ∷ codes "a"
         ∷ codes "b" ∷ []) ≡ MissingRequiredArgument ∷ [] }
-    ensures no_output { fault_of program (codes "jffs2_image" ∷ codes "append" ∷ codes "--blocks"
-        ∷ codes "2" ∷ codes "a" ∷ codes "b" ∷ [])
-        ≡ MissingRequiredArgument ∷ [] }
+    ensures no_output { parsed_from (codes "jffs2_image" ∷ codes "append" ∷ codes "--blocks"
+        ∷ codes "2" ∷ codes "a" ∷ codes "b" ∷ []) ≡ None }
+    ensures two_outputs { parsed_from (codes "jffs2_image" ∷ codes "compress" ∷ codes "a"
+        ∷ codes "b" ∷ codes "-o" ∷ codes "c" ∷ []) ≡ None }
     ensures not_of_cat { fault_of program
         (codes "jffs2_image" ∷ codes "cat" ∷ codes "--blocks=2" ∷ codes "a" ∷ codes "/b" ∷ [])
         ≡ UnknownArgument ∷ [] }
@@ -393,14 +416,16 @@ pub fn known_refusals()
         ∷ codes "--decompress" ∷ codes "a" ∷ []) ≡ UnknownArgument ∷ [] }
     ensures not_mapped { fault_of program (codes "jffs2_image" ∷ codes "map" ∷ codes "--svg" ∷ [])
         ≡ MissingRequiredArgument ∷ [] }
+    ensures not_of_history { fault_of program (codes "jffs2_image" ∷ codes "history"
+        ∷ codes "--decompress" ∷ codes "a" ∷ []) ≡ UnknownArgument ∷ [] }
     ensures not_of_update { fault_of program (codes "jffs2_image" ∷ codes "update"
         ∷ codes "--weak" ∷ codes "a" ∷ codes "b" ∷ codes "c" ∷ []) ≡ UnknownArgument ∷ [] }
-    ensures not_updated { fault_of program (codes "jffs2_image" ∷ codes "update" ∷ codes "a"
-        ∷ codes "b" ∷ []) ≡ MissingRequiredArgument ∷ [] }
-    ensures not_decompressed { fault_of program
-        (codes "jffs2_image" ∷ codes "decompress" ∷ codes "a" ∷ []) ≡ MissingRequiredArgument ∷ [] }
-    ensures not_compressed { fault_of program
-        (codes "jffs2_image" ∷ codes "compress" ∷ codes "a" ∷ []) ≡ MissingRequiredArgument ∷ [] }
+    ensures not_updated { parsed_from (codes "jffs2_image" ∷ codes "update" ∷ codes "a"
+        ∷ codes "b" ∷ []) ≡ None }
+    ensures not_decompressed { parsed_from
+        (codes "jffs2_image" ∷ codes "decompress" ∷ codes "a" ∷ []) ≡ None }
+    ensures not_compressed { parsed_from
+        (codes "jffs2_image" ∷ codes "compress" ∷ codes "a" ∷ []) ≡ None }
     ensures not_of_info { fault_of program (codes "jffs2_image" ∷ codes "info"
         ∷ codes "--block=4096" ∷ codes "a" ∷ []) ≡ UnknownArgument ∷ [] }
     ensures no_flash { parsed_from (codes "jffs2_image" ∷ codes "cuts" ∷ codes "a" ∷ []) ≡ None }
@@ -420,8 +445,8 @@ pub fn known_refusals()
         ≡ MissingRequiredArgument ∷ [] }
     ensures not_verified { fault_of program (codes "jffs2_image" ∷ codes "verify" ∷ codes "a"
         ∷ []) ≡ MissingRequiredArgument ∷ [] }
-    ensures not_packed { fault_of program (codes "jffs2_image" ∷ codes "pack" ∷ codes "a" ∷ [])
-        ≡ MissingRequiredArgument ∷ [] }
+    ensures not_packed { parsed_from (codes "jffs2_image" ∷ codes "pack" ∷ codes "a" ∷ [])
+        ≡ None }
     ensures not_padded { fault_of program (codes "jffs2_image" ∷ codes "compress" ∷ codes "--pad"
         ∷ codes "a" ∷ codes "b" ∷ []) ≡ UnknownArgument ∷ [] }
     ensures no_folder { fault_of program (codes "jffs2_image" ∷ codes "extract" ∷ codes "a" ∷ [])
@@ -499,6 +524,8 @@ pub fn known_autos()
         ∷ codes "--decompress" ∷ codes "a" ∷ []) ≡ None }
     ensures cut_alone { request_from (codes "jffs2_image" ∷ codes "cuts" ∷ codes "--auto"
         ∷ codes "--blocks=2" ∷ codes "a" ∷ []) ≡ None }
+    ensures read_once { request_from (codes "jffs2_image" ∷ codes "ls" ∷ codes "--auto"
+        ∷ codes "-" ∷ []) ≡ None }
     ensures not_of_build { fault_of program (codes "jffs2_image" ∷ codes "build"
         ∷ codes "--auto" ∷ codes "--blocks=2" ∷ codes "a" ∷ codes "b" ∷ [])
         ≡ UnknownArgument ∷ [] }

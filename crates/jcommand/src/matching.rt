@@ -1,13 +1,13 @@
 //! What the matches of the program's command line ask for.
 ghost use Rattle.std.specs.Prelude.{◌≡◌, codes, map, option_map};
 ghost use Rattle.clap.specs.Words.{found_of, rows_of, all_of, first_of};
-ghost use Rattle.jcommand.specs.Parsed.{append_in, block_size_in, build_in, cat_in, check_in, command_view, compact_in, conversion_in, conversion_view, cuts_in, damage_in, decimal_number, decompress_in, diff_in, endian_of, extract_in, folder_in, folder_view, if_given, image_in, image_view, info_in, is_apart, is_given, log_cuts_in, ls_in, map_in, number_option, options_in, order_in, order_named, owner_number, owner_of, pack_in, page_of, parsed, placing_in, target_in, target_view, update_cuts_in, update_in, verify_in};
-ghost use Rattle.jcommand.specs.Requests.{are_options_given, request_of, request_view};
+ghost use Rattle.jcommand.specs.Parsed.{append_in, block_size_in, build_in, cat_in, check_in, command_view, compact_in, conversion_in, conversion_view, cuts_in, damage_in, decimal_number, decompress_in, diff_in, endian_of, extract_in, folder_in, folder_view, history_in, if_given, image_in, image_view, info_in, is_apart, is_given, log_cuts_in, ls_in, map_in, number_option, options_in, order_in, order_named, output_in, owner_number, owner_of, pack_in, page_of, parsed, placing_in, target_in, target_view, update_cuts_in, update_in, verify_in};
+ghost use Rattle.jcommand.specs.Requests.{are_options_given, has_no_second_read, request_of, request_view};
 
 use crate::parsed::{
     Appending, Building, Check, Command, Compaction, Comparison, Conversion, Cuts, CutsThrough,
-    Examination, Extraction, FileContent, FolderListing, Image, Mapping, Options, Owner, Packing,
-    Placing, Target, TreeListing, UpdateCuts, Updating, Verification,
+    Examination, Extraction, FileContent, FolderListing, Image, Mapping, NodeHistory, Options,
+    Owner, Packing, Placing, Target, TreeListing, UpdateCuts, Updating, Verification,
 };
 use crate::request::Request;
 use crate::sizes::size;
@@ -146,6 +146,17 @@ fn placing_at(found: &ArgMatches<'_>) -> Placing
     }
 }
 
+/// The file that is written, which is named in its place, or by `-o`.
+fn output_at<'a>(found: &ArgMatches<'a>) -> Option<&'a str>
+    ensures { option_map (λ t. t.now) result ≡ output_in (rows_of (found_of found.now)) }
+{
+    match (text_at(found, "OUT"), text_at(found, "output")) {
+        (None, named) => named,
+        (placed, None) => placed,
+        (Some(_), Some(_)) => None,
+    }
+}
+
 /// The options and the image that a subcommand reads.
 fn image_at<'a>(found: &ArgMatches<'a>) -> Option<Image<&'a str>>
     ensures { option_map image_view result ≡ image_in (rows_of (found_of found.now)) }
@@ -240,6 +251,17 @@ fn map_at<'a>(found: &ArgMatches<'a>) -> Option<Command<&'a str>>
     }))
 }
 
+fn history_at<'a>(found: &ArgMatches<'a>) -> Option<Command<&'a str>>
+    ensures { option_map command_view result ≡ history_in (rows_of (found_of found.now)) }
+{
+    let Image { options, image } = image_at(found)?;
+    Some(Command::History(NodeHistory {
+        options,
+        image,
+        path: text_at(found, "PATH"),
+    }))
+}
+
 /// The image that a subcommand writes.
 fn target_at<'a>(found: &ArgMatches<'a>) -> Option<Target<&'a str>>
     ensures { option_map target_view result ≡ target_in (rows_of (found_of found.now)) }
@@ -250,7 +272,7 @@ fn target_at<'a>(found: &ArgMatches<'a>) -> Option<Target<&'a str>>
         page: page(text_at(found, "page")?)?,
         weak: is_given(found, "weak"),
         placing: placing_at(found),
-        output: text_at(found, "OUT")?,
+        output: output_at(found)?,
     })
 }
 
@@ -291,7 +313,7 @@ fn update_at<'a>(found: &ArgMatches<'a>) -> Option<Command<&'a str>>
         placing: placing_at(found),
         image: text_at(found, "IMAGE")?,
         listing: text_at(found, "LISTING")?,
-        output: text_at(found, "OUT")?,
+        output: output_at(found)?,
     }))
 }
 
@@ -361,7 +383,7 @@ fn conversion_at<'a>(found: &ArgMatches<'a>) -> Option<Conversion<&'a str>>
         force: is_given(found, "force"),
         placing: placing_at(found),
         image,
-        output: text_at(found, "OUT")?,
+        output: output_at(found)?,
     })
 }
 
@@ -481,7 +503,7 @@ fn pack_at<'a>(found: &ArgMatches<'a>) -> Option<Command<&'a str>>
         time: folder.time,
         quiet: folder.quiet,
         folder: folder.folder,
-        output: text_at(found, "OUT")?,
+        output: output_at(found)?,
     };
     match (is_given(found, "compress"), packing.weak) {
         (false, _) => Some(Command::Pack(packing)),
@@ -528,6 +550,7 @@ pub(crate) fn parsed_of<'a>(name: &str, found: &ArgMatches<'a>) -> Option<Comman
         "diff" => diff_at(found),
         "damage" => damage_at(found),
         "map" => map_at(found),
+        "history" => history_at(found),
         "pack" => pack_at(found),
         "verify" => verify_at(found),
         _ => None,
@@ -545,6 +568,17 @@ pub(crate) fn are_options_given(found: &ArgMatches<'_>) -> bool
         || is_given(found, "decompress")
 }
 
+/// Whether options can't be found in the image of a command: none is read, or it is standard input,
+/// which can be read once.
+pub(crate) fn has_no_second_read(command: &Command<&str>) -> bool
+    ensures { result ≡ has_no_second_read (command_view command.now) }
+{
+    match command.image() {
+        None | Some("-") => true,
+        Some(_) => false,
+    }
+}
+
 /// What the command is given, and whether its options are found; or nothing where these are given
 /// too, or there is no image that they are found in.
 pub(crate) fn request_at<'a>(
@@ -555,7 +589,7 @@ pub(crate) fn request_at<'a>(
         (command_view command.entry) }
 {
     let auto = is_given(found, "auto");
-    if auto && (are_options_given(found) || command.image().is_none()) {
+    if auto && (are_options_given(found) || has_no_second_read(&command)) {
         return None;
     }
     Some(Request { auto, command })

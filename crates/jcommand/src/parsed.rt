@@ -125,6 +125,14 @@ pub struct Mapping<T> {
     pub image: T,
 }
 
+/// What became of each node of an image, or of those of the objects that a path ever named.
+#[derive(Clone, Copy)]
+pub struct NodeHistory<T> {
+    pub options: Options,
+    pub image: T,
+    pub path: Option<T>,
+}
+
 /// The flash that is written, the page that files are cut by, and the file that holds its bytes;
 /// with `weak`, weak nodes are noted when all is written.
 #[derive(Clone, Copy)]
@@ -260,6 +268,8 @@ pub enum Command<T> {
     Damage(Examination<T>),
     /// `map`.
     Map(Mapping<T>),
+    /// `history`.
+    History(NodeHistory<T>),
     /// `build`.
     Build(Building<T>),
     /// `build --compress`: the same in nodes that are compressed if that makes them shorter.
@@ -312,6 +322,7 @@ impl<T> Command<T> {
             Command::Diff(asked) => asked.options.endian,
             Command::Damage(asked) => asked.options.endian,
             Command::Map(asked) => asked.options.endian,
+            Command::History(asked) => asked.options.endian,
             Command::Build(asked) | Command::BuildCompressed(asked) => {
                 asked.target.options.endian
             }

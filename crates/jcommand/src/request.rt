@@ -5,8 +5,8 @@ ghost use Rattle.jcommand.specs.Requests.{image_read, with_options, writes_image
 
 use crate::parsed::{
     Appending, Check, Command, Compaction, Comparison, Conversion, Cuts, CutsThrough, Examination,
-    Extraction, FileContent, Image, Mapping, Options, Target, TreeListing, UpdateCuts, Updating,
-    Verification,
+    Extraction, FileContent, Image, Mapping, NodeHistory, Options, Target, TreeListing, UpdateCuts,
+    Updating, Verification,
 };
 
 /// What a command line asks for. Files, folders and paths are named by texts `T`.
@@ -84,6 +84,7 @@ impl<'a> Command<&'a str> {
             Command::Diff(asked) => Some(asked.first),
             Command::Damage(asked) => Some(asked.image),
             Command::Map(asked) => Some(asked.image),
+            Command::History(asked) => Some(asked.image),
             Command::Append(asked) => Some(asked.image),
             Command::Update(asked) => Some(asked.image),
             Command::Cuts(asked) => asked.on,
@@ -157,6 +158,7 @@ impl<'a> Command<&'a str> {
                 ..it
             }),
             Command::Map(it) => Command::Map(Mapping { options, ..it }),
+            Command::History(it) => Command::History(NodeHistory { options, ..it }),
             Command::Append(it) => Command::Append(extended(it, options)),
             Command::Update(it) => Command::Update(Updating { options, ..it }),
             Command::Cuts(it) => Command::CutsThrough(through(it, options)),

@@ -29,5 +29,6 @@ pub use crate::extracting::{extract, extract_part};
 pub use crate::fault::ExtractFault;
 pub use crate::folder::{Attributes, FilledFile, Folder, FolderFault, Owner};
 pub use crate::parts::{Part, PartFault, part_at};
+pub use crate::paths::push_names;
 pub use crate::reason::Reason;
 pub use crate::totals::Totals;

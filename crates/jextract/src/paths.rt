@@ -22,7 +22,7 @@ fn are_names(names: &[&[u8]]) -> bool
 }
 
 /// Appends these names, a slash before each.
-fn push_names(text: &mut Vec<u8>, names: &[&[u8]]) -> Result<(), AllocError>
+pub fn push_names(text: &mut Vec<u8>, names: &[&[u8]]) -> Result<(), AllocError>
     ensures { OnOk result
         (text.new.items ≡ text.old.items ++ flat_map (λ name. 47 ∷ name.now) names.now) }
 {

@@ -81,10 +81,11 @@ refusal_note op.NotFound =
 refusal_note op.NotDirectory =
     codes "a path goes on after something that is no directory, perhaps a symlink"
 refusal_note op.Exists =
-    codes "the new name is there; remove it by an earlier line, or use replace or put"
+    codes "the new name is there; remove it by an earlier line, "
+    ++ codes "or use replace or put if it is no directory"
 refusal_note op.WrongKind =
-    codes "only a regular file is written or cut; a directory is not linked; "
-    ++ codes "attr takes no symlink or device"
+    codes "write and truncate take regular files, link and replace no directory, "
+    ++ codes "attr no symlink or device"
 refusal_note op.NotEmpty = codes "the directory has names, perhaps some that lead to no object"
 refusal_note op.IntoItself = codes "a directory is not moved into or below itself"
 refusal_note op.TooLarge = codes "a file has at most 2147483647 bytes"

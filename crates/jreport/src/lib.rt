@@ -59,7 +59,7 @@ pub use crate::met::MetDirectories;
 pub use crate::named_notes::put_named_notes;
 pub use crate::no_nodes::{others_if_none, put_none_notes, refuse_no_nodes};
 pub use crate::notes::{noted, put_note};
-pub use crate::paths::path_word;
+pub use crate::paths::{names_of_path, path_word};
 pub use crate::reason::{Reason, Unopened};
 pub use crate::refusal::mount_or_tell;
 pub use crate::report::{Lines, put_report, scan_lines};

@@ -24,10 +24,7 @@ pub fn path_word(alloc: Global, word: &[u8]) -> Result<Vec<u8>, ProgramFault<'st
 }
 
 /// The names of a path, in order: none of the root's; `None` of a text that is no path.
-pub(crate) fn names_of_path<'a>(
-    alloc: Global,
-    text: &'a [u8],
-) -> Result<Option<Vec<&'a [u8]>>, AllocError>
+pub fn names_of_path<'a>(alloc: Global, text: &'a [u8]) -> Result<Option<Vec<&'a [u8]>>, AllocError>
     ensures { IfOk result
         (λ o. option_map (λ names. map (λ n. n.now) names.items) o ≡ path_names text.now) }
 {

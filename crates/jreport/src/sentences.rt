@@ -142,11 +142,12 @@ pub(crate) fn refusal_note(fault: OpFault) -> &'static [u8]
             b"a path goes on after something that is no directory, perhaps a symlink"
         }
         OpFault::Exists => {
-            b"the new name is there; remove it by an earlier line, or use replace or put"
+            b"the new name is there; remove it by an earlier line, \
+              or use replace or put if it is no directory"
         }
         OpFault::WrongKind => {
-            b"only a regular file is written or cut; a directory is not linked; \
-              attr takes no symlink or device"
+            b"write and truncate take regular files, link and replace no directory, \
+              attr no symlink or device"
         }
         OpFault::NotEmpty => b"the directory has names, perhaps some that lead to no object",
         OpFault::IntoItself => b"a directory is not moved into or below itself",

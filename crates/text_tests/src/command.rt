@@ -6,6 +6,7 @@ mod decompressing;
 mod finding;
 mod folders;
 mod growth;
+mod outputs;
 mod packing;
 mod sizes;
 mod updating;

@@ -2,6 +2,7 @@
 //! and the first is the program's own name.
 
 use crate::checks::{equal, equal_at, expect, expect_at};
+use crate::command::outputs::shown_history;
 use crate::command::packing::shown_packing;
 use crate::command::updating::{shown_mapping, shown_update_cuts, shown_updating};
 use crate::command::verifying::shown_verification;
@@ -253,6 +254,7 @@ pub(crate) fn shown(alloc: Global, command: Command<&str>) -> Result<String, All
         Command::Diff(asked) => shown_comparison(alloc, asked),
         Command::Damage(asked) => shown_examination(alloc, asked),
         Command::Map(asked) => shown_mapping(alloc, asked),
+        Command::History(asked) => shown_history(alloc, asked),
         Command::Build(asked) => shown_building(alloc, "build", asked),
         Command::BuildCompressed(asked) => shown_building(alloc, "compressed build", asked),
         Command::Append(asked) => shown_appending(alloc, asked),
@@ -642,14 +644,14 @@ const HELP: [(&str, &str); 24] = [
     ("t cat --help", "Usage: t cat [OPTIONS] <IMAGE> <PATH>"),
     (
         "t build --help",
-        "Usage: t build [OPTIONS] --blocks <N> <LISTING> <OUT>",
+        "Usage: t build [OPTIONS] --blocks <N> <LISTING> [OUT]",
     ),
     ("t build -h", "Blocks of the flash, 268435456 bytes at most"),
     ("t help build", "write PATH OFFSET HEX"),
     ("t help build", "accepted A nodes N bytes B"),
     (
         "t append --help",
-        "Usage: t append [OPTIONS] --blocks <N> <IMAGE> <LISTING> <OUT>",
+        "Usage: t append [OPTIONS] --blocks <N> <IMAGE> <LISTING> [OUT]",
     ),
     ("t help append", "IMAGE and OUT may be the same file"),
     ("t --help", "jffs2_image build --blocks 64"),

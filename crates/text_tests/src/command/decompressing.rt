@@ -144,7 +144,7 @@ fn args_that_decompress_wrongly(rt: HostRuntime) -> Result<(), Fail> {
 const HELP: [(&str, &str); 8] = [
     (
         "t decompress --help",
-        "Usage: t decompress [OPTIONS] <IMAGE> <OUT>",
+        "Usage: t decompress [OPTIONS] <IMAGE> [OUT]",
     ),
     ("t help decompress", "decompressed C nodes N bytes B"),
     ("t check --help", "--decompress"),

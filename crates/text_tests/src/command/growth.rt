@@ -95,6 +95,7 @@ fn name_of(command: &Command<&str>) -> &'static str {
         Command::Diff(_) => "diff",
         Command::Damage(_) => "damage",
         Command::Map(_) => "map",
+        Command::History(_) => "history",
         Command::Build(_) => "build",
         Command::BuildCompressed(_) => "compressed build",
         Command::Append(_) => "append",

@@ -252,7 +252,7 @@ fn args_that_pack_wrongly(rt: HostRuntime) -> Result<(), Fail> {
 
 /// Lines that ask for help, and a part of it.
 const HELP: [(&str, &str); 9] = [
-    ("t pack --help", "Usage: t pack [OPTIONS] <DIR> <OUT>"),
+    ("t pack --help", "Usage: t pack [OPTIONS] <DIR> [OUT]"),
     (
         "t help pack",
         "the image that build makes of the listing of DIR",

@@ -221,14 +221,14 @@ fn args_that_update_and_map_wrongly(rt: HostRuntime) -> Result<(), Fail> {
 const HELP: [(&str, &str); 9] = [
     (
         "t update --help",
-        "Usage: t update [OPTIONS] <IMAGE> <LISTING> <OUT>",
+        "Usage: t update [OPTIONS] <IMAGE> <LISTING> [OUT]",
     ),
     ("t update -h", "Do not compress new nodes"),
     ("t help update", "new nodes in its blank blocks"),
     ("t cuts --help", "Usage: t cuts [OPTIONS] <LISTING>"),
     (
         "t cuts -h",
-        "Tell the nodes of update, on the IMAGE of --on",
+        "Take what update would write to the IMAGE of --on",
     ),
     ("t map --help", "Usage: t map [OPTIONS] <IMAGE>"),
     ("t map -h", "Print one SVG picture instead"),

@@ -7,4 +7,4 @@ returns c =
     let first = c.add_arg-command.ensures _ _ placed c.make_flag-decompress.ensures in
     let second = c.add_arg.ensures _ _ first c.make_word-image.ensures in
     let third = c.add_arg-2.ensures _ _ second c.make_word-listing.ensures in
-    c.add_arg-3.ensures _ _ third c.make_word-output.ensures
+    c.add_output.ensures _ third

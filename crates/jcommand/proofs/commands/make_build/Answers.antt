@@ -5,4 +5,4 @@ returns c =
     let packed = c.add_compressing.ensures _ c.make_noting-command.ensures in
     let placed = c.add_placing-command.ensures _ packed in
     let first = c.add_arg.ensures _ _ placed c.make_word-listing.ensures in
-    c.add_arg-2.ensures _ _ first c.make_word-output.ensures
+    c.add_output.ensures _ first

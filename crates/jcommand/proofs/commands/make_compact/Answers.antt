@@ -7,4 +7,4 @@ returns c =
     let placed = c.add_placing-command.ensures _ second in
     let third = c.add_arg-3.ensures _ _ placed c.make_flag-force.ensures in
     let fourth = c.add_arg-4.ensures _ _ third c.make_word-image.ensures in
-    c.add_arg-5.ensures _ _ fourth c.make_word-output.ensures
+    c.add_output.ensures _ fourth

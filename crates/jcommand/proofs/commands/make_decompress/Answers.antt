@@ -5,4 +5,4 @@ returns c =
     let first = c.add_arg.ensures _ _ c.make_reader-command.ensures c.make_optional-clashes.ensures in
     let placed = c.add_replacing-command.ensures _ first in
     let second = c.add_arg-2.ensures _ _ placed c.make_word-image.ensures in
-    c.add_arg-3.ensures _ _ second c.make_word-output.ensures
+    c.add_output.ensures _ second

@@ -9,4 +9,4 @@ returns c =
     let placed = c.add_placing-command.ensures _ packed in
     let set = c.add_settings-command.ensures _ placed in
     let fourth = c.add_arg-3.ensures _ _ set c.make_word-folder.ensures in
-    c.add_arg-4.ensures _ _ fourth c.make_word-output.ensures
+    c.add_output.ensures _ fourth

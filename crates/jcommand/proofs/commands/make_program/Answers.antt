@@ -20,5 +20,6 @@ returns c =
     let diff = c.add_subcommand-command-14.ensures _ _ cuts c.make_diff.ensures in
     let damage = c.add_subcommand-command-15.ensures _ _ diff c.make_damage.ensures in
     let map = c.add_subcommand-command-16.ensures _ _ damage c.make_map.ensures in
-    let pack = c.add_subcommand-command-17.ensures _ _ map c.make_pack.ensures in
+    let history = c.add_subcommand-command-17.ensures _ _ map c.make_history.ensures in
+    let pack = c.add_subcommand-command-18.ensures _ _ history c.make_pack.ensures in
     c.add_subcommand.ensures _ _ pack c.make_verify.ensures

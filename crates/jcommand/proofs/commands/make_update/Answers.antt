@@ -7,4 +7,4 @@ returns c =
     let placed = c.add_placing-command.ensures _ (c.add_updating.ensures _ second) in
     let third = c.add_arg-2.ensures _ _ placed c.make_word-image.ensures in
     let fourth = c.add_arg-3.ensures _ _ third c.make_word-listing.ensures in
-    c.add_arg-4.ensures _ _ fourth c.make_word-output.ensures
+    c.add_output.ensures _ fourth

@@ -48,3 +48,7 @@ returns-clause-cut_alone c = refl
 pub returns-clause-not_of_build : goal.returns-clause-not_of_build
 unfolding clap_on_literals program parsed request_from
 returns-clause-not_of_build c = refl
+
+pub returns-clause-read_once : goal.returns-clause-read_once
+unfolding clap_on_literals program parsed request_from
+returns-clause-read_once c = refl

@@ -27,3 +27,11 @@ returns-clause-updated c = refl
 pub returns-clause-updated_in_place : goal.returns-clause-updated_in_place
 unfolding clap_on_literals program parsed parsed_from
 returns-clause-updated_in_place c = refl
+
+pub returns-clause-by_letters : goal.returns-clause-by_letters
+unfolding clap_on_literals program parsed parsed_from
+returns-clause-by_letters c = refl
+
+pub returns-clause-by_name : goal.returns-clause-by_name
+unfolding clap_on_literals program parsed parsed_from
+returns-clause-by_name c = refl

@@ -167,3 +167,11 @@ returns-clause-always_decompressed c = refl
 pub returns-clause-no_plain : goal.returns-clause-no_plain
 unfolding clap_on_literals program parsed parsed_from
 returns-clause-no_plain c = refl
+
+pub returns-clause-two_outputs : goal.returns-clause-two_outputs
+unfolding clap_on_literals program parsed parsed_from
+returns-clause-two_outputs c = refl
+
+pub returns-clause-not_of_history : goal.returns-clause-not_of_history
+unfolding clap_on_literals program parsed parsed_from
+returns-clause-not_of_history c = refl

@@ -187,3 +187,11 @@ returns-clause-verified c = refl
 pub returns-clause-cut_update : goal.returns-clause-cut_update
 unfolding clap_on_literals program parsed parsed_from
 returns-clause-cut_update c = refl
+
+pub returns-clause-traced : goal.returns-clause-traced
+unfolding clap_on_literals program parsed parsed_from
+returns-clause-traced c = refl
+
+pub returns-clause-traced_path : goal.returns-clause-traced_path
+unfolding clap_on_literals program parsed parsed_from
+returns-clause-traced_path c = refl

@@ -1,10 +1,10 @@
 use Rattle.std.proofs.Common.{◌≡◌, Bool, true, false, List, Option, None, Some, refl, ap, sym}
-use Rattle.std.specs.Prelude.{◌&&◌, ◌||◌, if◌then◌else◌, is_none, option_map}
+use Rattle.std.specs.Prelude.{◌&&◌, ◌||◌, if◌then◌else◌, option_map}
 use Rattle.clap.specs.Words.{Row, Text, subcommand_of}
 use Rattle.jline.specs.Read.{◌>>=◌}
 use Rattle.jcommand.specs.Commands.{program}
 use Rattle.jcommand.specs.Parsed.{parsed, parsed_by, parsed_from}
-use Rattle.jcommand.specs.Requests.{are_options_given, auto_by, auto_from, image_read, is_auto, request_by, request_from, request_of}
+use Rattle.jcommand.specs.Requests.{are_options_given, auto_by, auto_from, has_no_second_read, is_auto, request_by, request_from, request_of}
 use Rattle.jcommand.specs.declared.parsed.Command.{Command}
 use Rattle.jcommand.specs.declared.request.Request.{Request}
 use Rattle.jcommand.proofs.laws.requests_are_parsed.Goals as goal
@@ -20,11 +20,11 @@ by_auto false refused c r is = cc
 
 of_command : (read : Option (Command Text)) (rows : List Row) (r : Request Text) → (read >>= request_of rows) ≡ Some r → read ≡ Some r.command
 of_command None rows r is = cc
-of_command (Some c) rows r is = ap (λ (q : Request Text). Some q.command) (by_auto (is_auto rows) (are_options_given rows || is_none (image_read c)) c r is)
+of_command (Some c) rows r is = ap (λ (q : Request Text). Some q.command) (by_auto (is_auto rows) (are_options_given rows || has_no_second_read c) c r is)
 
 auto_of : (read : Option (Command Text)) (rows : List Row) (r : Request Text) → (read >>= request_of rows) ≡ Some r → r.auto ≡ is_auto rows
 auto_of None rows r is = cc
-auto_of (Some c) rows r is = sym (ap (λ (q : Request Text). q.auto) (by_auto (is_auto rows) (are_options_given rows || is_none (image_read c)) c r is))
+auto_of (Some c) rows r is = sym (ap (λ (q : Request Text). q.auto) (by_auto (is_auto rows) (are_options_given rows || has_no_second_read c) c r is))
 
 plain_by : (auto refused : Bool) (c : Command Text) → auto ≡ false → (if auto && refused then None else Some (made auto c)) ≡ Some (made false c)
 plain_by true refused c is = cc
@@ -32,7 +32,7 @@ plain_by false refused c is = refl
 
 plain_of : (read : Option (Command Text)) (rows : List Row) → is_auto rows ≡ false → (read >>= request_of rows) ≡ option_map (made false) read
 plain_of None rows is = refl
-plain_of (Some c) rows is = plain_by (is_auto rows) (are_options_given rows || is_none (image_read c)) c is
+plain_of (Some c) rows is = plain_by (is_auto rows) (are_options_given rows || has_no_second_read c) c is
 
 -- by clap's matches
 found_command : (found : Option (Text × List Row)) (r : Request Text) → request_by found ≡ Some r → parsed_by found ≡ Some r.command
