@@ -325,7 +325,8 @@ print\n\
 d 0755 0 0 0 0 1 /\n\
 say\n\
 jffs2_image: note: 2 findings, see check --scan; a wrong --block or --endian shows as findings too, see info\n\
-jffs2_image: note: the other byte order has 1 node, see --endian and info\n",
+jffs2_image: note: the other byte order has 1 node, see --endian and info\n\
+jffs2_image: note: this looks like --endian big --block 4194304 (or --auto)\n",
         status: 0,
     },
     // those of the image that was read

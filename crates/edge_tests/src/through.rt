@@ -1,4 +1,4 @@
-//! `check --decompress` and `map` over a host in memory. The reports are those of
+//! `check --decompress`, `map` and `history` over a host in memory. The reports are those of
 //! `tests/hostile_model.py`.
 
 ghost use Rattle.std.specs.Prelude.{◌≡◌};
@@ -10,8 +10,8 @@ use crate::looks::{FILE, NONE};
 use crate::plan::{Lacking, Plan, Stream};
 use crate::shown::shown;
 use byteorder::LittleEndian;
-use jcommand::{Check, Mapping, Options, Outcome, status};
-use jinspects::commands::{run_check_through, run_map};
+use jcommand::{Check, Mapping, NodeHistory, Options, Outcome, status};
+use jinspects::commands::{run_check_through, run_history, run_map};
 use jnode::{Endian, Order};
 use jscan::Geometry;
 use std::alloc::Global;
@@ -23,6 +23,7 @@ use std::test::Fail;
 enum Ask {
     Check { shape: bool },
     Map { svg: bool },
+    History { path: Option<&'static str> },
 }
 
 /// What is asked of a host that has this, the block size, all that happens, and the exit status.
@@ -210,6 +211,68 @@ jffs2_image: note: --block takes a multiple of 4 from 4096 to 4194304\n",
     },
 ];
 
+const HISTORY: Ask = Ask::History { path: None };
+
+const HISTORIES: [Row; 5] = [
+    Row {
+        ask: HISTORY,
+        plan: SOUND_IMAGE,
+        block: 4096,
+        wanted: "open a.img\n\
+read a.img 124\n\
+print\n\
+00000000 live inode ino 2 version 1 mode 100644 uid 0 gid 0 isize 16 atime 0 mtime 0 ctime 0 \
+offset 0 dsize 16 compr 6\n\
+00000050 live entry pino 1 version 1 ino 2 mctime 0 type 8 name a\n\
+total live 2 superseded 0 deleted 0 deletion 0 unreached 0 obsolete 0\n",
+        status: 0,
+    },
+    // the root has no node here, and no name
+    Row {
+        ask: Ask::History { path: Some("/") },
+        plan: SOUND_IMAGE,
+        block: 4096,
+        wanted: "open a.img\n\
+read a.img 124\n\
+print\n\
+total live 0 superseded 0 deleted 0 deletion 0 unreached 0 obsolete 0\n",
+        status: 0,
+    },
+    // a path is judged by the image, and only a wrong `\` before it is opened
+    Row {
+        ask: Ask::History { path: Some("/b") },
+        plan: SOUND_IMAGE,
+        block: 4096,
+        wanted: "open a.img\n\
+read a.img 124\n\
+say\n\
+jffs2_image: P3 Path NotFound\n\
+jffs2_image: note: a name on the path is not there, or leads to no object; ls shows those that \
+do\n",
+        status: 1,
+    },
+    Row {
+        ask: Ask::History { path: Some("\\b") },
+        plan: SOUND_IMAGE,
+        block: 4096,
+        wanted: "say\n\
+jffs2_image: P3 Path BadPath\n\
+jffs2_image: note: a path begins with /, as ls prints it, and no name in it is empty, . or ..\n",
+        status: 1,
+    },
+    Row {
+        ask: HISTORY,
+        plan: BROKEN_IMAGE,
+        block: 4096,
+        wanted: "open a.img\n\
+read a.img 124\n\
+say\n\
+jffs2_image: Z1 Data at 00000000\n\
+jffs2_image: note: the data of the node break the rules of their method, or give another length\n",
+        status: 1,
+    },
+];
+
 /// A command of these over a host, in the byte order of its options.
 fn runs<E: Order, R: Abort>(host: &mut MemoryHost<'_, R>, ask: Ask, options: Options) -> Outcome
     requires { options.endian ≡ E.order }
@@ -230,6 +293,14 @@ fn runs<E: Order, R: Abort>(host: &mut MemoryHost<'_, R>, ask: Ask, options: Opt
                 options,
                 svg,
                 image,
+            },
+        ),
+        Ask::History { path } => run_history::<E, _>(
+            host,
+            NodeHistory {
+                options,
+                image,
+                path,
             },
         ),
     }
@@ -265,6 +336,14 @@ fn each_call_and_each_byte_of_check_through(rt: HostRuntime) -> Result<(), Fail>
 #[test]
 fn each_call_and_each_byte_of_map(rt: HostRuntime) -> Result<(), Fail> {
     for row in &MAPS {
+        goes(&rt, rt.alloc(), row)?;
+    }
+    Ok(())
+}
+
+#[test]
+fn each_call_and_each_byte_of_history(rt: HostRuntime) -> Result<(), Fail> {
+    for row in &HISTORIES {
         goes(&rt, rt.alloc(), row)?;
     }
     Ok(())

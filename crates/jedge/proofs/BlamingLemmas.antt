@@ -22,7 +22,7 @@ use Rattle.jedge.specs.Calls.{Event, Answers, Failed, Open, Print, ReadPart, pri
 use Rattle.jthrough.specs.declared.fault.ViewFault.{ViewFault}
 use Rattle.jthrough.specs.declared.fault.ViewFault.TheVariants as view
 use Rattle.jlook.specs.Chosen.{Choice}
-use Rattle.jedge.specs.Commands.{Cat, Check, Damage, Diff, Info, Ls, cat_act, check_act, compares, damage_act, diff_act, info_act, list_act, shown_told, shows_mount}
+use Rattle.jedge.specs.Commands.{Cat, Check, Damage, Diff, Info, Ls, cat_act, check_act, compares, damage_act, diff_act, info_act, list_act, read_told, shows_mount}
 use Rattle.jedge.specs.Comparing.{Compares, compared}
 use Rattle.jedge.specs.Images.{HasNodes, MountsBoth, MountsFor, MountsOrRefuses, MountsWith, NotesNone, view_refusal}
 use Rattle.jedge.specs.Showing.{Checks, Contains, Lists, NamesNothing}
@@ -344,12 +344,12 @@ check_blames options shape name = then_blames (opens name) _ (opens_blames name)
 pub list_blames : (options : Options) (decompress : Bool) (name : List ℕ) (word : Option (List ℕ)) → BlamesFailed (list_act options decompress name word)
 list_blames options decompress name word = then_blames _ _ (part_blames word) (λ (part : Option (List ℕ)).
     then_blames (loads name) _ (loads_blames name) (shows_blames _ decompress options.endian options.geometry.block _
-    (λ (others : Option ℕ) (m : Mount). lists_unnamed m.state part (shown_told others m))))
+    (λ (others : Option ℕ) (m : Mount). lists_unnamed m.state part (read_told options.endian options.geometry.block others m))))
 
 pub cat_blames : (options : Options) (decompress : Bool) (name word : List ℕ) → BlamesFailed (cat_act options decompress name word)
 cat_blames options decompress name word = then_blames _ _ (path_blames word) (λ (path : List ℕ).
     then_blames (loads name) _ (loads_blames name) (shows_blames _ decompress options.endian options.geometry.block _
-    (λ (others : Option ℕ) (m : Mount). contains_unnamed (content_of m.state path) (shown_told others m))))
+    (λ (others : Option ℕ) (m : Mount). contains_unnamed (content_of m.state path) (read_told options.endian options.geometry.block others m))))
 
 pub info_blames : (name : List ℕ) → BlamesFailed (info_act name)
 info_blames name = then_blames (loads name) _ (loads_blames name) (λ (image : List ℕ). whole_blames _ _)

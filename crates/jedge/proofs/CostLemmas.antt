@@ -19,10 +19,10 @@ none_put (Some bytes) None same = cc
 none_put (Some bytes) (Some all) same = let alike : all ≡ bytes = cc in alike ∙ sym (append-nil bytes)
 
 pub costs_put : (e : Endian) (size : ℕ) (m : Mount) (s : SinkChange) (put : Result Totals DamageFault)
-    → PutsDamage e size m s.old s.new s.before s.now put → PutsBy (Costs e size m) s (costs_found m put)
+    → PutsDamage e size m s.old s.new s.before s.now put → PutsBy (Costs e size m) s (costs_found e size m put)
 costs_put e size m s (Ok totals) is = record {
   text = damage_text e size m;
-  says = (refl, ap (λ (t : Totals). examined t m) is.0);
+  says = (refl, ap (λ (t : Totals). examined e size t m) is.0);
   put = is.1;
   counts = is.2;
 }

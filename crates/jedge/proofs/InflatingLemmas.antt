@@ -3,6 +3,7 @@ use Rattle.std.proofs.Common.{◌≡◌, ℕ, ◌==◌, ◌&&◌, ◌||◌, not,
 use Rattle.std.specs.Prelude.{filter, option_map}
 use Rattle.std.specs.Cmp.{eq_by_cmp_equiv, nat_cmp_total, unsigned_tied}
 use Rattle.std.proofs.lemmas.Option.{same_Some, none-some}
+use Rattle.jnode.specs.declared.order.Endian.{Endian}
 use Rattle.jscan.specs.declared.finding.Finding.{Finding}
 use Rattle.jmount.specs.Find.{find}
 use Rattle.jmount.specs.Mount.{Mount}
@@ -21,7 +22,7 @@ use Rattle.jreport.specs.Content.{content_found, content_of}
 use Rattle.jreport.specs.TreeText.{AreLinesOf, IsTextFrom, Item, Met, items_of, line_if, line_of, met_after, none_met, object_start, tail_shown, todo_after}
 use Rattle.jreport.specs.declared.faults.ProgramFault.{ProgramFault}
 use Rattle.jreport.specs.declared.faults.ProgramFault.TheVariants as program
-use Rattle.jedge.specs.Commands.{cat_says, ls_says, shown_told}
+use Rattle.jedge.specs.Commands.{cat_says, ls_says, read_told}
 use Rattle.jedge.specs.Images.{view_refusal}
 use Rattle.jedge.specs.Inflating.{CatIsAsThrough, LsIsAsThrough, SaysTheSame}
 use Rattle.jedge.specs.Showing.{Contains, IsListed, Lists, NamesNothing}
@@ -172,27 +173,34 @@ module _ (s t : State) (outlines : outline s ≡ outline t) where
 
 -- ---- two mounts
 
-told_same : (wants : ℕ → Bool) (full looked : Mount) (others : Option ℕ) → ShowsSame wants full looked → shown_told others looked ≡ shown_told others full
-told_same wants full looked others same =
-    ap
-    (λ (found : List Finding). shown_told others (record { image = full.image; state = full.state; tops = full.tops; findings = found; read_only = full.read_only })) same.findings
+told_same : (e : Endian) (size : ℕ) (wants : ℕ → Bool) (full looked : Mount) (others : Option ℕ) → ShowsSame wants full looked
+    → read_told e size others looked ≡ read_told e size others full
+told_same e size wants full looked others same =
+    ap (λ (found : List Finding). read_told e size others (of looked.image found)) same.findings
+    ∙ ap (λ (image : List ℕ). read_told e size others (of image full.findings)) same.image
+  where
+    of : List ℕ → List Finding → Mount
+    of image found = record { image = image; state = full.state; tops = full.tops; findings = found; read_only = full.read_only }
 
-ls_same : (part : Option (List ℕ)) (others : Option ℕ) (full looked : Mount) → ShowsSame (symlinks_in full.state) full looked → SaysTheSame (ls_says part others) full (Ok looked)
-ls_same part others full looked same text result = (
-  λ says. lists_same looked.state full.state same.outline_is same.wanted part (shown_told others full) text result
-      (subst (λ (told : Told). Lists looked.state part told text result) (told_same _ full looked others same) says),
-  λ says. lists_same full.state looked.state (sym same.outline_is)
-      (λ i is. sym (same.wanted i (sym (link_same looked.state full.state same.outline_is i) ∙ is))) part (shown_told others looked) text result
-      (subst (λ (told : Told). Lists full.state part told text result) (sym (told_same _ full looked others same)) says),
-)
+ls_same : (e : Endian) (size : ℕ) (part : Option (List ℕ)) (others : Option ℕ) (full looked : Mount) → ShowsSame (symlinks_in full.state) full looked
+    → SaysTheSame (ls_says e size part others) full (Ok looked)
+ls_same e size part others full looked same text result =
+    let told : read_told e size others looked ≡ read_told e size others full = told_same e size _ full looked others same in (
+      λ says. lists_same looked.state full.state same.outline_is same.wanted part (read_told e size others full) text result
+          (subst (λ (told : Told). Lists looked.state part told text result) told says),
+      λ says. lists_same full.state looked.state (sym same.outline_is)
+          (λ i is. sym (same.wanted i (sym (link_same looked.state full.state same.outline_is i) ∙ is))) part (read_told e size others looked) text result
+          (subst (λ (told : Told). Lists full.state part told text result) (sym told) says),
+    )
 
-cat_same : (path : List ℕ) (others : Option ℕ) (full looked : Mount) → ShowsSame (object_by_path path full.state) full looked → SaysTheSame (cat_says path others) full (Ok looked)
-cat_same path others full looked same text result =
+cat_same : (e : Endian) (size : ℕ) (path : List ℕ) (others : Option ℕ) (full looked : Mount) → ShowsSame (object_by_path path full.state) full looked
+    → SaysTheSame (cat_says e size path others) full (Ok looked)
+cat_same e size path others full looked same text result =
     let contents : content_of looked.state path ≡ content_of full.state path = same_content looked.state full.state same.outline_is path same.wanted in
-    let told : shown_told others looked ≡ shown_told others full = told_same _ full looked others same in (
-      λ says. subst (λ (c : Result (List ℕ) ProgramFault). Contains c (shown_told others full) text result) contents
+    let told : read_told e size others looked ≡ read_told e size others full = told_same e size _ full looked others same in (
+      λ says. subst (λ (c : Result (List ℕ) ProgramFault). Contains c (read_told e size others full) text result) contents
           (subst (λ (answer : Told). Contains (content_of looked.state path) answer text result) told says),
-      λ says. subst (λ (c : Result (List ℕ) ProgramFault). Contains c (shown_told others looked) text result) (sym contents)
+      λ says. subst (λ (c : Result (List ℕ) ProgramFault). Contains c (read_told e size others looked) text result) (sym contents)
           (subst (λ (answer : Told). Contains (content_of full.state path) answer text result) (sym told) says),
     )
 
@@ -203,25 +211,25 @@ refused_same : (says : Mount → List ℕ → Result Told Fault → Type 0) (ful
 refused_same says full why refused is out = ap (λ (f : ProgramFault). fault.Refused f) (is ∙ ap view_refusal out)
 
 pub ls_is_as_through : LsIsAsThrough
-ls_is_as_through part others e size image full (Ok looked) through chosen = ls_same part others full looked (tree_is_the_same e size image full (Ok looked) through chosen)
-ls_is_as_through part others e size image full (Err (fault.Refused why)) through (refused, is, chosen) =
-    refused_same (ls_says part others) full why refused is (tree_is_the_same e size image full (Err refused) through chosen)
-ls_is_as_through part others e size image full (Err (fault.File file)) through chosen = absurd chosen
-ls_is_as_through part others e size image full (Err (fault.NotRead file)) through chosen = absurd chosen
-ls_is_as_through part others e size image full (Err (fault.NoNodes of count)) through chosen = absurd chosen
-ls_is_as_through part others e size image full (Err (fault.NoSpace folder)) through chosen = absurd chosen
-ls_is_as_through part others e size image full (Err (fault.Findings of findings)) through chosen = absurd chosen
-ls_is_as_through part others e size image full (Err fault.Output) through chosen = absurd chosen
-ls_is_as_through part others e size image full (Err fault.OutOfMemory) through chosen = absurd chosen
+ls_is_as_through order block part others e size image full (Ok looked) through chosen = ls_same order block part others full looked (tree_is_the_same e size image full (Ok looked) through chosen)
+ls_is_as_through order block part others e size image full (Err (fault.Refused why)) through (refused, is, chosen) =
+    refused_same (ls_says order block part others) full why refused is (tree_is_the_same e size image full (Err refused) through chosen)
+ls_is_as_through order block part others e size image full (Err (fault.File file)) through chosen = absurd chosen
+ls_is_as_through order block part others e size image full (Err (fault.NotRead file)) through chosen = absurd chosen
+ls_is_as_through order block part others e size image full (Err (fault.NoNodes of count)) through chosen = absurd chosen
+ls_is_as_through order block part others e size image full (Err (fault.NoSpace folder)) through chosen = absurd chosen
+ls_is_as_through order block part others e size image full (Err (fault.Findings of findings)) through chosen = absurd chosen
+ls_is_as_through order block part others e size image full (Err fault.Output) through chosen = absurd chosen
+ls_is_as_through order block part others e size image full (Err fault.OutOfMemory) through chosen = absurd chosen
 
 pub cat_is_as_through : CatIsAsThrough
-cat_is_as_through path others e size image full (Ok looked) through chosen = cat_same path others full looked (object_is_the_same path e size image full (Ok looked) through chosen)
-cat_is_as_through path others e size image full (Err (fault.Refused why)) through (refused, is, chosen) =
-    refused_same (cat_says path others) full why refused is (object_is_the_same path e size image full (Err refused) through chosen)
-cat_is_as_through path others e size image full (Err (fault.File file)) through chosen = absurd chosen
-cat_is_as_through path others e size image full (Err (fault.NotRead file)) through chosen = absurd chosen
-cat_is_as_through path others e size image full (Err (fault.NoNodes of count)) through chosen = absurd chosen
-cat_is_as_through path others e size image full (Err (fault.NoSpace folder)) through chosen = absurd chosen
-cat_is_as_through path others e size image full (Err (fault.Findings of findings)) through chosen = absurd chosen
-cat_is_as_through path others e size image full (Err fault.Output) through chosen = absurd chosen
-cat_is_as_through path others e size image full (Err fault.OutOfMemory) through chosen = absurd chosen
+cat_is_as_through order block path others e size image full (Ok looked) through chosen = cat_same order block path others full looked (object_is_the_same path e size image full (Ok looked) through chosen)
+cat_is_as_through order block path others e size image full (Err (fault.Refused why)) through (refused, is, chosen) =
+    refused_same (cat_says order block path others) full why refused is (object_is_the_same path e size image full (Err refused) through chosen)
+cat_is_as_through order block path others e size image full (Err (fault.File file)) through chosen = absurd chosen
+cat_is_as_through order block path others e size image full (Err (fault.NotRead file)) through chosen = absurd chosen
+cat_is_as_through order block path others e size image full (Err (fault.NoNodes of count)) through chosen = absurd chosen
+cat_is_as_through order block path others e size image full (Err (fault.NoSpace folder)) through chosen = absurd chosen
+cat_is_as_through order block path others e size image full (Err (fault.Findings of findings)) through chosen = absurd chosen
+cat_is_as_through order block path others e size image full (Err fault.Output) through chosen = absurd chosen
+cat_is_as_through order block path others e size image full (Err fault.OutOfMemory) through chosen = absurd chosen

@@ -9,6 +9,8 @@ use Rattle.jdamage.specs.Damage.{damage_text, damage_totals}
 use Rattle.jdamage.specs.declared.fault.DamageFault.{DamageFault}
 use Rattle.jdamage.specs.declared.fault.DamageFault.TheVariants as cost
 use Rattle.jdamage.specs.declared.totals.Totals.{Totals}
+use Rattle.jhint.specs.Hints.{hint_lines, hint_of}
+use Rattle.jhint.specs.declared.hint.Hint.{Hint}
 use Rattle.jinfo.specs.Containers.{container_line, container_of}
 use Rattle.jinfo.specs.Infos.{order_of}
 use Rattle.jinfo.specs.InfoText.{info_text}
@@ -79,22 +81,32 @@ info_act name = Then (loads name) (λ image. prints (Whole (info_text image) (in
 abbrev pub findings_noted : ℕ → Option (List ℕ)
 findings_noted n = if n == 0 then None else Some (note_line_of n)
 
+-- the notes on an image that is read: on its findings, on nodes of the other byte order if it has
+-- no node, and on the byte order and the block size that it shows if it was read with others
+abbrev pub read_noted : Option Hint → ℕ → Option ℕ → Option (List ℕ)
+read_noted hint n None = if n == 0 then None else Some (shown_notes n None ++ hint_lines hint)
+read_noted hint n (Some others) = Some (shown_notes n (Some others) ++ hint_lines hint)
+
+-- what an image with findings shows, if it was read with other options
+abbrev pub hint_if_found : Endian → ℕ → Mount → Option Hint
+hint_if_found e size m = if findings m == 0 then None else hint_of e size m.image
+
 -- damage that was told is found, or else the findings of the image, which are noted
-abbrev pub examined : Totals → Mount → Told
-examined totals m = record {
+abbrev pub examined : Endian → ℕ → Totals → Mount → Told
+examined e size totals m = record {
   counted = either (min (totals.damaged + totals.missing) (2 ^ 64 - 1)) (findings m);
-  noted = findings_noted (findings m);
+  noted = read_noted (hint_of e size m.image) (findings m) None;
 }
 
 -- by what was put of it: no other fault than the sink's and want of memory
-abbrev pub costs_found : Mount → Result Totals DamageFault → Result Told Fault
-costs_found m (Ok totals) = Ok (examined totals m)
-costs_found m (Err cost.Output) = Err fault.Output
-costs_found m (Err cost.OutOfMemory) = Err fault.OutOfMemory
+abbrev pub costs_found : Endian → ℕ → Mount → Result Totals DamageFault → Result Told Fault
+costs_found e size m (Ok totals) = Ok (examined e size totals m)
+costs_found e size m (Err cost.Output) = Err fault.Output
+costs_found e size m (Err cost.OutOfMemory) = Err fault.OutOfMemory
 
 -- what the damage of a mount costs, in blocks of this size
 abbrev pub Costs : Endian → ℕ → Mount → Saying Told
-Costs e size m = Whole (damage_text e size m) (examined (damage_totals e size m) m)
+Costs e size m = Whole (damage_text e size m) (examined e size (damage_totals e size m) m)
 
 -- an image in which a node is found is mounted, with `--decompress` through its compression, and
 -- what its damage costs is printed
@@ -140,6 +152,10 @@ left_noted n others left reserve = if nat_lt left reserve
 abbrev pub shown_told : Option ℕ → Mount → Told
 shown_told others m = record { counted = 0; noted = shown_noted (findings m) others }
 
+abbrev pub read_told : Endian → ℕ → Option ℕ → Mount → Told
+read_told e size others m =
+    record { counted = 0; noted = read_noted (hint_of e size m.image) (findings m) others }
+
 abbrev pub left_told : Option ℕ → ℕ → ℕ → Mount → Told
 left_told others left reserve m =
     record { counted = 0; noted = left_noted (findings m) others left reserve }
@@ -154,28 +170,29 @@ shows_mount choice decompress e size says image =
     prints (says others m)))
 
 -- the lines of a tree, or of a part of it, with that note
-abbrev pub ls_says : Option (List ℕ) → Option ℕ → Mount → Saying Told
-ls_says part others m = Lists m.state part (shown_told others m)
+abbrev pub ls_says : Endian → ℕ → Option (List ℕ) → Option ℕ → Mount → Saying Told
+ls_says e size part others m = Lists m.state part (read_told e size others m)
 
 -- The word of a path is judged, where one is given; the file is read and its image mounted, and the
 -- lines of its tree are printed. Of compressed data the targets of symlinks alone are chosen.
 abbrev pub lists : Endian → ℕ → Bool → List ℕ → Option (List ℕ) → Act Told
 lists e size decompress name word =
     Then (answers (NamesPart word)) (λ part.
-    Then (loads name) (shows_mount symlinks_in decompress e size (ls_says part)))
+    Then (loads name) (shows_mount symlinks_in decompress e size (ls_says e size part)))
 
 abbrev pub list_act : Options → Bool → List ℕ → Option (List ℕ) → Act Told
 list_act options = lists options.endian options.geometry.block
 
 -- the bytes of the file that a path names, with that note
-abbrev pub cat_says : List ℕ → Option ℕ → Mount → Saying Told
-cat_says path others m = Contains (content_of m.state path) (shown_told others m)
+abbrev pub cat_says : Endian → ℕ → List ℕ → Option ℕ → Mount → Saying Told
+cat_says e size path others m = Contains (content_of m.state path) (read_told e size others m)
 
 -- the same of those bytes; their data alone are chosen
 abbrev pub cats : Endian → ℕ → Bool → List ℕ → List ℕ → Act Told
 cats e size decompress name word =
     Then (answers (NamesPath word)) (λ path.
-    Then (loads name) (shows_mount (object_by_path path) decompress e size (cat_says path)))
+    Then (loads name)
+    (shows_mount (object_by_path path) decompress e size (cat_says e size path)))
 
 abbrev pub cat_act : Options → Bool → List ℕ → List ℕ → Act Told
 cat_act options = cats options.endian options.geometry.block

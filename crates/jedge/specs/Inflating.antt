@@ -28,9 +28,9 @@ IsSaidAsThrough choice says = (e : Endian) (size : ℕ) (image : List ℕ) (full
     → SaysTheSame says full answer
 
 abbrev pub LsIsAsThrough : Type 0
-LsIsAsThrough = (part : Option (List ℕ)) (others : Option ℕ)
-    → IsSaidAsThrough symlinks_in (ls_says part others)
+LsIsAsThrough = (e : Endian) (size : ℕ) (part : Option (List ℕ)) (others : Option ℕ)
+    → IsSaidAsThrough symlinks_in (ls_says e size part others)
 
 abbrev pub CatIsAsThrough : Type 0
-CatIsAsThrough = (path : List ℕ) (others : Option ℕ)
-    → IsSaidAsThrough (object_by_path path) (cat_says path others)
+CatIsAsThrough = (e : Endian) (size : ℕ) (path : List ℕ) (others : Option ℕ)
+    → IsSaidAsThrough (object_by_path path) (cat_says e size path others)

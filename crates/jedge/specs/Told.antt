@@ -1,5 +1,6 @@
 -- What a command found: how much of what it looks for, and what is noted of it on standard error.
 use Rattle.std.specs.Prelude.{◌==◌, ℕ, List, ◌++◌, Option, Some, None, option_map, if◌then◌else◌}
+use Rattle.jhint.specs.Hints.{hint_lines}
 use Rattle.jinfo.specs.Containers.{container_line}
 use Rattle.jreport.specs.ExtractionNotes.{extraction_notes_of, line_of_count}
 use Rattle.jreport.specs.NamedNotes.{named_notes_of}
@@ -25,9 +26,11 @@ abbrev pub note_text : Note → List ℕ
 note_text (note.Container container) = container_line container
 note_text (note.Findings findings) = note_line_of findings
 note_text (note.NoNodes findings others) = none_notes_of findings others
-note_text (note.Extraction of) = extraction_notes_of of.findings of.lost_bits of.attributes
+note_text (note.Extraction of) =
+    extraction_notes_of of.findings of.lost_bits of.attributes ++ hint_lines of.hint
 note_text (note.Both first second) =
     named_notes_of first.name.now first.findings second.name.now second.findings
+note_text (note.Read of) = shown_notes of.findings of.others ++ hint_lines of.hint
 note_text (note.Left of) = shown_notes of.findings of.others ++ reserve_line of.left of.reserve
 
 -- of two numbers of things found one that is not zero, if there is one

@@ -12,7 +12,7 @@ use crate::host::Host;
 use crate::list::put_found;
 use crate::mounting::mounted_object;
 use crate::reading::load;
-use crate::subject::{path_named, shown};
+use crate::subject::{path_named, read_found};
 use jcommand::Options;
 use jmount::Mounted;
 use jnode::Order;
@@ -71,7 +71,7 @@ pub fn cat<E: Order, H: Host>(
         names,
         &mut contents,
     ) {
-        Ok(mounted) => print_bytes(host, &mounted, names, shown(&mounted, others)),
+        Ok(mounted) => print_bytes(host, &mounted, names, read_found(&mounted, options, others)),
         Err(fault) => Err(fault),
     }
 }

@@ -10,12 +10,12 @@ use crate::found::{Found, Note, finished};
 use crate::host::Host;
 use crate::mounting::{judge_nodes, mounted_as};
 use crate::reading::load;
-use jcommand::Examination;
+use crate::subject::read_noted;
+use jcommand::{Examination, Options};
 use jdamage::{DamageFault, Totals, put_damage};
 use jmount::Mounted;
 use jnode::Order;
 use jreport::noted;
-use jscan::Geometry;
 use std::alloc::Global;
 
 /// Of two numbers of things found one that is not zero, if there is one.
@@ -39,26 +39,28 @@ pub fn findings_noted(findings: u64) -> Option<Note<'static>>
 }
 
 /// What an examination comes to.
-fn examined(totals: Totals, mounted: &Mounted<'_>) -> Found<'static>
-    ensures { found_told result ≡ examined totals mounted.now }
+fn examined(totals: Totals, mounted: &Mounted<'_>, options: Options) -> Found<'static>
+    ensures { found_told result
+        ≡ examined options.endian options.geometry.block totals mounted.now }
 {
     let told = (totals.damaged as u64).saturating_add(totals.missing as u64);
-    let findings = noted(mounted);
     Found {
-        counted: either(told, findings),
-        note: findings_noted(findings),
+        counted: either(told, noted(mounted)),
+        note: read_noted(mounted, options, None),
     }
 }
 
 /// What the damage of a mount comes to, by what was put of it.
 fn costs_found(
     mounted: &Mounted<'_>,
+    options: Options,
     put: Result<Totals, DamageFault>,
 ) -> Result<Found<'static>, Fault>
-    ensures { seen_as found_told result ≡ costs_found mounted.now put }
+    ensures { seen_as found_told result
+        ≡ costs_found options.endian options.geometry.block mounted.now put }
 {
     match put {
-        Ok(totals) => Ok(examined(totals, mounted)),
+        Ok(totals) => Ok(examined(totals, mounted, options)),
         Err(DamageFault::Output) => Err(Fault::Output),
         Err(DamageFault::OutOfMemory) => Err(Fault::OutOfMemory),
     }
@@ -68,19 +70,20 @@ fn costs_found(
 fn print_costs<E: Order, H: Host>(
     host: &mut H,
     mounted: &Mounted<'_>,
-    geometry: Geometry,
+    options: Options,
 ) -> Result<Found<'static>, Fault>
-    requires { IsScannable geometry.block mounted.now.image }
+    requires order { options.endian ≡ E.order }
+    requires scannable { IsScannable options.geometry.block mounted.now.image }
     ensures { DoesFrom (H.history host.old) (H.history host.new)
-        (prints (Costs E.order geometry.block mounted.now)) (seen_as found_told result) }
+        (prints (Costs E.order options.geometry.block mounted.now)) (seen_as found_told result) }
 {
     let mut out = match host.output() {
         Ok(out) => out,
         Err(fault) => return Err(fault),
     };
-    let put = put_damage::<E, _>(host.alloc(), mounted, geometry, &mut out);
+    let put = put_damage::<E, _>(host.alloc(), mounted, options.geometry, &mut out);
     let closed = host.close(out);
-    finished(costs_found(mounted, put), closed)
+    finished(costs_found(mounted, options, put), closed)
 }
 
 /// `damage`.
@@ -111,7 +114,7 @@ pub fn damage<E: Order, H: Host>(
         asked.decompress,
         &mut contents,
     ) {
-        Ok(mounted) => print_costs::<E, H>(host, &mounted, geometry),
+        Ok(mounted) => print_costs::<E, H>(host, &mounted, asked.options),
         Err(fault) => Err(fault),
     }
 }

@@ -3,6 +3,7 @@ ghost use Rattle.std.specs.Prelude.{◌≡◌};
 ghost use Rattle.jedge.specs.Acts.{and_closed};
 
 use crate::fault::Fault;
+use jhint::Hint;
 use jinfo::Container;
 
 /// What is noted of it on standard error.
@@ -18,6 +19,8 @@ pub enum Note<'a> {
     Extraction(Extracted),
     /// Of two images, the findings of each.
     Both(Named<'a>, Named<'a>),
+    /// Of an image that was read.
+    Read(ReadNotes),
     /// Of an image that was written to.
     Left(BlankLeft),
 }
@@ -29,6 +32,17 @@ pub struct Extracted {
     pub findings: u64,
     pub lost_bits: u64,
     pub attributes: u64,
+    /// What it shows, if it has findings and was read with other options.
+    pub hint: Option<Hint>,
+}
+
+/// How many findings an image has, how many nodes the other byte order has where no node is found
+/// in it, and what it shows, if it was read with other options.
+#[derive(Clone, Copy)]
+pub struct ReadNotes {
+    pub findings: u64,
+    pub others: Option<u64>,
+    pub hint: Option<Hint>,
 }
 
 /// What is noted of an image that was shown (`findings`, and `others` where no node is found in

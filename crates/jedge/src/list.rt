@@ -12,7 +12,7 @@ use crate::found::{Found, finished};
 use crate::host::Host;
 use crate::mounting::mounted_tree;
 use crate::reading::load;
-use crate::subject::{part_named, shown};
+use crate::subject::{part_named, read_found};
 use flashbase::Sink;
 use jcommand::Options;
 use jmount::Mounted;
@@ -95,7 +95,7 @@ pub fn list<E: Order, H: Host>(
     let others = others_if_none::<E>(bytes, geometry);
     let mut contents = Vec::new(host.alloc());
     match mounted_tree::<E>(host.alloc(), bytes, geometry, decompress, &mut contents) {
-        Ok(mounted) => print_lines(host, &mounted, &part, shown(&mounted, others)),
+        Ok(mounted) => print_lines(host, &mounted, &part, read_found(&mounted, options, others)),
         Err(fault) => Err(fault),
     }
 }

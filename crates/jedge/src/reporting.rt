@@ -1,19 +1,21 @@
 //! What standard error is told of an answer, and how the program ends.
 ghost use Rattle.std.specs.Prelude.{◌≡◌, ◌++◌, ℕ, List, Ok, Err, Some, option_map};
 ghost use Rattle.flashbase.specs.Sinks.{PutsTo};
+ghost use Rattle.jhint.specs.Hints.{hint_lines};
 ghost use Rattle.jedge.specs.Acts.{DoesFrom, says, seen_as};
 ghost use Rattle.jedge.specs.Commands.{ends};
 ghost use Rattle.jedge.specs.Faults.{TellsFault};
 ghost use Rattle.jedge.specs.Told.{found_told, note_text, shown_notes};
-ghost use Rattle.jreport.specs.ExtractionNotes.{line_of_count};
+ghost use Rattle.jreport.specs.ExtractionNotes.{extraction_notes_of, line_of_count};
 ghost use Rattle.jreport.specs.Notes.{note_line_of};
 ghost use Rattle.jreserve.specs.Note.{reserve_line};
 
 use crate::fault::Fault;
-use crate::found::{BlankLeft, Found, Note};
+use crate::found::{BlankLeft, Extracted, Found, Note, ReadNotes};
 use crate::host::Host;
 use flashbase::{DeviceFault, Sink};
 use jcommand::Outcome;
+use jhint::put_hint;
 use jinfo::put_container_note;
 use jreport::{put_fault_and_note, put_named_notes, put_none_notes, put_note, put_notes};
 use jreserve::put_reserve_note;
@@ -56,6 +58,24 @@ fn put_shown<T: Sink>(findings: u64, others: Option<u64>, sink: &mut T) -> Resul
     }
 }
 
+/// Puts them, and which options an image shows.
+fn put_read<T: Sink>(of: ReadNotes, sink: &mut T) -> Result<(), DeviceFault>
+    ensures { PutsTo T.Sink sink.old sink.new
+        (shown_notes of.findings of.others ++ hint_lines of.hint) result }
+{
+    put_shown(of.findings, of.others, sink)?;
+    put_hint(of.hint, sink)
+}
+
+/// Puts the notes on an image that was extracted, and which options it shows.
+fn put_extracted<T: Sink>(of: Extracted, sink: &mut T) -> Result<(), DeviceFault>
+    ensures { PutsTo T.Sink sink.old sink.new (extraction_notes_of of.findings of.lost_bits
+        of.attributes ++ hint_lines of.hint) result }
+{
+    put_notes(of.findings, of.lost_bits, of.attributes, sink)?;
+    put_hint(of.hint, sink)
+}
+
 /// Puts them, and that fewer blank blocks are left than Linux keeps in reserve.
 fn put_left<T: Sink>(of: BlankLeft, sink: &mut T) -> Result<(), DeviceFault>
     ensures { PutsTo T.Sink sink.old sink.new
@@ -73,7 +93,7 @@ pub fn put_noted<T: Sink>(note: Note<'_>, sink: &mut T) -> Result<(), DeviceFaul
         Note::Container(container) => put_container_note(Some(container), sink),
         Note::Findings(findings) => put_note(findings, sink),
         Note::NoNodes { findings, others } => put_none_notes(findings, others, sink),
-        Note::Extraction(of) => put_notes(of.findings, of.lost_bits, of.attributes, sink),
+        Note::Extraction(of) => put_extracted(of, sink),
         Note::Both(first, second) => put_named_notes(
             first.name.as_bytes(),
             first.findings,
@@ -81,6 +101,7 @@ pub fn put_noted<T: Sink>(note: Note<'_>, sink: &mut T) -> Result<(), DeviceFaul
             second.findings,
             sink,
         ),
+        Note::Read(of) => put_read(of, sink),
         Note::Left(of) => put_left(of, sink),
     }
 }

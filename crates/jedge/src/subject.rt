@@ -1,18 +1,22 @@
 //! What a command goes on with: a path that a word names, and an image, or what `decompress` makes
 //! of it; and what one comes to that shows an image.
 ghost use Rattle.std.specs.Prelude.{◌≡◌, true, option_map};
+ghost use Rattle.jhint.specs.Hints.{hint_of};
 ghost use Rattle.jreport.specs.NoNodes.{TellsNone};
+ghost use Rattle.jreport.specs.Notes.{noted as findings};
 ghost use Rattle.jedge.specs.Acts.{DoesFrom, seen_as};
-ghost use Rattle.jedge.specs.Commands.{left_noted, left_told, shown_noted, shown_told};
+ghost use Rattle.jedge.specs.Commands.{hint_if_found, left_noted, left_told, read_noted, read_told, shown_noted, shown_told};
 ghost use Rattle.jedge.specs.Told.{found_told, note_text};
 ghost use Rattle.jedge.specs.Views.{IsViewed, NamesPart, NamesPath, conversion_refusal, viewed, views};
 
 use crate::damage::findings_noted;
 use crate::fault::Fault;
-use crate::found::{BlankLeft, Found, Note};
+use crate::found::{BlankLeft, Found, Note, ReadNotes};
 use crate::host::Host;
 use crate::reading::load;
+use jcommand::Options;
 use jconvert::{ConvertFault, decompressed};
+use jhint::{Hint, hint_of};
 use jlog::SessionFault;
 use jmount::{MountFault, Mounted};
 use jnode::Order;
@@ -175,6 +179,50 @@ pub fn shown(mounted: &Mounted<'_>, others: Option<u64>) -> Found<'static>
     Found {
         counted: 0,
         note: shown_noted(noted(mounted), others),
+    }
+}
+
+/// What a mounted image shows that has findings, if it was read with other options.
+pub fn hint_if_found(mounted: &Mounted<'_>, options: Options) -> Option<Hint>
+    ensures { result ≡ hint_if_found options.endian options.geometry.block mounted.now }
+{
+    match noted(mounted) {
+        0 => None,
+        _ => hint_of(options.endian, options.geometry.block, mounted.image()),
+    }
+}
+
+/// The notes on an image that was read.
+pub(crate) fn read_noted(
+    mounted: &Mounted<'_>,
+    options: Options,
+    others: Option<u64>,
+) -> Option<Note<'static>>
+    ensures { option_map note_text result
+        ≡ read_noted (hint_of options.endian options.geometry.block mounted.now.image)
+        (findings mounted.now) others }
+{
+    let findings = noted(mounted);
+    if findings == 0 && others.is_none() {
+        return None;
+    }
+    let hint = hint_of(options.endian, options.geometry.block, mounted.image());
+    Some(Note::Read(ReadNotes {
+        findings,
+        others,
+        hint,
+    }))
+}
+
+/// What a command comes to that only reads a mounted image. If no node is found in it, `others` is
+/// how many the other byte order has.
+pub fn read_found(mounted: &Mounted<'_>, options: Options, others: Option<u64>) -> Found<'static>
+    ensures { found_told result
+        ≡ read_told options.endian options.geometry.block others mounted.now }
+{
+    Found {
+        counted: 0,
+        note: read_noted(mounted, options, others),
     }
 }
 

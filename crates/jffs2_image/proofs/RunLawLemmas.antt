@@ -16,7 +16,7 @@ use Rattle.jedge.specs.declared.fault.Fault.TheVariants as fault
 use Rattle.jedge.specs.Commands.{Cat, Check, Damage, Diff, Info, Ls, reported}
 use Rattle.jedge.specs.Laws.{MakesNothing}
 use Rattle.jedge.proofs.LookingLemmas as looking
-use Rattle.jinspects.specs.InspectLaws.{CheckThrough, MapNodes}
+use Rattle.jinspects.specs.InspectLaws.{CheckThrough, History, MapNodes}
 use Rattle.jinspects.proofs.InspectLookLemmas.{inspects_only}
 use Rattle.jreads.proofs.LookLemmas.{cuts_read_only}
 use Rattle.jreads.proofs.ScanLawLemmas.{scan_reads_only}
@@ -48,6 +48,7 @@ command_looks (command.Info image) is = looking.reads_only (Info image)
 command_looks (command.Diff d) is = looking.reads_only (Diff d)
 command_looks (command.Damage x) is = looking.reads_only (Damage x.options x.decompress x.image)
 command_looks (command.Map m) is = inspects_only (MapNodes m.options m.svg m.image)
+command_looks (command.History h) is = inspects_only (History h.options h.image h.path)
 command_looks (command.Build b) is = absurd is
 command_looks (command.BuildCompressed b) is = absurd is
 command_looks (command.Append a) is = absurd is
@@ -82,6 +83,7 @@ product_kept o (command.Info x) = refl
 product_kept o (command.Diff x) = refl
 product_kept o (command.Damage x) = refl
 product_kept o (command.Map x) = refl
+product_kept o (command.History x) = refl
 product_kept o (command.Build x) = refl
 product_kept o (command.BuildCompressed x) = refl
 product_kept o (command.Append x) = refl
@@ -126,6 +128,7 @@ command_leaves (command.Info image) events f atomic other did = absurd atomic
 command_leaves (command.Diff d) events f atomic other did = absurd atomic
 command_leaves (command.Damage x) events f atomic other did = absurd atomic
 command_leaves (command.Map m) events f atomic other did = absurd atomic
+command_leaves (command.History h) events f atomic other did = absurd atomic
 command_leaves (command.Build b) events f atomic other did =
     atomic_leaves_files (Build (image_asked b.target.options.endian b.target) b.listing) events f atomic other did
 command_leaves (command.BuildCompressed b) events f atomic other did = build_compressed_leaves_files b.target.options.endian b events f atomic other did

@@ -35,6 +35,7 @@ product_of (command.Info image) = NoProduct
 product_of (command.Diff d) = NoProduct
 product_of (command.Damage x) = NoProduct
 product_of (command.Map m) = NoProduct
+product_of (command.History h) = NoProduct
 product_of (command.Build b) = NewFile b.target.placing
 product_of (command.BuildCompressed b) = NewFile b.target.placing
 product_of (command.Append a) = NewFile a.target.placing

@@ -19,7 +19,7 @@ use Rattle.jedge.specs.Commands.{cat_act, check_act, damage_act, diff_act, info_
 use Rattle.jedge.specs.Told.{Told}
 use Rattle.jedge.specs.declared.fault.Fault.{Fault}
 use Rattle.jedge.specs.declared.fault.Fault.TheVariants as fault
-use Rattle.jinspects.specs.Inspecting.{check_through_act, map_act}
+use Rattle.jinspects.specs.Inspecting.{check_through_act, history_act, map_act}
 use Rattle.jreads.specs.Cutting.{cuts_act}
 use Rattle.jreads.specs.Scanning.{scan_act}
 use Rattle.jmakes.specs.Commands.{append_act, build_act}
@@ -60,6 +60,7 @@ command_act (command.Info image) = info_act image
 command_act (command.Diff d) = diff_act d
 command_act (command.Damage x) = damage_act x.options x.decompress x.image
 command_act (command.Map m) = map_act m.options m.svg m.image
+command_act (command.History h) = history_act h.options h.image h.path
 command_act (command.Build b) =
     build_act (image_asked b.target.options.endian b.target) b.listing
 command_act (command.BuildCompressed b) =

@@ -11,7 +11,7 @@ use jedge::commands::{run_cat, run_check, run_damage, run_diff, run_info, run_li
 use jfolders::commands::{run_extract, run_listing};
 use jfolders::host::FolderHost;
 use jforetells::commands::{run_cuts_through, run_cuts_update};
-use jinspects::commands::{run_check_through, run_map};
+use jinspects::commands::{run_check_through, run_history, run_map};
 use jmakes::commands::{run_append, run_build};
 use jmakes::host::FileHost;
 use jnode::Order;
@@ -42,6 +42,7 @@ pub fn run_command<E: Order, H: FileHost + FilesHost + StreamHost + FolderHost>(
         Command::Diff(asked) => run_diff::<E, H>(host, asked),
         Command::Damage(asked) => run_damage::<E, H>(host, asked),
         Command::Map(asked) => run_map::<E, H>(host, asked),
+        Command::History(asked) => run_history::<E, H>(host, asked),
         Command::Build(asked) => run_build::<E, H>(host, asked),
         Command::BuildCompressed(asked) => run_build_compressed::<E, H>(host, asked),
         Command::Append(asked) => run_append::<E, H>(host, asked),

@@ -6,6 +6,7 @@ use Rattle.jfolder.specs.declared.found.Options.{Options}
 use Rattle.jfolder.specs.declared.reading.FolderTree.{FolderTree}
 use Rattle.jcommand.specs.declared.parsed.Extraction.{Extraction}
 use Rattle.jedge.specs.Acts.{Act, Then, Whole, answers, loads, prints}
+use Rattle.jedge.specs.Commands.{hint_if_found}
 use Rattle.jedge.specs.Images.{HasNodes, MountsWith}
 use Rattle.jedge.specs.Told.{Told}
 use Rattle.jedge.specs.Views.{NamesPart}
@@ -34,7 +35,8 @@ listing_act options quiet name = Then (reads_tree name quiet options) (λ tree.
 abbrev pub extracts_part : Extraction (List ℕ) → Option (List ℕ) → Mount → Act Told
 extracts_part x part m = Then (answers (HasPart m.state part)) (λ s.
     Then (fills_folder x.folder x.quiet x.owners s) (λ totals.
-    answers (λ result. result ≡ Ok (extracted_told (found_mounted m) totals))))
+    answers (λ result. result ≡ Ok (extracted_told
+    (hint_if_found x.options.endian x.options.geometry.block m) (found_mounted m) totals))))
 
 -- an image in which a node is found is mounted, with `--decompress` through its compression, and
 -- the part of its tree that is asked for is made in the folder

@@ -1,5 +1,5 @@
 -- What an extraction goes on with, a part of an image's tree; and what it comes to.
-use Rattle.std.specs.Prelude.{◌≡◌, ◌⊎◌, ◌==◌, ◌&&◌, ℕ, Bool, true, false, IsTrue, IsSome, List, if◌then◌else◌, Option, Some, None, Result, Ok, Err}
+use Rattle.std.specs.Prelude.{◌≡◌, ◌⊎◌, ◌==◌, ◌&&◌, ◌++◌, ℕ, Bool, true, false, IsTrue, IsSome, List, if◌then◌else◌, Option, Some, None, Result, Ok, Err}
 use Rattle.jmount.specs.Find.{find}
 use Rattle.jmount.specs.Mount.{Mount}
 use Rattle.jmount.specs.Tree.{State}
@@ -8,6 +8,8 @@ use Rattle.jextract.specs.Parts.{IsPartAsked}
 use Rattle.jextract.specs.PartsOf.{part_of}
 use Rattle.jextract.specs.declared.parts.Part.{Part}
 use Rattle.jextract.specs.declared.totals.Totals.{Totals}
+use Rattle.jhint.specs.Hints.{hint_lines}
+use Rattle.jhint.specs.declared.hint.Hint.{Hint}
 use Rattle.jreport.specs.ExtractionNotes.{attribute_count, extraction_notes_of}
 use Rattle.jreport.specs.Notes.{noted as findings}
 use Rattle.jreport.specs.declared.faults.ProgramFault.TheVariants as program
@@ -40,15 +42,15 @@ state_of_part s (Some part) = part_of part s
 abbrev pub found_mounted : Mount → Found
 found_mounted m = record { noted = findings m; attributes = attribute_count m }
 
--- the notes, if there are any
-abbrev pub extraction_noted : Found → Totals → Option (List ℕ)
-extraction_noted found totals =
+-- the notes, if there are any, with what the image shows, if it was read with other options
+abbrev pub extraction_noted : Option Hint → Found → Totals → Option (List ℕ)
+extraction_noted hint found totals =
     if (found.noted == 0) && (totals.lost_bits == 0) && (found.attributes == 0) then None
-    else Some (extraction_notes_of found.noted totals.lost_bits found.attributes)
+    else Some (extraction_notes_of found.noted totals.lost_bits found.attributes ++ hint_lines hint)
 
 -- objects that were left out are found, or else the findings of the image
-abbrev pub extracted_told : Found → Totals → Told
-extracted_told found totals = record {
+abbrev pub extracted_told : Option Hint → Found → Totals → Told
+extracted_told hint found totals = record {
   counted = either totals.left_out found.noted;
-  noted = extraction_noted found totals;
+  noted = extraction_noted hint found totals;
 }

@@ -15,8 +15,9 @@ use jedge::fault::Fault;
 use jedge::found::{Extracted, Found, Note};
 use jedge::mounting::{judge_nodes, mounted_as};
 use jedge::reading::load;
-use jedge::subject::part_named;
+use jedge::subject::{hint_if_found, part_named};
 use jextract::{Part, PartFault, Totals, part_at};
+use jhint::Hint;
 use jmount::Mounted;
 use jnode::Order;
 use jreport::{ProgramFault, attribute_count, noted};
@@ -43,8 +44,12 @@ fn part_asked<'p>(
 }
 
 /// The notes on what an extraction came to, if there are any.
-fn extraction_noted(found: jreport::Found, totals: Totals) -> Option<Note<'static>>
-    ensures { option_map note_text result ≡ extraction_noted found totals }
+fn extraction_noted(
+    hint: Option<Hint>,
+    found: jreport::Found,
+    totals: Totals,
+) -> Option<Note<'static>>
+    ensures { option_map note_text result ≡ extraction_noted hint found totals }
 {
     if found.noted == 0 && totals.lost_bits == 0 && found.attributes == 0 {
         None
@@ -53,6 +58,7 @@ fn extraction_noted(found: jreport::Found, totals: Totals) -> Option<Note<'stati
             findings: found.noted,
             lost_bits: totals.lost_bits,
             attributes: found.attributes,
+            hint,
         }))
     }
 }
@@ -68,12 +74,12 @@ fn found_mounted(mounted: &Mounted<'_>) -> jreport::Found
 }
 
 /// What an extraction comes to.
-fn extracted(found: jreport::Found, totals: Totals) -> Found<'static>
-    ensures { found_told result ≡ extracted_told found totals }
+fn extracted(hint: Option<Hint>, found: jreport::Found, totals: Totals) -> Found<'static>
+    ensures { found_told result ≡ extracted_told hint found totals }
 {
     Found {
         counted: either(totals.left_out, found.noted),
-        note: extraction_noted(found, totals),
+        note: extraction_noted(hint, found, totals),
     }
 }
 
@@ -94,7 +100,10 @@ fn extract_mounted<H: FolderHost>(
         Err(fault) => return Err(fault),
     };
     match fill(host, mounted, &part, asked) {
-        Ok(totals) => Ok(extracted(found_mounted(mounted), totals)),
+        Ok(totals) => {
+            let hint = hint_if_found(mounted, asked.options);
+            Ok(extracted(hint, found_mounted(mounted), totals))
+        }
         Err(fault) => Err(fault),
     }
 }

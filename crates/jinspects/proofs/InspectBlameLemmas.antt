@@ -1,14 +1,15 @@
 -- A fault is an event.
-use Rattle.std.proofs.Common.{ℕ, Bool, List, Option, Err}
+use Rattle.std.proofs.Common.{ℕ, Bool, List, Option, Err, inl, inr}
 use Rattle.jnode.specs.declared.order.Endian.{Endian}
 use Rattle.jcommand.specs.declared.parsed.Options.{Options}
 use Rattle.jedge.specs.Acts.{answers, loads, opens, reads_whole}
 use Rattle.jedge.specs.Laws.{BlamesFailed}
 use Rattle.jedge.specs.declared.fault.Fault.TheVariants as fault
-use Rattle.jedge.proofs.BlamingLemmas.{Unnamed, loads_blames, notes_blame, of_bytes, opens_blames, prints_blames, reads_blames, size_blames, then_blames, view_of, whole_blames}
-use Rattle.jinspects.specs.Inspecting.{check_through_act, map_act}
-use Rattle.jinspects.specs.InspectLaws.{CheckThrough, InspectedBlamesFailed, MapNodes}
+use Rattle.jedge.proofs.BlamingLemmas.{Unnamed, loads_blames, notes_blame, of_bytes, opens_blames, part_blames, prints_blames, reads_blames, size_blames, then_blames, view_of, whole_blames}
+use Rattle.jinspects.specs.Inspecting.{check_through_act, history_act, map_act}
+use Rattle.jinspects.specs.InspectLaws.{CheckThrough, History, InspectedBlamesFailed, MapNodes}
 use Rattle.jinspects.specs.Surveying.{Surveyed, Surveys}
+use Rattle.jinspects.specs.Tracing.{Traced, Traces}
 use Rattle.jinspects.specs.ThroughVerdict.{ChecksThrough}
 
 checks_unnamed : (e : Endian) (size : ℕ) (asked : Bool) (image : List ℕ) → Unnamed (ChecksThrough e size asked image)
@@ -42,6 +43,24 @@ map_blames options svg name = then_blames (loads name) _ (loads_blames name) (λ
     then_blames _ _ (notes_blame options.endian options.geometry.block image) (λ (others : Option ℕ).
     then_blames _ _ (survey_blames svg options.endian options.geometry.block image others) (λ (s : Surveyed). whole_blames _ _)))
 
+trace_blames : (path : Option (List ℕ)) (e : Endian) (size : ℕ) (image : List ℕ) (others : Option ℕ) → BlamesFailed (answers (Traces path e size image others))
+trace_blames path e size image others events (fault.File file) is = absurd is.1
+trace_blames path e size image others events (fault.NotRead file) is = absurd is.1
+trace_blames path e size image others events (fault.NoNodes of count) is = absurd is.1
+trace_blames path e size image others events (fault.NoSpace folder) is = absurd is.1
+trace_blames path e size image others events (fault.Findings of findings) is = absurd is.1
+trace_blames path e size image others events (fault.Refused why) (none, inl refused) = of_bytes why refused.1 (view_of refused.0)
+trace_blames path e size image others events (fault.Refused why) (none, inr (m, through, (f, is, never))) = of_bytes why is tt
+trace_blames path e size image others events fault.Output is = absurd is.1
+trace_blames path e size image others events fault.OutOfMemory is = tt
+
+history_blames : (options : Options) (name : List ℕ) (word : Option (List ℕ)) → BlamesFailed (history_act options name word)
+history_blames options name word = then_blames _ _ (part_blames word) (λ (path : Option (List ℕ)).
+    then_blames (loads name) _ (loads_blames name) (λ (image : List ℕ).
+    then_blames _ _ (notes_blame options.endian options.geometry.block image) (λ (others : Option ℕ).
+    then_blames _ _ (trace_blames path options.endian options.geometry.block image others) (λ (t : Traced). whole_blames _ _))))
+
 pub inspected_blames_failed : InspectedBlamesFailed
 inspected_blames_failed (CheckThrough options shape name) = check_blames options shape name
 inspected_blames_failed (MapNodes options svg name) = map_blames options svg name
+inspected_blames_failed (History options name word) = history_blames options name word

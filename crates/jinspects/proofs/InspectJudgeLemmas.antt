@@ -8,9 +8,10 @@ use Rattle.jedge.specs.Laws.{JudgesFirst, JudgesFirstBut}
 use Rattle.jedge.specs.declared.fault.Fault.{Fault}
 use Rattle.jedge.specs.declared.fault.Fault.TheVariants as fault
 use Rattle.jedge.proofs.JudgingLemmas.{IsUnput, IsWanting, answers_silent, loads_silent, opens_silent, prints_first_but, reads_silent, then_first, then_first_but, whole_first}
-use Rattle.jinspects.specs.Inspecting.{check_through_act, map_act}
-use Rattle.jinspects.specs.InspectLaws.{CheckThrough, InspectedJudgedFirst, MapNodes}
+use Rattle.jinspects.specs.Inspecting.{check_through_act, history_act, map_act}
+use Rattle.jinspects.specs.InspectLaws.{CheckThrough, History, InspectedJudgedFirst, MapNodes}
 use Rattle.jinspects.specs.Surveying.{Surveyed}
+use Rattle.jinspects.specs.Tracing.{Traced}
 use Rattle.jinspects.specs.ThroughVerdict.{ChecksThrough}
 
 checks_unput : (e : Endian) (size : ℕ) (asked : Bool) (image text : List ℕ) (f : Fault) → (IsWanting f → ⊥) → ChecksThrough e size asked image text (Err f) → IsUnput f text
@@ -33,6 +34,12 @@ map_first : (options : Options) (svg : Bool) (name : List ℕ) → JudgesFirst (
 map_first options svg name = then_first (loads name) _ (loads_silent name) (λ (image : List ℕ).
     then_first _ _ (answers_silent _) (λ (others : Option ℕ). then_first _ _ (answers_silent _) (λ (s : Surveyed). whole_first _ _)))
 
+history_first : (options : Options) (name : List ℕ) (word : Option (List ℕ)) → JudgesFirst (history_act options name word)
+history_first options name word = then_first _ _ (answers_silent _) (λ (path : Option (List ℕ)).
+    then_first (loads name) _ (loads_silent name) (λ (image : List ℕ). then_first _ _ (answers_silent _) (λ (others : Option ℕ).
+    then_first _ _ (answers_silent _) (λ (t : Traced). whole_first _ _))))
+
 pub inspected_judged_first : InspectedJudgedFirst
 inspected_judged_first (CheckThrough options shape name) = check_first options shape name
 inspected_judged_first (MapNodes options svg name) = λ events f not is. map_first options svg name events f is
+inspected_judged_first (History options name word) = λ events f not is. history_first options name word events f is

@@ -1,3 +1,4 @@
+pub mod FormerLemmas
 pub mod InspectBlameLemmas
 pub mod InspectJudgeLemmas
 pub mod InspectLookLemmas
@@ -5,3 +6,4 @@ pub mod PlainCheckLemmas
 pub mod PathLemmas
 pub mod SurveyLemmas
 pub mod ThroughPutLemmas
+pub mod TraceLemmas

@@ -1,5 +1,5 @@
 -- What is true of the acts of these commands.
-use Rattle.std.specs.Prelude.{◌≡◌, ◌⊎◌, ◌↔◌, ℕ, Bool, List}
+use Rattle.std.specs.Prelude.{◌≡◌, ◌⊎◌, ◌↔◌, ℕ, Bool, List, Option}
 use Rattle.jnode.specs.declared.order.Endian.{Endian}
 use Rattle.jmount.specs.declared.fault.MountFault.TheVariants as mount
 use Rattle.jthrough.specs.Plain.{HasNoCompressed}
@@ -12,17 +12,19 @@ use Rattle.jedge.specs.Laws.{BlamesFailed, JudgesFirstBut, MakesNothing}
 use Rattle.jedge.specs.Told.{Told}
 use Rattle.jedge.specs.declared.fault.Fault.{Fault}
 use Rattle.jedge.specs.declared.fault.Fault.TheVariants as fault
-use Rattle.jinspects.specs.Inspecting.{check_through_act, map_act}
+use Rattle.jinspects.specs.Inspecting.{check_through_act, history_act, map_act}
 use Rattle.jinspects.specs.ThroughVerdict.{IsCheckThrough}
 
 -- a command, and what is asked of it
 pub data InspectCommand : Type 0 where
   CheckThrough : Options → Bool → List ℕ → InspectCommand
   MapNodes : Options → Bool → List ℕ → InspectCommand
+  History : Options → List ℕ → Option (List ℕ) → InspectCommand
 
 abbrev pub inspect_act_of : InspectCommand → Act Told
 inspect_act_of (CheckThrough options shape name) = check_through_act options shape name
 inspect_act_of (MapNodes options svg name) = map_act options svg name
+inspect_act_of (History options name word) = history_act options name word
 
 -- no command of these makes a file, or changes one, whatever it answers
 abbrev pub InspectsOnly : Type 0
@@ -38,6 +40,7 @@ abbrev pub IsLateInspected : InspectCommand → Fault → Type 0
 IsLateInspected (CheckThrough options shape name) f =
     (f ≡ fault.OutOfMemory) ⊎ (f ≡ fault.Refused (program.Mount mount.OutOfMemory))
 IsLateInspected (MapNodes options svg name) f = ⊥
+IsLateInspected (History options name word) f = ⊥
 
 -- all else is refused before anything is printed
 abbrev pub InspectedJudgedFirst : Type 0

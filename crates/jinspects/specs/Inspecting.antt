@@ -1,15 +1,17 @@
 -- What each command does: read it as the manual page. The order is that of the steps.
-use Rattle.std.specs.Prelude.{ℕ, Bool, true, false, List}
+use Rattle.std.specs.Prelude.{ℕ, Bool, true, false, List, Option}
 use Rattle.jnode.specs.declared.order.Endian.{Endian}
 use Rattle.jcommand.specs.declared.parsed.Options.{Options}
 use Rattle.jedge.specs.Acts.{Act, Then, Whole, answers, loads, opens, prints, reads_whole}
 use Rattle.jedge.specs.Images.{NotesNone}
 use Rattle.jedge.specs.Told.{Told}
-use Rattle.jedge.specs.Views.{HasBlockSize}
+use Rattle.jedge.specs.Views.{HasBlockSize, NamesPart}
+use Rattle.jhistory.specs.HistoryText.{history_text}
 use Rattle.jmap.specs.MapText.{map_text}
 use Rattle.jmap.specs.Picture.{picture_text}
 use Rattle.jmap.specs.Places.{Paths}
 use Rattle.jinspects.specs.Surveying.{Surveys}
+use Rattle.jinspects.specs.Tracing.{Traces}
 use Rattle.jinspects.specs.ThroughVerdict.{ChecksThrough}
 
 -- ---- `check --decompress`
@@ -48,3 +50,22 @@ maps e size svg name = Then (loads name) (draws e size svg)
 
 abbrev pub map_act : Options → Bool → List ℕ → Act Told
 map_act options = maps options.endian options.geometry.block
+
+-- ---- `history`
+
+-- An image is mounted through its compression, what became of each node is found out, and with a
+-- path the objects that it ever named; and the lines of their nodes are printed. Nothing of the
+-- image is found; what `ls` notes of it is noted.
+abbrev pub tells_history : Endian → ℕ → Option (List ℕ) → List ℕ → Act Told
+tells_history e size path image =
+    Then (answers (NotesNone e size image)) (λ others.
+    Then (answers (Traces path e size image others)) (λ trace.
+    prints (Whole (history_text e size image trace.words trace.numbers) trace.told)))
+
+-- the word of a path is judged, where one is given; the file is read, and that is done of its image
+abbrev pub traces : Endian → ℕ → List ℕ → Option (List ℕ) → Act Told
+traces e size name word = Then (answers (NamesPart word)) (λ path.
+    Then (loads name) (tells_history e size path))
+
+abbrev pub history_act : Options → List ℕ → Option (List ℕ) → Act Told
+history_act options = traces options.endian options.geometry.block

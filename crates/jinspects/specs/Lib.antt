@@ -3,5 +3,7 @@ pub mod ShownPaths
 pub mod Refused
 pub mod ThroughVerdict
 pub mod Surveying
+pub mod Former
+pub mod Tracing
 pub mod Inspecting
 pub mod InspectLaws

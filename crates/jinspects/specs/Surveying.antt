@@ -3,7 +3,7 @@ use Rattle.std.specs.Prelude.{◌≡◌, ℕ, Bool, true, List, Option, Result, 
 use Rattle.jnode.specs.declared.order.Endian.{Endian}
 use Rattle.jmount.specs.Mount.{Mount}
 use Rattle.jthrough.specs.MountsThrough.{AnswersThrough}
-use Rattle.jedge.specs.Commands.{shown_told}
+use Rattle.jedge.specs.Commands.{read_told}
 use Rattle.jedge.specs.Images.{IsViewRefused}
 use Rattle.jedge.specs.Told.{Told, found_told}
 use Rattle.jedge.specs.declared.fault.Fault.{Fault}
@@ -35,7 +35,7 @@ pub record IsSurveyOf (svg : Bool) (e : Endian) (size : ℕ) (image : List ℕ) 
   pub mounts : AnswersThrough e size image (Ok mount)
   pub live : AreLive e size image s.live
   pub paths : svg ≡ true → AreShownPaths mount.state s.paths
-  pub told : s.told ≡ shown_told others mount
+  pub told : s.told ≡ read_told e size others mount
 
 -- Such a survey; or this says why the image does not mount so. Memory may run out behind the mount.
 abbrev pub Surveys : Bool → Endian → ℕ → List ℕ → Option ℕ → Result Surveyed Fault → Type 0

@@ -1,12 +1,13 @@
 //! The commands as the program runs them: each is gone through, and its answer told.
-ghost use Rattle.std.specs.Prelude.{◌≡◌, Ok};
+ghost use Rattle.std.specs.Prelude.{◌≡◌, Ok, option_map};
 ghost use Rattle.jedge.specs.Acts.{DoesFrom};
 ghost use Rattle.jedge.specs.Commands.{reported};
-ghost use Rattle.jinspects.specs.Inspecting.{check_through_act, map_act};
+ghost use Rattle.jinspects.specs.Inspecting.{check_through_act, history_act, map_act};
 
 use crate::check::check_through;
+use crate::history::history;
 use crate::map::map;
-use jcommand::{Check, Mapping, Outcome};
+use jcommand::{Check, Mapping, NodeHistory, Outcome};
 use jedge::host::Host;
 use jedge::reporting::report;
 use jnode::Order;
@@ -30,5 +31,16 @@ pub fn run_map<E: Order, H: Host>(host: &mut H, asked: Mapping<&str>) -> Outcome
         (Ok result) }
 {
     let answer = map::<E, H>(host, asked.options, asked.svg, asked.image);
+    report(host, answer)
+}
+
+/// `history`.
+pub fn run_history<E: Order, H: Host>(host: &mut H, asked: NodeHistory<&str>) -> Outcome
+    requires { asked.options.endian ≡ E.order }
+    ensures { DoesFrom (H.history host.old) (H.history host.new)
+        (reported (history_act asked.entry.options asked.entry.image.now
+        (option_map (λ p. p.now) asked.entry.path))) (Ok result) }
+{
+    let answer = history::<E, H>(host, asked);
     report(host, answer)
 }

@@ -102,7 +102,7 @@ pub fn map<E: Order, H: Host>(
     let bytes = image.as_slice();
     let geometry = options.geometry;
     let others = others_if_none::<E>(bytes, geometry);
-    match survey_of::<E>(host.alloc(), bytes, geometry, others, svg) {
+    match survey_of::<E>(host.alloc(), bytes, options, others, svg) {
         Ok(survey) => print_survey::<E, H>(host, bytes, geometry, svg, &survey),
         Err(fault) => Err(fault),
     }

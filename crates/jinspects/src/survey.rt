@@ -10,10 +10,11 @@ ghost use Rattle.jinspects.specs.Surveying.{Surveys, surveyed};
 
 use crate::live::live_addresses;
 use crate::paths::paths_of;
+use jcommand::Options;
 use jedge::fault::Fault;
 use jedge::found::Found;
 use jedge::mounting::view_refusal;
-use jedge::subject::shown;
+use jedge::subject::read_found;
 use jmap::Paths;
 use jmount::Mounted;
 use jnode::Order;
@@ -68,14 +69,17 @@ fn survey_mounted<E: Order>(
 pub(crate) fn survey_of<E: Order>(
     alloc: Global,
     image: &[u8],
-    geometry: Geometry,
+    options: Options,
     others: Option<u64>,
     svg: bool,
 ) -> Result<Survey, Fault>
-    ensures survey { Surveys svg E.order geometry.block image.now others (seen_as surveyed result) }
-    ensures scannable { OnOk result (IsScannable geometry.block image.now) }
+    requires { options.endian ≡ E.order }
+    ensures survey { Surveys svg E.order options.geometry.block image.now others
+        (seen_as surveyed result) }
+    ensures scannable { OnOk result (IsScannable options.geometry.block image.now) }
     ensures ordered { IfOk result (λ s. AllPairs (λ a b. a < b) s.live.items) }
 {
+    let geometry = options.geometry;
     let mut contents = Vec::new(alloc);
     let view = match view_image::<E>(alloc, image, geometry, &mut contents) {
         Ok(view) => view,
@@ -89,7 +93,7 @@ pub(crate) fn survey_of<E: Order>(
         Ok((live, paths)) => Ok(Survey {
             live,
             paths,
-            found: shown(&mounted, others),
+            found: read_found(&mounted, options, others),
         }),
         Err(_) => Err(Fault::OutOfMemory),
     }

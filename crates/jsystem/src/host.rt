@@ -10,9 +10,9 @@ use jedge::host::{Host, Input};
 use jreport::Reason;
 use jscan::GREATEST_IMAGE;
 use std::alloc::Global;
-use std::fs;
 use std::fs::File;
-use std::io::{Stderr, Stdout};
+use std::io::{ErrorKind, Stderr, Stdout};
+use std::{fs, io};
 
 /// A file of the system that was opened by this name.
 #[derive(Drop)]
@@ -27,17 +27,42 @@ impl Input for OpenedFile {
     ghost name = { λ input. string_bytes input.name };
 }
 
+/// The name of standard input.
+const STANDARD_INPUT: &str = "-";
+
 /// The system's files, streams and folders.
 #[derive(Drop)]
 pub struct SystemHost<'r> {
     pub(crate) rt: &'r HostRuntime,
+    /// Standard input was opened: it can be read once.
+    input_taken: bool,
 }
 
 impl<'r> SystemHost<'r> {
     pub fn new(rt: &'r HostRuntime) -> Self
         ensures { ⟦<SystemHost<'r> as Host>⟧.history result ≡ None }
     {
-        SystemHost { rt }
+        SystemHost {
+            rt,
+            input_taken: false,
+        }
+    }
+
+    /// Standard input, the first time that it is asked for.
+    fn standard_input(&mut self) -> io::Result<File> {
+        if self.input_taken {
+            return Err(io::Error::from(ErrorKind::ResourceBusy));
+        }
+        self.input_taken = true;
+        fs::open(self.rt, "/dev/stdin")
+    }
+
+    /// The file of a name: `-` is standard input.
+    fn input_named(&mut self, name: &str) -> io::Result<File> {
+        if name == STANDARD_INPUT {
+            return self.standard_input();
+        }
+        fs::open(self.rt, name)
     }
 }
 
@@ -60,7 +85,7 @@ impl<'r> Host for SystemHost<'r> {
         let Ok(name) = name.to_string(self.rt.alloc()) else {
             return Err(Fault::OutOfMemory);
         };
-        match fs::open(self.rt, name.as_str()) {
+        match self.input_named(name.as_str()) {
             Ok(file) => Ok(OpenedFile { name, file }),
             Err(error) => Err(Fault::File(FailedFile {
                 name,

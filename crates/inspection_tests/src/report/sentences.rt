@@ -92,12 +92,13 @@ fn refusals() -> &'static [(OpFault, &'static str)] {
         ),
         (
             OpFault::Exists,
-            "the new name is there; remove it by an earlier line, or use replace or put",
+            "the new name is there; remove it by an earlier line, or use replace or put if it is no \
+             directory",
         ),
         (
             OpFault::WrongKind,
-            "only a regular file is written or cut; a directory is not linked; attr takes no \
-             symlink or device",
+            "write and truncate take regular files, link and replace no directory, attr no symlink \
+             or device",
         ),
         (
             OpFault::NotEmpty,

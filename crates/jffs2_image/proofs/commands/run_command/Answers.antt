@@ -60,6 +60,11 @@ returns-in-Map g c =
     does_at (λ (k : Command (Bor (List ℕ))). reported (command_act (command_view k))) (sym c.in-Map.is)
     c.run_map.ensures
 
+pub returns-in-History : goal.returns-in-History
+returns-in-History g c =
+    does_at (λ (k : Command (Bor (List ℕ))). reported (command_act (command_view k))) (sym c.in-History.is)
+    c.run_history.ensures
+
 pub returns-in-Build : goal.returns-in-Build
 returns-in-Build g c =
     does_at (λ (k : Command (Bor (List ℕ))). reported (command_act (command_view k))) (sym c.in-Build.is)

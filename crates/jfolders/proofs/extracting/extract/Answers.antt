@@ -5,7 +5,7 @@ use Rattle.std.specs.Prelude.{option_map}
 use Rattle.jcommand.specs.Parsed.{extraction_view}
 use Rattle.jcommand.specs.declared.parsed.Extraction.{Extraction}
 use Rattle.jedge.proofs.Steps.{answered, does_at, then_err, then_ok}
-use Rattle.jfolders.specs.Commands.{extract_act, extracts_image}
+use Rattle.jfolders.specs.Commands.{extract_act, extracts_image, extracts_part}
 use Rattle.jfolders.proofs.extracting.extract.Goals as goal
 
 abbrev in_order : Endian → Extraction (Bor (List ℕ)) → Extraction (List ℕ)
@@ -35,7 +35,9 @@ returns-in-Ok-mounted_as g c =
     (then_ok (answered c.in-Ok.ensures) (then_ok c.in-Ok-load.ensures
     (does_at (extracts_image (in_order g.E.Order.order c.args.asked) part) c.as_slice-bytes.ensures.value
     (then_ok (answered c.in-Ok-judge_nodes.ensures)
-    (then_ok (answered c.in-Ok-mounted_as.ensures) c.extract_mounted.ensures)))))
+    (then_ok (answered c.in-Ok-mounted_as.ensures)
+    (does_at (λ (e : Endian). extracts_part (in_order e c.args.asked) part c.in-Ok-mounted_as.mounted)
+    c.requires c.extract_mounted.ensures))))))
 
 pub returns : goal.returns
 returns g c =

@@ -1,9 +1,11 @@
-use Rattle.std.proofs.Common.{ℕ, List, subst, sym}
+use Rattle.std.proofs.Common.{ℕ, List, ◌∙◌, ap, subst, sym}
+use Rattle.jnode.specs.declared.order.Endian.{Endian}
 use Rattle.jscan.specs.Scans.{IsScannable}
 use Rattle.jexpand.specs.Expanded.{unpacked_bytes}
 use Rattle.jthrough.specs.View.{BeginWith, IsViewOf}
 use Rattle.jthrough.proofs.AddressedLemmas.{view_holds_contents}
 use Rattle.jthrough.proofs.MountLemmas.{unviewed_answers}
+use Rattle.jedge.specs.Commands.{read_told}
 use Rattle.jinspects.specs.Live.{AreLive}
 use Rattle.jinspects.proofs.SurveyLemmas.{live_ascend}
 use Rattle.jinspects.proofs.survey.survey_of.Goals as goal
@@ -12,7 +14,7 @@ pub returns-in-Err-clause-survey : goal.returns-in-Err-clause-survey
 returns-in-Err-clause-survey g c = (
   c.in-Err.why,
   c.view_refusal.ensures,
-  unviewed_answers g.E.Order.order c.args.geometry.block c.args.image.now c.in-Err.why c.in-Err.ensures.err,
+  unviewed_answers g.E.Order.order c.args.options.geometry.block c.args.image.now c.in-Err.why c.in-Err.ensures.err,
 )
 
 pub returns-in-Err-mount_view-clause-survey : goal.returns-in-Err-mount_view-clause-survey
@@ -25,7 +27,7 @@ survey_mounted-requires-clause-mount g c = c.in-Ok-mount_view.ensures.1
 pub survey_mounted-requires-clause-held : goal.survey_mounted-requires-clause-held
 survey_mounted-requires-clause-held g c =
     let e = g.E.Order.order in
-    let size : ℕ = c.args.geometry.block in
+    let size : ℕ = c.args.options.geometry.block in
     let is = c.in-Ok-mount_view.ensures in
     let image : List ℕ = c.in-Ok-mount_view.mounted.image in
     let held : List ℕ = c.view_image.new.contents.items in
@@ -38,19 +40,20 @@ returns-in-Ok-survey_mounted-clause-survey g c =
     record {
       mount = c.in-Ok-mount_view.mounted;
       mounts = is;
-      live = subst (λ (image : List ℕ). AreLive g.E.Order.order c.args.geometry.block image c.in-Ok-survey_mounted.live.items) is.0 c.in-Ok-survey_mounted.ensures.live;
+      live = subst (λ (image : List ℕ). AreLive g.E.Order.order c.args.options.geometry.block image c.in-Ok-survey_mounted.live.items) is.0 c.in-Ok-survey_mounted.ensures.live;
       paths = c.in-Ok-survey_mounted.ensures.paths;
-      told = c.shown.ensures;
+      told = c.read_found.ensures
+          ∙ ap (λ (e : Endian). read_told e c.args.options.geometry.block c.args.others c.in-Ok-mount_view.mounted) c.requires;
     }
 
 pub returns-in-Ok-survey_mounted-clause-scannable : goal.returns-in-Ok-survey_mounted-clause-scannable
 returns-in-Ok-survey_mounted-clause-scannable g c =
     let is = c.in-Ok-mount_view.ensures in
-    subst (IsScannable c.args.geometry.block) is.0 is.1.mounts.sound.scannable
+    subst (IsScannable c.args.options.geometry.block) is.0 is.1.mounts.sound.scannable
 
 pub returns-in-Ok-survey_mounted-clause-ordered : goal.returns-in-Ok-survey_mounted-clause-ordered
 returns-in-Ok-survey_mounted-clause-ordered g c =
-    live_ascend g.E.Order.order c.args.geometry.block c.in-Ok-mount_view.mounted.image c.in-Ok-survey_mounted.live.items c.in-Ok-survey_mounted.ensures.live
+    live_ascend g.E.Order.order c.args.options.geometry.block c.in-Ok-mount_view.mounted.image c.in-Ok-survey_mounted.live.items c.in-Ok-survey_mounted.ensures.live
 
 pub returns-clause-survey : goal.returns-clause-survey
 returns-clause-survey g c = (c.in-Ok-mount_view.mounted, c.in-Ok-mount_view.ensures)
