@@ -3,16 +3,16 @@
 
 # The options of a command, or of the program if there is no command.
 _jffs2_image_options() {
-    local plain='-e --block --endian -l --little-endian -b --big-endian' auto='-a --auto' write='--blocks --page' place='--pad --atomic' help='-h --help'
+    local plain='-e --block --endian -l --little-endian -b --big-endian' auto='-a --auto' write='--blocks --page' place='-p --pad --atomic' out='-o --output' help='-h --help'
     case $1 in
         check) echo "$plain $auto --scan --shape --decompress $help" ;;
         ls | cat) echo "$plain $auto --decompress $help" ;;
-        build) echo "$plain $write --weak --compress $place $help" ;;
-        append) echo "$plain $auto $write --weak $place --decompress $help" ;;
-        update) echo "$plain $auto $write --plain --tail $place $help" ;;
-        decompress) echo "$plain $auto --clashes --atomic --force $help" ;;
-        compress) echo "$plain $auto --atomic --force $help" ;;
-        compact) echo "$plain $auto --blocks --clashes $place --force $help" ;;
+        build) echo "$plain $write --weak --compress $place $out $help" ;;
+        append) echo "$plain $auto $write --weak $place --decompress $out $help" ;;
+        update) echo "$plain $auto $write --plain --tail $place $out $help" ;;
+        decompress) echo "$plain $auto --clashes --atomic --force $out $help" ;;
+        compress) echo "$plain $auto --atomic --force $out $help" ;;
+        compact) echo "$plain $auto --blocks --clashes $place --force $out $help" ;;
         extract) echo "$plain $auto --decompress --owners --quiet $help" ;;
         listing) echo "--owner --time --quiet $help" ;;
         info) echo "$help" ;;
@@ -20,7 +20,8 @@ _jffs2_image_options() {
         diff) echo "$plain $auto --decompress --times $help" ;;
         damage) echo "$plain $auto --decompress $help" ;;
         map) echo "$plain $auto --svg $help" ;;
-        pack) echo "$plain $write --weak --compress $place --owner --time --quiet $help" ;;
+        history) echo "$plain $auto $help" ;;
+        pack) echo "$plain $write --weak --compress $place $out --owner --time --quiet $help" ;;
         verify) echo "$plain $auto --times --owner --time --quiet $help" ;;
         '') echo "$help -V --version" ;;
     esac
@@ -30,7 +31,7 @@ _jffs2_image_options() {
 _jffs2_image_count() {
     case $1 in
         --owner) echo 2 ;;
-        -e | --block | --eraseblock | --endian | --blocks | --page | --time | --on | --clashes) echo 1 ;;
+        -e | --block | --eraseblock | --endian | --blocks | --page | --time | --on | --clashes | -o | --output) echo 1 ;;
         *) echo 0 ;;
     esac
 }
@@ -49,7 +50,7 @@ _jffs2_image_values() {
 _jffs2_image_kind() {
     case $1:$2 in
         check:0 | ls:0 | cat:0 | build:[01] | append:[012] | update:[012] | decompress:[01] | compress:[01] | \
-            compact:[01] | extract:0 | info:0 | cuts:0 | diff:[01] | damage:0 | map:0 | pack:1 | \
+            compact:[01] | extract:0 | info:0 | cuts:0 | diff:[01] | damage:0 | map:0 | history:0 | pack:1 | \
             verify:0)
             echo -f
             ;;
@@ -58,7 +59,7 @@ _jffs2_image_kind() {
 }
 
 _jffs2_image() {
-    local commands='check ls cat build append update decompress compress compact extract listing info cuts diff damage map pack verify help'
+    local commands='check ls cat build append update decompress compress compact extract listing info cuts diff damage map history pack verify help'
     local current=${COMP_WORDS[COMP_CWORD]} command='' option='' place=0 values=0 word kind
     # bash cuts --option=value into three words
     for word in "${COMP_WORDS[@]:1:COMP_CWORD-1}"; do

@@ -23,26 +23,27 @@ complete -c jffs2_image -n __fish_use_subcommand -a cuts -d 'Which steps survive
 complete -c jffs2_image -n __fish_use_subcommand -a diff -d 'Differences between two images'
 complete -c jffs2_image -n __fish_use_subcommand -a damage -d 'Files that damaged nodes affect'
 complete -c jffs2_image -n __fish_use_subcommand -a map -d 'Where the nodes of an image lie'
+complete -c jffs2_image -n __fish_use_subcommand -a history -d 'What became of each node'
 complete -c jffs2_image -n __fish_use_subcommand -a pack -d 'Make an image of a folder'
 complete -c jffs2_image -n __fish_use_subcommand -a verify -d 'Whether an image holds a folder'
 complete -c jffs2_image -n __fish_use_subcommand -a help -d 'Help of a command'
 complete -c jffs2_image -n '__jffs2_image_in help' -f \
-    -a 'check ls cat build append update decompress compress compact extract listing info cuts diff damage map pack verify help'
+    -a 'check ls cat build append update decompress compress compact extract listing info cuts diff damage map history pack verify help'
 
 # Options of the program and of every command
 complete -c jffs2_image -n 'not __jffs2_image_in help' -s h -l help -d 'Print help'
 complete -c jffs2_image -n __fish_use_subcommand -s V -l version -d 'Print the version'
 
 # Options of several commands
-complete -c jffs2_image -n '__jffs2_image_in check ls cat build append update decompress compress compact extract cuts diff damage map pack verify' \
+complete -c jffs2_image -n '__jffs2_image_in check ls cat build append update decompress compress compact extract cuts diff damage map history pack verify' \
     -s e -l block -x -a '4K 8K 16K 32K 64K 128K 256K' -d 'Size of an erase block'
-complete -c jffs2_image -n '__jffs2_image_in check ls cat build append update decompress compress compact extract cuts diff damage map pack verify' \
+complete -c jffs2_image -n '__jffs2_image_in check ls cat build append update decompress compress compact extract cuts diff damage map history pack verify' \
     -l endian -x -a 'little big' -d 'Byte order'
-complete -c jffs2_image -n '__jffs2_image_in check ls cat build append update decompress compress compact extract cuts diff damage map pack verify' \
+complete -c jffs2_image -n '__jffs2_image_in check ls cat build append update decompress compress compact extract cuts diff damage map history pack verify' \
     -s l -l little-endian -d 'The same as --endian little'
-complete -c jffs2_image -n '__jffs2_image_in check ls cat build append update decompress compress compact extract cuts diff damage map pack verify' \
+complete -c jffs2_image -n '__jffs2_image_in check ls cat build append update decompress compress compact extract cuts diff damage map history pack verify' \
     -s b -l big-endian -d 'The same as --endian big'
-complete -c jffs2_image -n '__jffs2_image_in check ls cat append update decompress compress compact extract cuts diff damage map verify' \
+complete -c jffs2_image -n '__jffs2_image_in check ls cat append update decompress compress compact extract cuts diff damage map history verify' \
     -s a -l auto -d 'Find both in the image'
 complete -c jffs2_image -n '__jffs2_image_in build append update compact cuts pack' -l blocks -x -d 'Number of blocks'
 complete -c jffs2_image -n '__jffs2_image_in build append update cuts pack' -l page -x \
@@ -51,9 +52,11 @@ complete -c jffs2_image -n '__jffs2_image_in check ls cat append extract cuts di
     -d 'Take it as decompress writes it'
 complete -c jffs2_image -n '__jffs2_image_in build append pack' -l weak -d 'Note the weak nodes'
 complete -c jffs2_image -n '__jffs2_image_in build cuts pack' -l compress -d 'Compress nodes if they become shorter'
-complete -c jffs2_image -n '__jffs2_image_in build append update compact pack' -l pad -d 'Fill OUT with 0xFF'
+complete -c jffs2_image -n '__jffs2_image_in build append update compact pack' -s p -l pad -d 'Fill OUT with 0xFF'
 complete -c jffs2_image -n '__jffs2_image_in build append update decompress compress compact pack' -l atomic \
     -d 'Replace an old OUT only if all goes well'
+complete -c jffs2_image -n '__jffs2_image_in build append update decompress compress compact pack' -s o -l output -r \
+    -d 'File to write, in place of OUT'
 complete -c jffs2_image -n '__jffs2_image_in decompress compress compact' -l force \
     -d 'Write over an IMAGE that is OUT'
 complete -c jffs2_image -n '__jffs2_image_in extract listing pack verify' -l quiet -d 'Print no progress'
@@ -67,7 +70,7 @@ complete -c jffs2_image -n '__jffs2_image_in update cuts' -l plain -d 'Do not co
 complete -c jffs2_image -n '__jffs2_image_in update cuts' -l tail -d 'Write into begun blocks too'
 complete -c jffs2_image -n '__jffs2_image_in map' -l svg -d 'One SVG picture'
 complete -c jffs2_image -n '__jffs2_image_in cuts' -l on -r -d 'Image to go on from'
-complete -c jffs2_image -n '__jffs2_image_in cuts' -l update -d 'Tell the nodes of update'
+complete -c jffs2_image -n '__jffs2_image_in cuts' -l update -d 'What update would write'
 complete -c jffs2_image -n '__jffs2_image_in extract' -l owners -d 'Set the owners of the image'
 complete -c jffs2_image -n '__jffs2_image_in decompress compact' -l clashes -x -a higher \
     -d 'If nodes clash, keep one by its address'

@@ -62,6 +62,7 @@ tests/folders.py $program
 tests/clashes.py $program
 tests/compact.py $program
 tests/map.py $program
+tests/history.py $program
 tests/update.py $program
 tests/cuts_through.py $program
 tests/cuts_update.py $program

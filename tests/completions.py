@@ -35,7 +35,7 @@ def commands_of_the_program():
         named = re.search(r'\bmake_(?:plain|reader|writer|noting|named)\(\s*alloc,\s*"(\w+)"', body)
         if named:
             name = "" if ".version(" in body else named[1]
-            found[name] = Command(options_in(body, bodies) | HELP, words_in(body))
+            found[name] = Command(options_in(body, bodies) | HELP, words_in(body, bodies))
     found[""] = Command(found[""].options | VERSION, [])
     found[HELP_COMMAND] = Command(set(), [])
     return found
@@ -43,21 +43,23 @@ def commands_of_the_program():
 
 def options_in(body, bodies):
     """The options that a function makes, and those of the functions that it begins with."""
-    made = (r'\bmake_(?:option|required_option|optional|optional_two|flag|lettered_flag)\('
+    made = (r'\bmake_(?:option|required_option|optional|optional_two|lettered_option|flag|lettered_flag)\('
             r'\s*alloc,\s*"([\w-]+)"(?:,\s*\'(\w)\')?')
     options = set()
     for name, letter in re.findall(made, body):
         options |= {f"--{name}", f"-{letter}"} if letter else {f"--{name}"}
     options |= {f"-{letter}" for letter in re.findall(r"\.short\('(\w)'\)", body)}
     makers = ("make_plain|make_block|make_reader|make_writer|make_noting|add_auto|add_atomic"
-              "|add_compressing|add_replacing|add_placing|add_updating|add_settings")
+              "|add_compressing|add_replacing|add_placing|add_updating|add_settings|add_output")
     for below in re.findall(rf"\b({makers})\(", body):
         options |= options_in(bodies[below], bodies)
     return options
 
 
-def words_in(body):
-    return re.findall(r'\bmake_(?:optional_)?word\(\s*alloc,\s*"(\w+)"', body)
+def words_in(body, bodies):
+    """The words that a function makes, and the last one, which is OUT for those that write a file."""
+    words = re.findall(r'\bmake_(?:optional_)?word\(\s*alloc,\s*"(\w+)"', body)
+    return words + (words_in(bodies["add_output"], {}) if bodies and "add_output(" in body else [])
 
 
 def values_of_the_program():

@@ -23,8 +23,8 @@ mkdir folder
 # ---- Words and help
 
 wrong="error: *Usage: *--help*"
-run decompress; want 2 "" "error: *<IMAGE>*<OUT>*Usage: jffs2_image decompress *"
-run decompress good; want 2 "" "error: *<OUT>*Usage: *"; unmade out.img
+run decompress; want 2 "" "error: *<IMAGE>*Usage: jffs2_image decompress *"
+run decompress good; want 2 "" "error: *<OUT>*--help*"; unmade out.img
 run decompress good out.img more; want 2 "" "error: unexpected argument 'more' found*Usage: *"
 for option in --blocks --scan --decompress --owners --shape; do
     run decompress $option good out.img
@@ -43,7 +43,7 @@ run ls --decompress --decompress good; want 2 "" "$wrong"
 unmade out.img
 for words in "decompress --help" "decompress -h" "help decompress"; do
     run $words
-    want 0 "*Usage: jffs2_image decompress *<IMAGE> <OUT>*--block <N>*65536*--endian <ORDER>*little*\
+    want 0 "*Usage: jffs2_image decompress *<IMAGE> ?OUT?*--block <N>*65536*--endian <ORDER>*little*\
 Exit status:*" ""
 done
 run --help; want 0 "*Commands:*  decompress *" ""
@@ -133,7 +133,7 @@ for order in little big; do
     want 1 "" $'jffs2_image: I1 NoNodes\njffs2_image: note: the other byte order has 3 nodes, see --endian and info'
     unmade none.img
     run ls --decompress "${small[@]}" --endian $other packed_$order
-    want 0 "$root" "$(unseen "[1-9]*" 3)"
+    want 0 "$root" "$(unseen "[1-9]*" 3)"$'\n'"$(hinted $order 4194304)"
 done
 : > empty
 for order in little big; do
@@ -452,12 +452,12 @@ for words in "P1 File none|none" "L1 Device|folder" "M1 BlockSize|--block 4097 p
     cp blank there.img
     run compress ${words#*|} there.img; want 1 "" "jffs2_image: ${words%%|*}*"; same there.img blank
 done
-run compress; want 2 "" "error: *<IMAGE>*<OUT>*Usage: jffs2_image compress *"
-run compress good; want 2 "" "error: *<OUT>*Usage: *"
+run compress; want 2 "" "error: *<IMAGE>*Usage: jffs2_image compress *"
+run compress good; want 2 "" "error: *<OUT>*--help*"
 run compress --decompress good none.img
 want 2 "" "error: unexpected argument '--decompress' found*Usage: *"; unmade none.img
 run compress --help
-want 0 "*Usage: jffs2_image compress *<IMAGE> <OUT>*--block <N>*--endian <ORDER>*Exit status:*" ""
+want 0 "*Usage: jffs2_image compress *<IMAGE> ?OUT?*--block <N>*--endian <ORDER>*Exit status:*" ""
 run compress blank out.img; want 0 "compressed 0 nodes 0 bytes 0" ""; same out.img empty
 run decompress damaged plain.img; head -c 3 /dev/zero | cat plain.img - > dirty.img
 run compress dirty.img out.img; want 3 "compressed 1 nodes 2 bytes *" "$(noted 1)"

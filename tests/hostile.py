@@ -19,6 +19,7 @@ import decompress_model as opened
 import hostile_images as images
 import hostile_model as model
 import hostile_rows as rows
+import info_model
 from groups import PROGRAM, ROOT, Done, run_all, verdict, write
 from sentences import lines_of, sentence_of
 
@@ -549,7 +550,7 @@ def on_any(number, image):
         done = run(["check", "--block", str(size), "any.img"])
         verdict(f"check of image {number} in blocks of {size}", done == Done(status, text(lines), b""), done)
     lines, refused, findings = model.ls(image)
-    note = notes_on(image, findings)
+    note = notes_read(image, findings)
     done = run(["ls", "any.img"])
     wanted = refusal(refused) if refused else Done(0, text(lines), note)
     verdict(f"ls of image {number}", done == wanted, done)
@@ -560,7 +561,7 @@ def on_any(number, image):
         verdict(f"cat of image {number}", done == wanted, done)
     done = run(["check", "--scan", "any.img"])
     verdict(f"check --scan of image {number}", done.status in (0, 3) and not done.err, done)
-    goes_on(number, lines, refused, note)
+    goes_on(number, lines, refused, notes_on(image, findings))
 
 
 def goes_on(number, lines, refused, note):
@@ -581,9 +582,15 @@ def findings_note(count):
 
 
 def notes_on(image, count, size=65536, order="<"):
-    """The notes of `ls`, `cat` and `append` on an image with so many findings."""
+    """The notes of `append` on an image with so many findings."""
     bare = opened.has_no_node(image, size, order)
     return findings_note(count) + (opened.others_note(image, size, order).encode() if bare else b"")
+
+
+def notes_read(image, count, size=65536, order="<"):
+    """The notes of `ls` and `cat`, which name the options that the image shows."""
+    notes = notes_on(image, count, size, order)
+    return notes + info_model.hint(image, size, order).encode() if notes else b""
 
 
 def refusal(why):
@@ -646,7 +653,7 @@ def with_each_byte_changed():
             about = f"byte {at} changed, {order[1]}"
             image, (report, _, found, noted) = rows.changed(make, at)
             lines, content = rows.changed_lines(at)
-            note = findings_note(noted)
+            note = notes_read(image, noted, rows.CHANGED_BLOCK, packed.ORDERS[order[1]])
             write("any.img", image)
             does(about, ["ls", *words, "any.img"], Done(0, lines.encode(), note))
             wanted = NOT_FOUND if content is None else Done(0, content, note)
@@ -689,8 +696,9 @@ def on_rows():
             is_right = done.status == 3 and done.out.endswith(f" findings 0\nmount refused {why.partition(' with ')[0]}\n".encode())
             verdict(f"check: {why}, {order[1]}", is_right and not done.err, done)
         for front, count in rows.with_findings(make, other):
-            write("any.img", front + rows.joined([rows.node(make, 2, packed.FILE), rows.entry(make, 1, 2, b"a")]))
-            lines, note = rows.ROOT + "- 0644 0 0 0 0 2 /a\n", findings_note(count)
+            image = front + rows.joined([rows.node(make, 2, packed.FILE), rows.entry(make, 1, 2, b"a")])
+            write("any.img", image)
+            lines, note = rows.ROOT + "- 0644 0 0 0 0 2 /a\n", notes_read(image, count, 4096, packed.ORDERS[order[1]])
             does(f"{count} findings, {order[1]}", ["ls", *words], Done(0, lines.encode(), note))
             does(f"{count} findings, {order[1]}", ["cat", *words, "/a"], Done(0, b"", note))
 
@@ -747,13 +755,14 @@ def on_converted(about, image, size, order):
     verdict(f"ls of {about}", done == refusal(plain) or not plain and done.status == 0, done)
     lines, why = opened.ls(image, size, sign)
     done = run(["ls", "--decompress", *words, "any.img"])
-    wanted = fault(why) if why else Done(0, text(lines), note)
+    shown = notes_read(image, count, size, sign)
+    wanted = fault(why) if why else Done(0, text(lines), shown)
     verdict(f"ls --decompress of {about}", done == wanted, done)
     for name in [line.split(" ")[7][1:] for line in lines if line[0] == "-"][:3] or ["a"]:
         content, refused = opened.cat(image, name.encode(), size, sign)
         done = run(["cat", "--decompress", *words, "any.img", f"/{name}"])
         if "/" not in name:
-            wanted = fault(refused) if refused else Done(0, content, note)
+            wanted = fault(refused) if refused else Done(0, content, shown)
             verdict(f"cat --decompress of /{name} in {about}", done == wanted, done)
     lines, why = opened.converted(image, size, sign)
     converted_goes_on(about, words, (lines, why, note), (result, size, sign))
@@ -781,7 +790,7 @@ def of_what_lies_deep():
     image, lines = images.deep_damage(400, 400)
     write("deep.img", image)
     done = run(["damage", "deep.img"], 1 << 24)
-    is_right = done == Done(3, b"".join(lines), findings_note(400))
+    is_right = done == Done(3, b"".join(lines), notes_read(image, 400))
     verdict("damage of what lies deep in 16 MiB", is_right, done._replace(out=done.out[:200]))
 
 

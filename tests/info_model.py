@@ -101,6 +101,19 @@ def may_be(size, nodes):
     return all(a // size == (a + n - 1) // size for a, n, *_ in nodes)
 
 
+def hint(image, size, order):
+    """The note that names the options that an image shows which was read in this order and blocks of this size; nothing where they
+    may be its own."""
+    little, big = list(walk(image, '<')), list(walk(image, '>'))
+    found, nodes = ('>', big) if len(big) > len(little) else ('<', little)
+    _, *told = sizes(nodes).split()
+    least, greatest = (int(told[1]), int(told[3])) if told[0] == 'from' else (4, 4194304)
+    if not nodes or (found == order and (told[0] != 'from' or least <= size <= greatest)):
+        return ''
+    name = {'<': 'little', '>': 'big'}[found]
+    return f'jffs2_image: note: this looks like --endian {name} --block {greatest} (or --auto)\n'
+
+
 def lines(image):
     little, big = list(walk(image, '<')), list(walk(image, '>'))
     nodes, other = (big, little) if len(big) > len(little) else (little, big)

@@ -100,7 +100,7 @@ for words in --help "check --help"; do
 done
 
 line="the lines of help, 80 columns wide at most"
-for words in --help "check --help" "ls --help" "cat --help" "build --help" "append --help" "update --help" "decompress --help" "compress --help" "compact --help" "extract --help" "listing --help" "info --help" "cuts --help" "diff --help" "damage --help" "map --help" "pack --help" "verify --help"; do
+for words in --help "check --help" "ls --help" "cat --help" "build --help" "append --help" "update --help" "decompress --help" "compress --help" "compact --help" "extract --help" "listing --help" "info --help" "cuts --help" "diff --help" "damage --help" "map --help" "history --help" "pack --help" "verify --help"; do
     "$program" $words > out
     awk 'length > 80 { print; wide = 1 } END { exit wide }' out
     count $?
@@ -217,10 +217,10 @@ run ls empty; want 0 "$root" ""
 run ls --endian big empty; want 0 "$root" ""
 run ls --block 4096 longer; want 0 "$root" ""
 run ls --block 4096 "$sample"; want 0 "$root" ""
-run ls --block 4096 --endian big "$sample"; want 0 "$root" "$(unseen 4 2)"
+run ls --block 4096 --endian big "$sample"; want 0 "$root" "$(unseen 4 2)"$'\n'"$(hinted little 4194304)"
 run ls file; want 0 "$root"$'\n- 0644 0 0 0 0 2 /a' ""
-run ls --endian big file; want 0 "$root" "$(unseen "[1-9]*" 2)"
-run ls --block 8192 --endian big "$tree"; want 0 "$root" "$(unseen "[1-9]*" "[1-9]*")"
+run ls --endian big file; want 0 "$root" "$(unseen "[1-9]*" 2)"$'\n'"$(hinted little 4194304)"
+run ls --block 8192 --endian big "$tree"; want 0 "$root" "$(unseen "[1-9]*" "[1-9]*")"$'\n'"$(hinted little 4194304)"
 printf 'hello flash' > content
 printf '\0\0\0\0\0 flash' > zeros
 run ls sound; want 0 "$root"$'\n- 0644 0 0 11 0 2 /a' ""
@@ -359,6 +359,15 @@ run map --block 4097 "$tree"; want 1 "" "jffs2_image: M1 BlockSize$block_note"
 for words in "map --help" "map -h" "help map"; do
     run $words; want 0 "*Usage: jffs2_image map *<IMAGE>*nodes that the tree needs*Exit status:*" ""
 done
+run history; want 2 "" "error: *<IMAGE>*Usage: *"
+run history --decompress "$tree"; want 2 "" "error: unexpected argument '--decompress' found*Usage: *"
+run history none; want 1 "" "$(unopened none)"
+run history folder; want 1 "" "$(unread folder)"
+run history --block 4097 "$tree"; want 1 "" "jffs2_image: M1 BlockSize$block_note"
+run history "$tree" /nothing/at/all; want 1 "" "jffs2_image: P3 Path NotFound"
+for words in "history --help" "history -h" "help history"; do
+    run $words; want 0 "*Usage: jffs2_image history *<IMAGE> ?PATH?*the tree needs it*Exit status:*" ""
+done
 run check --decompress --block 8192 "$top/tests/data/default.img"; want 0 $'block 0\n*\nmount ok' ""
 run check --decompress --shape --block 8192 "$top/tests/data/default.img"; want 0 $'*\nmount ok\nshape ok' ""
 run check --decompress --scan --block 8192 "$top/tests/data/default.img"; want 3 $'*\ntotal blocks *' ""
@@ -429,9 +438,9 @@ none_accepted="accepted 0 nodes 0 bytes 0"
 small=(--block 8192)
 
 # Words
-run build; want 2 "" "error: *--blocks <N>*<LISTING>*<OUT>*Usage: *"
+run build; want 2 "" "error: *--blocks <N>*<LISTING>*Usage: *"
 run build create_a built; want 2 "" "error: *--blocks <N>*Usage: *"; unmade built
-run build --blocks 1 create_a; want 2 "" "error: *<OUT>*Usage: *"
+run build --blocks 1 create_a; want 2 "" "error: *<OUT>*--help*"
 run build --blocks 1 create_a built more; want 2 "" "error: unexpected argument 'more' found*Usage: *"; unmade built
 run build --blocks 1 --blocks 1 create_a built; want 2 "" "error: *--blocks <N>*Usage: *"; unmade built
 for value in x "" -1 0x10 4294967296 "1 "; do
@@ -439,15 +448,38 @@ for value in x "" -1 0x10 4294967296 "1 "; do
     run append "--blocks=$value" block create_a built; want 2 "" "error: invalid value '$value' for '--blocks <N>': *--help*"
 done
 unmade built
-run append; want 2 "" "error: *--blocks <N>*<IMAGE>*<LISTING>*<OUT>*Usage: *"
-run append --blocks 1 block create_a; want 2 "" "error: *<OUT>*Usage: *"
+run append; want 2 "" "error: *--blocks <N>*<IMAGE>*<LISTING>*Usage: *"
+run append --blocks 1 block create_a; want 2 "" "error: *<OUT>*--help*"
 run ls --blocks 1 block; want 2 "" "error: unexpected argument '--blocks' found*Usage: *"
 for words in "build --help" "build -h" "help build"; do
-    run $words; want 0 "*Usage: jffs2_image build *--blocks <N> <LISTING> <OUT>*--block <N>*65536*write PATH OFFSET HEX*Exit status:*" ""
+    run $words; want 0 "*Usage: jffs2_image build *--blocks <N> <LISTING> ?OUT?*--block <N>*65536*write PATH OFFSET HEX*Exit status:*" ""
 done
 for words in "append --help" "append -h" "help append"; do
-    run $words; want 0 "*Usage: jffs2_image append *--blocks <N> <IMAGE> <LISTING> <OUT>*--block <N>*65536*Exit status:*" ""
+    run $words; want 0 "*Usage: jffs2_image append *--blocks <N> <IMAGE> <LISTING> ?OUT?*--block <N>*65536*Exit status:*" ""
 done
+
+# OUT by `-o`, and standard input as IMAGE or LISTING: once
+run build --blocks 1 -o built create_a; want 0 "accepted 1 nodes 2 bytes 124" ""; cp built named
+run build --blocks 1 create_a built; want 0 "accepted 1 nodes 2 bytes 124" ""; same built named
+run build --blocks 1 --output=placed -p create_a; want 0 "accepted 1 nodes 2 bytes 124" ""; [[ $(stat -c %s placed) == 65536 ]]; count $?
+run build --blocks 1 -o built create_a other; want 2 "" "error: the argument '--output <FILE>' cannot be used with '?OUT?'*--help*"
+from() {
+    local file=$1
+    shift
+    line="jffs2_image $* < $file"
+    "$program" "$@" < "$file" > out 2> err
+    got=$?
+}
+from create_a build --blocks 1 - read; want 0 "accepted 1 nodes 2 bytes 124" ""; same read named
+from named ls -; want 0 "$root"$'\n'"$file_a" ""
+from named check --scan -; want 0 "*total *findings 0" ""
+from named append --blocks 2 - create_b built; want 0 "accepted 1 nodes 2 bytes 124" ""
+from named append --blocks 2 - - built; want 1 "" $'jffs2_image: P1 File -\njffs2_image: note: -: in use'
+from named diff - -; want 1 "" $'jffs2_image: P1 File -\njffs2_image: note: -: in use'
+from named ls --auto -; want 2 "" "error: the argument '--auto' cannot be used with '-'*--help*"
+cp named ./-; run ls ./-; want 0 "$root"$'\n'"$file_a" ""; rm ./-
+line="standard input is a pipe"
+"$program" ls - < <(cat named) > out 2> err; got=$?; want 0 "$root"$'\n'"$file_a" ""
 
 # The least image, byte for byte, and what the other commands say of it
 for order in little big; do
@@ -929,9 +961,9 @@ run update --blocks 5 file create_b built; want 0 "accepted 1 nodes 2 bytes 124"
 run update flipped create_b built; want 1 "" "jffs2_image: S2 Full needed 112 free 0 line 1"
 run update none create_b built; want 1 "" "$(unopened none)"
 run update flipped none built; want 1 "" "$(unopened none)"
-run update --blocks 2 flipped create_b; want 2 "" "error: *<OUT>*Usage: *"
+run update --blocks 2 flipped create_b; want 2 "" "error: *<OUT>*--help*"
 for words in "update --help" "update -h" "help update"; do
-    run $words; want 0 "*Usage: jffs2_image update *<IMAGE> <LISTING> <OUT>*new nodes in its blank blocks*Exit status:*" ""
+    run $words; want 0 "*Usage: jffs2_image update *<IMAGE> <LISTING> ?OUT?*new nodes in its blank blocks*Exit status:*" ""
 done
 run append --blocks 2 flipped create_b none/built; want 1 "" "$(unopened none/built)"
 

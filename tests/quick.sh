@@ -293,7 +293,7 @@ gives 0 "root:x:0:0:root:/root:/bin/sh" cat --block 8192 new.img /etc/passwd
 # What goes wrong in a listing is told with its line
 printf '# two directories of one name\nmkdir 0755 /d\nmkdir 0755 /d\n' > tree.txt
 gives 1 "jffs2_image: S1 Refused O5 Exists line 3
-jffs2_image: note: the new name is there; remove it by an earlier line, or use replace or put" build --blocks 1 tree.txt flash.img
+jffs2_image: note: the new name is there; remove it by an earlier line, or use replace or put if it is no directory" build --blocks 1 tree.txt flash.img
 gives 0 "$root"$'\nd 0755 0 0 0 0 2 /d' ls flash.img
 printf 'mkdir 0755 /d\npaint /d\n' > tree.txt
 gives 1 $'jffs2_image: P2 Listing line 2\njffs2_image: note: no operation has this name' build --blocks 1 tree.txt none.img

@@ -137,6 +137,11 @@ unseen() {
     fi
 }
 
+# hinted ORDER SIZE: the note on the options that an image shows
+hinted() {
+    echo "jffs2_image: note: this looks like --endian $1 --block $2 (or --auto)"
+}
+
 # whole FILE: the bytes of the last run's output
 whole() {
     cmp -s out "$1"
