@@ -10,10 +10,6 @@ mod damage;
 #[cfg(test)]
 mod diff;
 #[cfg(test)]
-mod hint;
-#[cfg(test)]
-mod history;
-#[cfg(test)]
 mod info;
 #[cfg(test)]
 mod report;
