@@ -19,7 +19,7 @@ import compact_model as model
 import compressed_images as images
 import decompress_model
 import hostile_model
-from groups import BLOCK, ORDERS, PROGRAM, ROOT, options_of, read, run, run_all, verdict, write
+from groups import BLOCK, ORDERS, PROGRAM, options_of, read, run, run_all, verdict, write
 
 FOLDER = images.DIRECTORY
 METHODS = (None, None, images.RTIME, images.ZLIB, images.LZO, images.LZMA)
@@ -174,10 +174,8 @@ def apart():
 
 def soups():
     """Nodes of few numbers, compressed in each method, some of them wrong; and torn ends."""
-    for number, order in enumerate("<>"):
-        soup = images.soups(30, 40, images.Maker(order), number)
-        for place, image in enumerate(soup):
-            try_image(f"soup {place}, {ORDERS[order]}", image, order, each=False)
+    for about, image, order in images.soups_of_both(30, 40):
+        try_image(about, image, order, each=False)
 
 
 def all_kinds():
@@ -189,10 +187,8 @@ def all_kinds():
 
 def by_others():
     """Images of mkfs.jffs2: nothing of them is superseded, so all nodes but markers go out."""
-    for name, order in (("default", "<"), ("rtime", ">"), ("lzo", ">"), ("lzma", "<"), ("lzma_big", ">")):
-        image = read(os.path.join(ROOT, "tests", "data", f"{name}.img"))
-        for size in (8192, 65536):
-            try_image(f"{name}.img in blocks of {size}", image, order, size, each=False)
+    for about, image, order, size in images.of_mkfs():
+        try_image(about, image, order, size, each=False)
 
 
 # ---- by hand

@@ -6,7 +6,6 @@ both orders: each line and the totals are those of tests/history_model.py, witho
 named something, or never did. What is live is what `map` counts as live. Then images that do not mount, of which nothing is
 printed. The last line is 'N passed, M failed'.
 """
-import os
 import random
 import sys
 
@@ -15,7 +14,7 @@ import compact_model
 import compressed_images as images
 import history_model as model
 import hostile_model
-from groups import BLOCK, ROOT, options_of, run, run_all, verdict, write
+from groups import BLOCK, options_of, run, run_all, verdict, write
 
 
 def word_of(path):
@@ -72,17 +71,14 @@ def random_images():
 
 def soups():
     """Nodes of few numbers, compressed in each method, some of them wrong; and torn ends."""
-    for number, order in enumerate("<>"):
-        for place, image in enumerate(images.soups(20, 20, images.Maker(order), number)):
-            try_image(f"soup {place}, {order}", image, order)
+    for about, image, order in images.soups_of_both(20, 20):
+        try_image(about, image, order)
 
 
 def by_others():
     """Images of mkfs.jffs2, in blocks of their own size and of another."""
-    for name, order in (("default", "<"), ("rtime", ">"), ("lzo", ">"), ("lzma", "<"), ("lzma_big", ">")):
-        image = compact.read(os.path.join(ROOT, "tests", "data", f"{name}.img"))
-        for size in (8192, 65536):
-            try_image(f"{name}.img in blocks of {size}", image, order, size)
+    for about, image, order, size in images.of_mkfs():
+        try_image(about, image, order, size)
 
 
 def by_hand():

@@ -65,17 +65,14 @@ def random_images():
 
 def soups():
     """Nodes of few numbers, compressed in each method, some of them wrong; and torn ends."""
-    for number, order in enumerate("<>"):
-        for place, image in enumerate(images.soups(30, 20, images.Maker(order), number)):
-            try_image(f"soup {place}, {order}", image, order)
+    for about, image, order in images.soups_of_both(30, 20):
+        try_image(about, image, order)
 
 
 def by_others():
     """Images of mkfs.jffs2, in blocks of their own size and of another."""
-    for name, order in (("default", "<"), ("rtime", ">"), ("lzo", ">"), ("lzma", "<"), ("lzma_big", ">")):
-        image = compact.read(os.path.join(ROOT, "tests", "data", f"{name}.img"))
-        for size in (8192, 65536):
-            try_image(f"{name}.img in blocks of {size}", image, order, size)
+    for about, image, order, size in images.of_mkfs():
+        try_image(about, image, order, size)
 
 
 def by_hand():

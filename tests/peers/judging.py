@@ -25,6 +25,15 @@ def ended():
     return 1 if COUNTS[1] or not COUNTS[0] else 0
 
 
+def run_groups(groups, *words):
+    """Runs each group of tests with these words, prints what came of it and then of all, and answers the status of the script."""
+    for group in groups:
+        before = COUNTS[1]
+        group(*words)
+        print(f"{group.__name__}: {'fails' if COUNTS[1] > before else 'passes'}", flush=True)
+    return ended()
+
+
 def run(*words, place=None):
     done = subprocess.run([PROGRAM, *words], stdin=subprocess.DEVNULL, capture_output=True, timeout=600, cwd=place)
     return done.returncode, done.stdout, done.stderr.decode(errors="replace").strip()
