@@ -1,3 +1,5 @@
 pub mod Spare
+pub mod Paging
 pub mod Finding
 pub mod Laws
+pub mod Showing

@@ -6,7 +6,9 @@
 //!
 //! - `PageLayout` is the size of a page and of its spare bytes; `LAYOUTS` are the usual ones.
 //! - `drop_spare` makes the image of a dump, in the dump's own memory.
-//! - `spare_of` finds the layout of a dump by its whole nodes.
+//! - `PageSource` gives the same of a source, page by page.
+//! - `spare_of` finds the layout of a dump by its whole nodes, `spare_shown` only if a node is
+//!   damaged; `put_spare` puts the line on it.
 #![tactic(auto)]
 
 mod dropping;
@@ -14,7 +16,13 @@ pub mod examples;
 mod finding;
 pub mod laws;
 mod layout;
+mod line;
+mod showing;
+mod source;
 
 pub use crate::dropping::drop_spare;
 pub use crate::finding::spare_of;
 pub use crate::layout::{LAYOUTS, PageLayout};
+pub use crate::line::put_spare;
+pub use crate::showing::spare_shown;
+pub use crate::source::PageSource;
