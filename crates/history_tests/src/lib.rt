@@ -1,7 +1,9 @@
-//! Tests of the crate of the notes on options, in a module.
+//! Tests of the crates of the notes on options and of dumps with spare bytes, a module for each.
 #![tactic(auto)]
 
 #[cfg(test)]
 mod checks;
 #[cfg(test)]
 mod hint;
+#[cfg(test)]
+mod spare;

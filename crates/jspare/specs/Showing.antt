@@ -1,4 +1,4 @@
--- What is told of the layout of a dump.
+-- The layout of a dump that is printed.
 use Rattle.std.specs.Prelude.{◌≡◌, ℕ, Bool, true, false, ◌&&◌, nat_le, nat_lt, List, [], ◌++◌, length, codes, decimal, Option, Some, None}
 use Rattle.jscan.specs.Image.{greatest_image}
 use Rattle.jinfo.specs.Infos.{info_of}

@@ -1,4 +1,4 @@
-//! The layout of a dump, where it is to be told.
+//! The layout of a dump that is printed.
 ghost use Rattle.std.specs.Prelude.{◌≡◌, IfOk};
 ghost use Rattle.jspare.specs.Showing.{IsSpareShown, has_damage};
 

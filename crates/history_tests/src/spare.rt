@@ -1,0 +1,3 @@
+//! Tests of `jspare`: sources over dumps, and the line on a layout.
+
+mod pages;
