@@ -39,14 +39,25 @@ pub(crate) const DAMAGED: [u8; 41] = [
     0x95, 0x02, 0x9b, 0x91, 0xce, 0x51, 0xb5, 0x3a, 0x62,
 ];
 
-const ROWS: [Row; 13] = [
+/// The entry, and an inode node of the file that has its size 4 and none of its bytes.
+const GAPPED: [u8; 112] = [
+    0x85, 0x19, 0x01, 0xe0, 0x29, 0x00, 0x00, 0x00, 0x6d, 0xa6, 0x2f, 0xd7, 0x01, 0x00, 0x00, 0x00,
+    0x01, 0x00, 0x00, 0x00, 0x02, 0x00, 0x00, 0x00, 0x00, 0x00, 0x00, 0x00, 0x01, 0x08, 0x00, 0x00,
+    0x95, 0x02, 0x9b, 0x91, 0xce, 0x51, 0xb5, 0x3a, 0x61, 0xff, 0xff, 0xff, 0x85, 0x19, 0x02, 0xe0,
+    0x44, 0x00, 0x00, 0x00, 0x1d, 0xfb, 0xf7, 0x98, 0x02, 0x00, 0x00, 0x00, 0x01, 0x00, 0x00, 0x00,
+    0xa4, 0x81, 0x00, 0x00, 0x00, 0x00, 0x00, 0x00, 0x04, 0x00, 0x00, 0x00, 0x00, 0x00, 0x00, 0x00,
+    0x00, 0x00, 0x00, 0x00, 0x00, 0x00, 0x00, 0x00, 0x00, 0x00, 0x00, 0x00, 0x00, 0x00, 0x00, 0x00,
+    0x00, 0x00, 0x00, 0x00, 0x00, 0x00, 0x00, 0x00, 0x00, 0x00, 0x00, 0x00, 0x3e, 0xca, 0x4e, 0x00,
+];
+
+const ROWS: [Row; 14] = [
     Row {
         plan: IMAGE,
         block: 4096,
         wanted: "open a.img\n\
 read a.img 124\n\
 print\n\
-total damaged 0 paths 0 missing 0\n",
+total damaged 0 paths 0 missing 0 gaps 0\n",
         status: 0,
     },
     Row {
@@ -56,7 +67,20 @@ total damaged 0 paths 0 missing 0\n",
 read a.img 41\n\
 print\n\
 missing /a ino 2\n\
-total damaged 0 paths 0 missing 1\n",
+total damaged 0 paths 0 missing 1 gaps 0\n",
+        status: 3,
+    },
+    Row {
+        plan: Plan {
+            bytes: &GAPPED,
+            ..IMAGE
+        },
+        block: 4096,
+        wanted: "open a.img\n\
+read a.img 112\n\
+print\n\
+gap ino 2 bytes 0 to 4 in /a\n\
+total damaged 0 paths 0 missing 0 gaps 1\n",
         status: 3,
     },
     // damage that is told, and the note on the finding
@@ -70,7 +94,7 @@ total damaged 0 paths 0 missing 1\n",
 read a.img 41\n\
 print\n\
 00000000 name-crc pino 1 version 1 ino 2 lost in /\n\
-total damaged 1 paths 0 missing 0\n\
+total damaged 1 paths 0 missing 0 gaps 0\n\
 say\n\
 jffs2_image: note: 1 finding, see check --scan; a wrong --block or --endian shows as findings too, see info\n",
         status: 3,
@@ -89,7 +113,7 @@ jffs2_image: note: 1 finding, see check --scan; a wrong --block or --endian show
 read a.img 41\n\
 print\n\
 missing /a ino 2\n\
-total damaged 0 paths 0 missing 1\n",
+total damaged 0 paths 0 missing 1 gaps 0\n",
         status: 3,
     },
     Row {
@@ -217,7 +241,7 @@ jffs2_image: note: standard output took no more; what it got is cut off\n",
 read a.img 41\n\
 print\n\
 00000000 name-crc pino 1 version 1 ino 2 lost in /\n\
-total damaged 1 paths 0 missing 0\n\
+total damaged 1 paths 0 missing 0 gaps 0\n\
 say failed Busy\n",
         status: 3,
     },
@@ -264,7 +288,7 @@ fn in_big_order(rt: HostRuntime) -> Result<(), Fail> {
 read a.img 41\n\
 print\n\
 missing /a ino 2\n\
-total damaged 0 paths 0 missing 1\n";
+total damaged 0 paths 0 missing 1 gaps 0\n";
     expect_at(&rt, found.as_str() == wanted, found.as_str());
     equal_at(&rt, status(outcome), 3, wanted);
     Ok(())

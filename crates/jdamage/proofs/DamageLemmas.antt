@@ -21,16 +21,19 @@ use Rattle.jnode.specs.declared.node.Damage.TheVariants.{NodeCrc, NameCrc, DataC
 use Rattle.jmount.specs.Mount.{Mount}
 use Rattle.jmount.specs.Tree.{State, all_entries, dangling, is_directory}
 use Rattle.jdamage.specs.Coverage.{is_not_older}
-use Rattle.jdamage.specs.Damage.{PutsDamage, damage_text, damage_told, damage_totals, data_text, hurt_text, missing_text, most_paths, node_paths, node_text, rest_text, size_at}
-use Rattle.jdamage.specs.Fields.{damaged_nodes, stretch_at, stretches}
-use Rattle.jdamage.specs.Lines.{hides_line, totals_shown}
-use Rattle.jdamage.specs.Telling.{HasListedNumber, HaveNumbers, is_kept, lost_paths, lost_text, missing_texts, named_text, own_paths, own_text, own_totals, own_whole, path_text_if}
+use Rattle.jdamage.specs.Damage.{PutsDamage, damage_text, damage_told, damage_totals, data_text, gap_text, missing_text, most_paths, node_paths, node_text, reached_once, size_at}
+use Rattle.jgaps.specs.Gaps.{gaps_of}
+use Rattle.jgaps.specs.declared.gap.Gap.{Gap}
+use Rattle.jgaps.specs.Fields.{stretch_at, stretches}
+use Rattle.jdamage.specs.Fields.{damaged_nodes}
+use Rattle.jdamage.specs.Lines.{path_line, totals_shown}
+use Rattle.jdamage.specs.Telling.{HasListedNumber, HaveNumbers, first_lines, is_kept, lost_paths, lost_text, missing_texts, named_text, own_paths, own_text, own_totals, own_whole, path_text_if}
 use Rattle.jdamage.specs.Hidden.{AreHidden, IsHidden}
 use Rattle.jdamage.specs.Entered.{entry_name}
 use Rattle.jdamage.specs.Ways.{HeldName, NameOf, climbed, is_led, name_held, names_led, path_if, path_to_name, paths_to, root_paths, steps_at_most}
 use Rattle.flashbase.specs.declared.source.DeviceFault.{DeviceFault}
 use Rattle.jdamage.specs.declared.fault.DamageFault.{DamageFault}
-use Rattle.jdamage.specs.declared.fields.Stretch.{Stretch}
+use Rattle.jgaps.specs.declared.fields.Stretch.{Stretch}
 use Rattle.jdamage.specs.declared.totals.Totals.{Totals}
 use Rattle.jdamage.proofs.CoverageLemmas.{hidden_kept}
 
@@ -47,6 +50,10 @@ sum_next : {X : Type 0} (g : X → ℕ) (xs : List X) (i : ℕ) (d : X) (x : X) 
 sum_next {X} g xs i d x less is =
     ap (sum_by g) (take_more xs i d less) ∙ sum_by-append g (take i xs) (get_or xs i d ∷ [])
     ∙ ap (λ (n : ℕ). sum_by g (take i xs) + n) (sum_one g (get_or xs i d) ∙ ap g (sym is))
+
+pub sum_more : {X : Type 0} (g : X → ℕ) (xs : List X) (i : ℕ) (d : X) (x : X) (here more : ℕ) → i < length xs → x ≡ get_or xs i d
+    → here ≡ sum_by g (take i xs) → more ≡ g x → here + more ≡ sum_by g (take (i + 1) xs)
+sum_more g xs i d x here more less is so_far one = ap (λ (n : ℕ). n + more) so_far ∙ ap (λ (n : ℕ). sum_by g (take i xs) + n) one ∙ sym (sum_next g xs i d x less is)
 
 capped_sum : (a b most : ℕ) → min (min a most + min b most) most ≡ min (a + b) most
 capped_sum a b most = omega arith
@@ -133,51 +140,46 @@ first_paths_if false rest = refl
 first_paths : (i : ℕ) (rest : List (List (List ℕ))) → root_paths i ++ take (most_of_names i) rest ≡ take most_paths (root_paths i ++ rest)
 first_paths i rest = first_paths_if (i == 1) rest
 
-module _ (s : State) (addr : ℕ) (lost : Stretch) where
+module _ (s : State) (i : ℕ) (start : List ℕ) where
   abbrev pub told_of : List (List (List ℕ)) → List ℕ
-  told_of paths = flat_map (hides_line addr lost) paths
+  told_of paths = flat_map (path_line start) paths
 
   abbrev pub named_paths : List HeldName → List (List (List ℕ))
   named_paths names = filter_map (path_to_name s) (map name_held names)
 
-  text_of_names : (names : List HeldName) → flat_map (named_text s addr lost) names ≡ told_of (named_paths names)
+  text_of_names : (names : List HeldName) → flat_map (named_text s start) names ≡ told_of (named_paths names)
   text_of_names [] = refl
   text_of_names (n ∷ names) =
-      flat_map-cons (named_text s addr lost) n names ∙ ap (λ (l : List ℕ). named_text s addr lost n ++ l) (text_of_names names) ∙ one (path_to_name s (name_held n))
+      flat_map-cons (named_text s start) n names ∙ ap (λ (l : List ℕ). named_text s start n ++ l) (text_of_names names) ∙ one (path_to_name s (name_held n))
     where
-      one : (o : Option (List (List ℕ))) → path_text_if addr lost o ++ told_of (named_paths names) ≡ told_of (cons_option o (named_paths names))
+      one : (o : Option (List (List ℕ))) → path_text_if start o ++ told_of (named_paths names) ≡ told_of (cons_option o (named_paths names))
       one None = refl
-      one (Some path) = sym (flat_map-cons (hides_line addr lost) path (named_paths names))
+      one (Some path) = sym (flat_map-cons (path_line start) path (named_paths names))
 
   -- what is told of names
   abbrev pub of_names : List ℕ
-  of_names = told_of (take (most_of_names lost.ino) (paths_of_names s lost.ino))
+  of_names = told_of (take (most_of_names i) (paths_of_names s i))
 
-  pub names_are_told : (names : List HeldName) (most : ℕ) → most ≡ most_of_names lost.ino → map name_held names ≡ take most (names_led s lost.ino)
-      → flat_map (named_text s addr lost) names ≡ of_names
+  pub names_are_told : (names : List HeldName) (most : ℕ) → most ≡ most_of_names i → map name_held names ≡ take most (names_led s i)
+      → flat_map (named_text s start) names ≡ of_names
   unfolding names_led
   names_are_told names most few first =
       text_of_names names ∙ ap (λ (l : List NameOf). told_of (filter_map (path_to_name s) l)) first
-      ∙ ap (λ (k : ℕ). told_of (filter_map (path_to_name s) (take k (filter (is_led s lost.ino) (all_entries s))))) few
-      ∙ ap told_of (led_first s lost.ino (all_entries s) (most_of_names lost.ino))
+      ∙ ap (λ (k : ℕ). told_of (filter_map (path_to_name s) (take k (filter (is_led s i) (all_entries s))))) few
+      ∙ ap told_of (led_first s i (all_entries s) (most_of_names i))
 
-  -- what is told of the root, of names, and of the rest
-  all_is_told : told_of (root_paths lost.ino) ++ (of_names ++ rest_text addr lost (length (paths_to s lost.ino))) ≡ hurt_text addr lost (paths_to s lost.ino)
-  all_is_told =
-      let rest = rest_text addr lost (length (paths_to s lost.ino)) in
-      sym (append_assoc (told_of (root_paths lost.ino)) of_names rest)
-      ∙ ap (λ (l : List ℕ). l ++ rest)
-      (sym (flat_map-append (hides_line addr lost) (root_paths lost.ino) (take (most_of_names lost.ino) (paths_of_names s lost.ino))) ∙ ap told_of (first_paths lost.ino (paths_of_names s lost.ino)))
+  -- what is told of the root and of names
+  all_is_told : told_of (root_paths i) ++ of_names ≡ first_lines s start i
+  all_is_told = sym (flat_map-append (path_line start) (root_paths i) (take (most_of_names i) (paths_of_names s i))) ∙ ap told_of (first_paths i (paths_of_names s i))
 
   pub whole_is_told : {T E : Type 0} (a b : Option (List ℕ)) (before now : ℕ) (r : Result T E)
-      → Puts a b before now (told_of (root_paths lost.ino) ++ (of_names ++ rest_text addr lost (length (paths_to s lost.ino)))) r
-      → Puts a b before now (hurt_text addr lost (paths_to s lost.ino)) r
+      → Puts a b before now (told_of (root_paths i) ++ of_names) r → Puts a b before now (first_lines s start i) r
   whole_is_told a b before now r puts = subst (λ (l : List ℕ). Puts a b before now l r) all_is_told puts
 
-  pub paths_are_counted : (root named : ℕ) → root ≡ length (root_paths lost.ino) → named ≡ length (names_led s lost.ino) → root + named ≡ length (paths_to s lost.ino)
+  pub paths_are_counted : (root named : ℕ) → root ≡ length (root_paths i) → named ≡ length (names_led s i) → root + named ≡ length (paths_to s i)
   unfolding names_led
   paths_are_counted root named of_root is_named =
-      omega (arith, of_root, is_named, led_many s lost.ino (all_entries s), length-append (root_paths lost.ino) (paths_of_names s lost.ino))
+      omega (arith, of_root, is_named, led_many s i (all_entries s), length-append (root_paths i) (paths_of_names s i))
 
 pub part_failed : {T E : Type 0} (a b : Option (List ℕ)) (before now : ℕ) (text : List ℕ) (r : Result T E) → IsErr r → PutsPart a b text → now ≡ next_count before → Puts a b before now text r
 part_failed a b before now text (Ok x) err part failed = cc
@@ -249,30 +251,36 @@ module _ (e : Endian) (size : ℕ) (m : Mount) (numbers hidden : BTreeSet ℕ) w
   all_same damaged are right =
       texts_same e m numbers hidden (stretches e size m.image) damaged right ∙ ap (flat_map (node_text e m (stretches e size m.image))) are
 
-  pub counted : (damaged : List (ℕ × Damage)) (missing : List HeldName) → damaged ≡ damaged_nodes e size m.image → Right damaged → map name_held missing ≡ dangling m.state
-      → own_totals e m hidden damaged missing ≡ damage_totals e size m
+  pub counted : (damaged : List (ℕ × Damage)) (missing : List HeldName) (gaps : List Gap) → damaged ≡ damaged_nodes e size m.image → Right damaged → map name_held missing ≡ dangling m.state
+      → gaps ≡ gaps_of e size m → own_totals e m hidden damaged missing gaps ≡ damage_totals e size m
   unfolding damage_totals
-  counted damaged missing are right gone =
+  counted damaged missing gaps are right gone found =
       let ks = stretches e size m.image in
       let nodes : length damaged ≡ length (damaged_nodes e size m.image) = ap (λ (l : List (ℕ × Damage)). length l) are in
       let paths : min (sum_by (own_paths e m hidden) damaged) (2 ^ 64 - 1) ≡ min (sum_by (node_paths e m ks) (damaged_nodes e size m.image)) (2 ^ 64 - 1) =
       ap (λ (n : ℕ). min n (2 ^ 64 - 1)) (sums_same e m numbers hidden ks damaged right ∙ ap (sum_by (node_paths e m ks)) are) in
       let names : length missing ≡ length (dangling m.state) = sym (bare_long missing) ∙ ap (λ (l : List NameOf). length l) gone in
-      let made : ℕ → ℕ → ℕ → Totals = λ d h n. record { damaged = d; paths = h; missing = n } in
-      ap (λ (d : ℕ). made d (min (sum_by (own_paths e m hidden) damaged) (2 ^ 64 - 1)) (length missing)) nodes
-      ∙ ap (λ (h : ℕ). made (length (damaged_nodes e size m.image)) h (length missing)) paths
-      ∙ ap (made (length (damaged_nodes e size m.image)) (min (sum_by (node_paths e m ks) (damaged_nodes e size m.image)) (2 ^ 64 - 1))) names
+      let reached : sum_by (reached_once m.state) gaps ≡ sum_by (reached_once m.state) (gaps_of e size m) = ap (sum_by (reached_once m.state)) found in
+      let made : ℕ → ℕ → ℕ → ℕ → Totals = λ d h n g. record { damaged = d; paths = h; missing = n; gaps = g } in
+      ap (λ (d : ℕ). made d (min (sum_by (own_paths e m hidden) damaged) (2 ^ 64 - 1)) (length missing) (sum_by (reached_once m.state) gaps)) nodes
+      ∙ ap (λ (h : ℕ). made (length (damaged_nodes e size m.image)) h (length missing) (sum_by (reached_once m.state) gaps)) paths
+      ∙ ap (λ (n : ℕ). made (length (damaged_nodes e size m.image)) (min (sum_by (node_paths e m ks) (damaged_nodes e size m.image)) (2 ^ 64 - 1)) n (sum_by (reached_once m.state) gaps)) names
+      ∙ ap (made (length (damaged_nodes e size m.image)) (min (sum_by (node_paths e m ks) (damaged_nodes e size m.image)) (2 ^ 64 - 1)) (length (dangling m.state))) reached
 
-  pub all_told : (damaged : List (ℕ × Damage)) (missing : List HeldName) → damaged ≡ damaged_nodes e size m.image → Right damaged → map name_held missing ≡ dangling m.state
-      → own_totals e m hidden damaged missing ≡ damage_totals e size m → own_whole e m hidden damaged missing ≡ damage_text e size m
+  pub all_told : (damaged : List (ℕ × Damage)) (missing : List HeldName) (gaps : List Gap) → damaged ≡ damaged_nodes e size m.image → Right damaged → map name_held missing ≡ dangling m.state
+      → gaps ≡ gaps_of e size m → own_totals e m hidden damaged missing gaps ≡ damage_totals e size m → own_whole e m hidden damaged missing gaps ≡ damage_text e size m
   unfolding damage_text damage_totals
-  all_told damaged missing are right gone so =
+  all_told damaged missing gaps are right gone found so =
+      let told = flat_map (node_text e m (stretches e size m.image)) (damaged_nodes e size m.image) in
+      let named = flat_map (missing_text m.state) (dangling m.state) in
       let nodes = all_same damaged are right in
-      let names : missing_texts m.state missing ≡ flat_map (missing_text m.state) (dangling m.state) =
+      let names : missing_texts m.state missing ≡ named =
       sym (flat_map-map (missing_text m.state) name_held missing) ∙ ap (flat_map (missing_text m.state)) gone in
-      ap (λ (l : List ℕ). l ++ (missing_texts m.state missing ++ totals_shown (own_totals e m hidden damaged missing))) nodes
-      ∙ ap (λ (l : List ℕ). flat_map (node_text e m (stretches e size m.image)) (damaged_nodes e size m.image) ++ (l ++ totals_shown (own_totals e m hidden damaged missing))) names
-      ∙ ap (λ (t : Totals). flat_map (node_text e m (stretches e size m.image)) (damaged_nodes e size m.image) ++ (flat_map (missing_text m.state) (dangling m.state) ++ totals_shown t)) so
+      let last = totals_shown (own_totals e m hidden damaged missing gaps) in
+      ap (λ (l : List ℕ). (l ++ missing_texts m.state missing) ++ (flat_map (gap_text m.state) gaps ++ last)) nodes
+      ∙ ap (λ (l : List ℕ). (told ++ l) ++ (flat_map (gap_text m.state) gaps ++ last)) names
+      ∙ ap (λ (l : List Gap). (told ++ named) ++ (flat_map (gap_text m.state) l ++ last)) found
+      ∙ ap (λ (t : Totals). (told ++ named) ++ (flat_map (gap_text m.state) (gaps_of e size m) ++ totals_shown t)) so
 
 -- ---- the same of what calls saw
 

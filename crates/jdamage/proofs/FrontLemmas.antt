@@ -17,7 +17,7 @@ use Rattle.jscan.proofs.PaddingLemmas.{pad4_up}
 use Rattle.jscan.proofs.PartLemmas.{block_length}
 use Rattle.jexpand.specs.Expanded.{rest_at}
 use Rattle.jexpand.proofs.SightedLemmas.{sighted_at, size_words}
-use Rattle.jdamage.specs.Fields.{node_front}
+use Rattle.jgaps.specs.Fields.{node_front}
 
 -- ---- bytes, where those that are missing count as erased
 

@@ -19,12 +19,13 @@ use Rattle.jnode.specs.declared.node.Damage.{Damage}
 use Rattle.jnode.specs.declared.node.Damage.TheVariants.{NodeCrc, NameCrc, DataCrc, Length, Range}
 use Rattle.jmount.specs.Mount.{Mount}
 use Rattle.jmount.specs.Tree.{State}
-use Rattle.jdamage.specs.Coverage.{has_place, hides_nothing, is_not_older, is_replaced, is_replaced_below}
+use Rattle.jgaps.specs.Gaps.{has_place}
+use Rattle.jdamage.specs.Coverage.{hides_nothing, is_not_older, is_replaced, is_replaced_below}
 use Rattle.jdamage.specs.Damage.{changes_nothing, size_at}
-use Rattle.jdamage.specs.Fields.{stretch_at}
+use Rattle.jgaps.specs.Fields.{stretch_at}
 use Rattle.jdamage.specs.Hidden.{AreHidden, AreVersions, HaveStarts, LostAscend, lost_if, spot_at}
 use Rattle.jdamage.specs.Sweep.{AreBelow, Ascends, HaveEnds, Taken, spot}
-use Rattle.jdamage.specs.declared.fields.Stretch.{Stretch}
+use Rattle.jgaps.specs.declared.fields.Stretch.{Stretch}
 use Rattle.jdamage.proofs.SweepLemmas.{lower}
 
 -- ---- the last of a list

@@ -26,11 +26,12 @@ use Rattle.jmount.specs.Tree.{ObjectOf, State, is_directory}
 use Rattle.jmount.specs.declared.fault.MountFault.TheVariants as fault
 use Rattle.jmount.proofs.ClashLemmas.{clashes_sym, from_inodes, in_inodes}
 use Rattle.jmount.proofs.NumbersLemmas.{object-state_of}
-use Rattle.jdamage.specs.Coverage.{is_not_older, has_place, is_replaced, is_replaced_below, hides_nothing}
+use Rattle.jgaps.specs.Gaps.{has_place}
+use Rattle.jdamage.specs.Coverage.{is_not_older, is_replaced, is_replaced_below, hides_nothing}
 use Rattle.jdamage.specs.Damage.{size_shown, size_at, changes_nothing}
-use Rattle.jdamage.specs.Fields.{stretch_at, stretch_of, stretch_sighted, stretches}
+use Rattle.jgaps.specs.Fields.{stretch_at, stretch_of, stretch_sighted, stretches}
 use Rattle.jdamage.specs.Laws.{HoldRanges, HidesNothingBetween, HasFields, ImageIsSameWithout, size_made}
-use Rattle.jdamage.specs.declared.fields.Stretch.{Stretch}
+use Rattle.jgaps.specs.declared.fields.Stretch.{Stretch}
 use Rattle.jdamage.proofs.BetweenLemmas.{in_between}
 use Rattle.jdamage.proofs.CoverageLemmas.{all_below}
 use Rattle.jdamage.proofs.StateWithoutLemmas.{state_is_same_without}

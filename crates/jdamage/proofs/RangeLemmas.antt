@@ -15,19 +15,20 @@ use Rattle.std.proofs.lemmas.List.{length_push, get_or_append_left, get_or_push,
 use Rattle.std.proofs.lemmas.List.Elements.{Contains-get_or, Contains-append_left, Contains-push, Contains-push_cases, filter-append}
 use Rattle.std.proofs.lemmas.List.Sorted.{Contains-permutation, IsPermutation-sym}
 use Rattle.std.proofs.lemmas.List.Folds.{Any-from_list_any, list_any-from_Any, list_all-append}
-use Rattle.jdamage.proofs.NodeLemmas.{head_first}
+use Rattle.jgaps.proofs.NodeLemmas.{head_first}
 use Rattle.flashbase.specs.Lists.{below}
 use Rattle.flashbase.proofs.MemberLemmas.{Contains-none, Contains-here, Contains-there, Contains-cases, Contains-filter_map}
 use Rattle.jnode.specs.declared.order.Endian.{Endian}
 use Rattle.jnode.specs.declared.node.Damage.{Damage}
-use Rattle.jdamage.specs.Coverage.{has_place, hides_nothing, is_not_older, is_replaced, is_replaced_below}
+use Rattle.jgaps.specs.Gaps.{has_place}
+use Rattle.jdamage.specs.Coverage.{hides_nothing, is_not_older, is_replaced, is_replaced_below}
 use Rattle.jmount.specs.Mount.{Mount}
 use Rattle.jdamage.specs.Damage.{size_at}
-use Rattle.jdamage.specs.Fields.{stretch_at}
+use Rattle.jgaps.specs.Fields.{stretch_at}
 use Rattle.jdamage.specs.Hidden.{AreHidden}
 use Rattle.jdamage.specs.Ranges.{FindsAll, HasHigher, KeepsWhatMatters, Sifted, TouchesOne, higher_version, range_if, range_of}
 use Rattle.jdamage.specs.Sweep.{spot}
-use Rattle.jdamage.specs.declared.fields.Stretch.{Stretch}
+use Rattle.jgaps.specs.declared.fields.Stretch.{Stretch}
 
 -- ---- ranges with the greatest end up to each
 

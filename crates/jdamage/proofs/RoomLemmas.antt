@@ -81,6 +81,9 @@ fits_more e m hidden room more (addr, NodeCrc) most fit = fit
 fits_more e m hidden room more (addr, Length) most fit = fit
 fits_more e m hidden room more (addr, Range) most fit = fit
 
+pub paths_fit_more : (s : State) (room more : ℕ) (names : List NameOf) → room ≤ more → PathsFit s room names → PathsFit s more names
+paths_fit_more s room more names most fit = λ k d less. omega (arith, fit k d less, most)
+
 pub held_fits : (s : State) (room : ℕ) (names : List HeldName) (i : ℕ) (d : HeldName) → i < length names → HeldPathsFit s room names → depth s (get_or names i d).0 < room
 held_fits s room names i d less fit =
     subst (λ (n : NameOf). depth s n.0 < room) (get_or-map name_held names i d (name_held d) less) (fit i (name_held d) (omega (arith, less, length-map names name_held)))

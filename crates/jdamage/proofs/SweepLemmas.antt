@@ -11,9 +11,10 @@ use Rattle.std.proofs.lemmas.Option.{same_Some}
 use Rattle.std.proofs.lemmas.List.Elements.{All-head, All-tail}
 use Rattle.std.proofs.lemmas.List.Folds.{list_any-append}
 use Rattle.flashbase.specs.Lists.{below}
-use Rattle.jdamage.specs.Coverage.{has_place, hides_nothing, is_not_older, is_replaced, is_replaced_below}
+use Rattle.jgaps.specs.Gaps.{has_place}
+use Rattle.jdamage.specs.Coverage.{hides_nothing, is_not_older, is_replaced, is_replaced_below}
 use Rattle.jdamage.specs.Sweep.{AreBelow, Ascends, HaveEnds, Taken, has_spot, spot}
-use Rattle.jdamage.specs.declared.fields.Stretch.{Stretch}
+use Rattle.jgaps.specs.declared.fields.Stretch.{Stretch}
 use Rattle.jdamage.proofs.CoverageLemmas.{all_below, not_below, lacks}
 
 -- ---- spots

@@ -27,9 +27,9 @@ use Rattle.jthrough.specs.Addressed.{addressed_nodes}
 use Rattle.jthrough.specs.View.{placed_node}
 use Rattle.jthrough.proofs.AddressedLemmas.{addressed_are_expanded, none_among}
 use Rattle.jthrough.proofs.PlacedLemmas.{placed_is}
-use Rattle.jdamage.specs.Fields.{stretch_at, stretch_of, stretch_sighted, stretches}
+use Rattle.jgaps.specs.Fields.{stretch_at, stretch_of, stretch_sighted, stretches}
 use Rattle.jdamage.specs.Laws.{HoldRanges, ThroughIsSameWithout}
-use Rattle.jdamage.specs.declared.fields.Stretch.{Stretch}
+use Rattle.jgaps.specs.declared.fields.Stretch.{Stretch}
 use Rattle.jdamage.proofs.FrontLemmas.{same_fields}
 use Rattle.jdamage.proofs.ImageWithoutLemmas.{AreFine, missed_nowhere, plain, plain_inodes, stretch_given, stretches_given, with_address, without_lost}
 

@@ -18,11 +18,12 @@ use Rattle.jfrag.specs.Overlays.{visible, byte_at}
 use Rattle.jmount.specs.Shown.{shown}
 use Rattle.jmount.specs.StateOf.{versions_of, latest, piece_of, contents, object_by, object_from, object_of, or_root, with_bytes}
 use Rattle.jmount.proofs.ObjectsLemmas.{in_versions, of_versions, piece_is_range}
-use Rattle.jdamage.specs.Coverage.{is_not_older, has_place, is_replaced, is_replaced_below, hides_nothing}
+use Rattle.jgaps.specs.Gaps.{has_place}
+use Rattle.jdamage.specs.Coverage.{is_not_older, is_replaced, is_replaced_below, hides_nothing}
 use Rattle.jdamage.specs.Damage.{size_shown}
-use Rattle.jdamage.specs.Fields.{stretch_of}
+use Rattle.jgaps.specs.Fields.{stretch_of}
 use Rattle.jdamage.specs.Laws.{HoldRanges, HidesNothingBetween, ObjectIsSameWithout, size_made}
-use Rattle.jdamage.specs.declared.fields.Stretch.{Stretch}
+use Rattle.jgaps.specs.declared.fields.Stretch.{Stretch}
 use Rattle.jdamage.proofs.BetweenLemmas.{one_more_between, node_stable}
 use Rattle.jdamage.proofs.CoverageLemmas.{lacks, not_below}
 

@@ -21,11 +21,12 @@ use Rattle.jmount.specs.Shown.{shown}
 use Rattle.jmount.specs.StateOf.{versions_of, latest, piece_of, object_by, object_from, object_of, or_root}
 use Rattle.jmount.specs.Tree.{ObjectOf}
 use Rattle.jmount.proofs.ObjectsLemmas.{in_versions, of_versions}
-use Rattle.jdamage.specs.Coverage.{is_not_older, has_place, is_replaced, is_replaced_below, hides_nothing}
+use Rattle.jgaps.specs.Gaps.{has_place}
+use Rattle.jdamage.specs.Coverage.{is_not_older, is_replaced, is_replaced_below, hides_nothing}
 use Rattle.jdamage.specs.Damage.{size_shown}
-use Rattle.jdamage.specs.Fields.{stretch_of}
+use Rattle.jgaps.specs.Fields.{stretch_of}
 use Rattle.jdamage.specs.Laws.{HoldRanges, HasOwnVersion, ObjectWouldChange, size_made}
-use Rattle.jdamage.specs.declared.fields.Stretch.{Stretch}
+use Rattle.jgaps.specs.declared.fields.Stretch.{Stretch}
 use Rattle.jdamage.proofs.BetweenLemmas.{newest_between, one_more_between}
 use Rattle.jdamage.proofs.WithoutLemmas.{found, not_older, covers_range, shown_at, shown-append, piece_version, split_versions}
 

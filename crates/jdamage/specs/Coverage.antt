@@ -3,15 +3,12 @@
 use Rattle.std.specs.Prelude.{ℕ, ◌==◌, ◌&&◌, ◌||◌, Bool, nat_lt, nat_le, min, List}
 use Rattle.std.specs.List.{list_any, list_all}
 use Rattle.flashbase.specs.Lists.{below}
-use Rattle.jdamage.specs.declared.fields.Stretch.{Stretch}
+use Rattle.jgaps.specs.Gaps.{has_place}
+use Rattle.jgaps.specs.declared.fields.Stretch.{Stretch}
 
 -- a version of the same object that is as high or higher
 abbrev pub is_not_older : Stretch → Stretch → Bool
 is_not_older lost other = (other.ino == lost.ino) && nat_le lost.version other.version
-
--- the place is in the range
-abbrev pub has_place : ℕ → Stretch → Bool
-has_place place s = nat_le s.from place && nat_lt place s.to
 
 -- another version gives the place, in front of or instead of the lost one
 unfoldable pub is_replaced : List Stretch → Stretch → ℕ → Bool
@@ -23,7 +20,7 @@ is_replaced_below others lost end =
     list_all (λ place. nat_lt place lost.from || is_replaced others lost place) (below end)
 
 -- rule: What is printed: Whether a damaged node hides anything.
---   definitions: jdamage.Coverage.hides_nothing, jdamage.Fields.stretches
+--   definitions: jdamage.Coverage.hides_nothing, jgaps.Fields.stretches
 --   code: jdamage::coverage::hides_nothing, jdamage::hidden::hidden_of,
 --   jdamage::nodes::stretches_beside
 --   laws: jdamage::laws::same_without, jdamage::laws::would_change

@@ -12,12 +12,15 @@ use Rattle.jmount.specs.Shown.{shown}
 use Rattle.jmount.specs.Tree.{State, object, dangling}
 use Rattle.jmount.specs.declared.object.Object.{Object}
 use Rattle.jdamage.specs.Coverage.{hides_nothing}
-use Rattle.jdamage.specs.Fields.{stretch_at, loss_at, damaged_nodes, stretches}
-use Rattle.jdamage.specs.Lines.{nothing_line, no_path_line, hides_line, more_line, loss_line, unknown_line, missing_line, totals_shown}
+use Rattle.jgaps.specs.Fields.{stretch_at, stretches}
+use Rattle.jdamage.specs.Fields.{loss_at, damaged_nodes}
+use Rattle.jgaps.specs.Gaps.{gaps_of}
+use Rattle.jgaps.specs.declared.gap.Gap.{Gap}
+use Rattle.jdamage.specs.Lines.{nothing_line, no_path_line, hides_line, more_line, loss_line, unknown_line, missing_line, gap_line, more_gap_line, totals_shown}
 use Rattle.jdamage.specs.Ways.{NameOf, path_below, paths_to}
 use Rattle.jdamage.specs.declared.fault.DamageFault.{DamageFault}
 use Rattle.jdamage.specs.declared.fault.DamageFault.TheVariants.{Output, OutOfMemory}
-use Rattle.jdamage.specs.declared.fields.Stretch.{Stretch}
+use Rattle.jgaps.specs.declared.fields.Stretch.{Stretch}
 use Rattle.jdamage.specs.declared.totals.Totals.{Totals}
 
 -- ---- a node whose data are damaged
@@ -38,7 +41,7 @@ changes_nothing s others lost = hides_nothing others (size_at s lost.ino) lost
 abbrev pub hurt_paths : State → List Stretch → Stretch → List (List (List ℕ))
 hurt_paths s others lost = if changes_nothing s others lost then [] else paths_to s lost.ino
 
--- of one node so many paths have a line at most
+-- of one node, and of one gap, so many paths have a line at most
 abbrev pub most_paths : ℕ
 most_paths = 16
 
@@ -57,7 +60,7 @@ data_text s others addr lost =
     if changes_nothing s others lost then nothing_line addr lost
     else hurt_text addr lost (paths_to s lost.ino)
 
--- ---- the whole
+-- ---- a damaged node, and a name
 
 -- what is told of a damaged node, beside these versions
 abbrev pub node_text : Endian → Mount → List Stretch → ℕ × Damage → List ℕ
@@ -79,24 +82,48 @@ node_paths e m others (addr, _) = 0
 abbrev pub missing_text : State → NameOf → List ℕ
 missing_text s n = missing_line n (path_below s n.0 (n.1 ∷ []))
 
--- How many nodes are damaged, how many paths they hide, each by itself, to the greatest u64, and
--- how many names have no object.
-abbrev pub totals_by : Endian → Mount → List Stretch → List (ℕ × Damage) → Totals
-totals_by e m others damaged = record {
+-- ---- bytes of files that no node has
+
+-- by how many paths there are: how many more than have a line
+abbrev pub more_gap_text : Gap → ℕ → List ℕ
+more_gap_text g count =
+    if nat_lt most_paths count then more_gap_line g (count - most_paths) else []
+
+-- a line for each of the first, and what is told of the rest
+abbrev pub gap_lines : Gap → List (List (List ℕ)) → List ℕ
+gap_lines g paths =
+    flat_map (gap_line g) (take most_paths paths) ++ more_gap_text g (length paths)
+
+-- what is told of a gap: nothing, if no path leads to its file
+abbrev pub gap_text : State → Gap → List ℕ
+gap_text s g = gap_lines g (paths_to s g.ino)
+
+-- a gap counts once, if a path leads to its file
+abbrev pub reached_once : State → Gap → ℕ
+reached_once s g = min (length (paths_to s g.ino)) 1
+
+-- ---- the whole
+
+-- How many nodes are damaged, how many paths they hide, each by itself, to the greatest u64, how
+-- many names have no object, and how many gaps are in files that a path leads to.
+abbrev pub totals_by : Endian → Mount → List Stretch → List (ℕ × Damage) → List Gap → Totals
+totals_by e m others damaged gaps = record {
   damaged = length damaged;
   paths = min (sum_by (node_paths e m others) damaged) (2 ^ 64 - 1);
   missing = length (dangling m.state);
+  gaps = sum_by (reached_once m.state) gaps;
 }
 
--- the lines: the damaged nodes in order of address, the names whose objects are missing, the totals
-abbrev pub text_by : Endian → Mount → List Stretch → List (ℕ × Damage) → List ℕ
-text_by e m others damaged = flat_map (node_text e m others) damaged
-    ++ (flat_map (missing_text m.state) (dangling m.state)
-    ++ totals_shown (totals_by e m others damaged))
+-- The lines: the damaged nodes in order of address, the names whose objects are missing, the gaps
+-- in order of the object's number and then of the place, the totals.
+abbrev pub text_by : Endian → Mount → List Stretch → List (ℕ × Damage) → List Gap → List ℕ
+text_by e m others damaged gaps = (flat_map (node_text e m others) damaged
+    ++ flat_map (missing_text m.state) (dangling m.state))
+    ++ (flat_map (gap_text m.state) gaps ++ totals_shown (totals_by e m others damaged gaps))
 
 unfoldable pub damage_totals : Endian → ℕ → Mount → Totals
-damage_totals e size m =
-    totals_by e m (stretches e size m.image) (damaged_nodes e size m.image)
+damage_totals e size m = totals_by e m (stretches e size m.image) (damaged_nodes e size m.image)
+    (gaps_of e size m)
 
 -- rule: What is printed: What the damage of an image costs.
 --   definitions: jdamage.Damage.damage_text, jdamage.Damage.damage_totals
@@ -104,6 +131,7 @@ damage_totals e size m =
 --   laws: jdamage::laws::sound_has_no_lines
 unfoldable pub damage_text : Endian → ℕ → Mount → List ℕ
 damage_text e size m = text_by e m (stretches e size m.image) (damaged_nodes e size m.image)
+    (gaps_of e size m)
 
 -- ---- what a call puts
 

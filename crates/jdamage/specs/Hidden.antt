@@ -9,9 +9,9 @@ use Rattle.jnode.specs.declared.node.Damage.{Damage}
 use Rattle.jnode.specs.declared.node.Damage.TheVariants.{DataCrc}
 use Rattle.jmount.specs.Mount.{Mount}
 use Rattle.jdamage.specs.Damage.{changes_nothing}
-use Rattle.jdamage.specs.Fields.{stretch_at}
+use Rattle.jgaps.specs.Fields.{stretch_at}
 use Rattle.jdamage.specs.Sweep.{spot}
-use Rattle.jdamage.specs.declared.fields.Stretch.{Stretch}
+use Rattle.jgaps.specs.declared.fields.Stretch.{Stretch}
 
 -- the address and the version of a node whose data are damaged
 abbrev pub lost_if : Endian → List ℕ → ℕ × Damage → Option (ℕ × ℕ)

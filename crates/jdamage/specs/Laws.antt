@@ -17,18 +17,20 @@ use Rattle.jmount.specs.Shape.{IsSingle}
 use Rattle.jmount.specs.Tree.{State, all_entries, dangling, is_directory}
 use Rattle.jview.specs.Through.{IsSoundThrough, IsMountThroughOf, MountsThroughAs}
 use Rattle.jthrough.specs.Addressed.{addressed_nodes}
+use Rattle.jgaps.specs.Gaps.{gaps_of}
 use Rattle.jdamage.specs.Coverage.{hides_nothing}
 use Rattle.jdamage.specs.Damage.{size_shown, changes_nothing, damage_text}
-use Rattle.jdamage.specs.Fields.{stretch_at, stretch_of, stretches, damaged_nodes}
+use Rattle.jgaps.specs.Fields.{stretch_at, stretch_of, stretches}
+use Rattle.jdamage.specs.Fields.{damaged_nodes}
 use Rattle.jdamage.specs.Lines.{no_damage, totals_shown}
 use Rattle.jdamage.specs.Ways.{LeadsUp, first_name, path_below}
-use Rattle.jdamage.specs.declared.fields.Stretch.{Stretch}
+use Rattle.jgaps.specs.declared.fields.Stretch.{Stretch}
 
--- of an image without damaged nodes, whose names all lead to objects, nothing is told but the
--- totals, and these are 0
+-- of an image without damaged nodes, whose names all lead to objects, and each byte of whose files
+-- a node has, nothing is told but the totals, and these are 0
 abbrev pub SoundHasNoLines : Type 0
 SoundHasNoLines = (e : Endian) (size : ℕ) (m : Mount) → damaged_nodes e size m.image ≡ []
-    → dangling m.state ≡ []
+    → dangling m.state ≡ [] → gaps_of e size m ≡ []
     → damage_text e size m ≡ totals_shown no_damage
 
 -- ---- a node that hides nothing

@@ -4,10 +4,15 @@ use Rattle.jnode.specs.declared.node.Damage.{Damage}
 use Rattle.jline.specs.Damages.{damage_name}
 use Rattle.jline.specs.Paths.{path_shown}
 use Rattle.jline.specs.Words.{hex, escaped}
+use Rattle.jgaps.specs.declared.gap.Gap.{Gap}
 use Rattle.jdamage.specs.Ways.{NameOf}
-use Rattle.jdamage.specs.declared.fields.Stretch.{Stretch}
+use Rattle.jgaps.specs.declared.fields.Stretch.{Stretch}
 use Rattle.jdamage.specs.declared.fields.Loss.{Loss}
 use Rattle.jdamage.specs.declared.totals.Totals.{Totals}
+
+-- a path behind a text, as a line
+abbrev pub path_line : List ℕ → List (List ℕ) → List ℕ
+path_line start path = start ++ (path_shown path ++ codes "\n")
 
 -- ---- a node whose data are damaged
 
@@ -22,8 +27,7 @@ abbrev pub no_path_line : ℕ → Stretch → List ℕ
 no_path_line addr s = stretch_start addr s ++ codes " has no path\n"
 
 abbrev pub hides_line : ℕ → Stretch → List (List ℕ) → List ℕ
-hides_line addr s path =
-    stretch_start addr s ++ (codes " hides " ++ (path_shown path ++ codes "\n"))
+hides_line addr s path = path_line (stretch_start addr s ++ codes " hides ") path
 
 -- so many more paths than have a line
 unfoldable pub more_end : ℕ → List ℕ
@@ -63,12 +67,25 @@ abbrev pub missing_line : NameOf → Option (List (List ℕ)) → List ℕ
 missing_line n None = missing_start n.0 ++ (escaped n.1 ++ missing_end n.2)
 missing_line n (Some path) = codes "missing " ++ (path_shown path ++ missing_end n.2)
 
+-- ---- bytes of a file that no node has
+
+unfoldable pub gap_start : Gap → List ℕ
+gap_start g = codes "gap ino " ++ decimal g.ino ++ codes " bytes " ++ decimal g.from ++ codes " to "
+    ++ decimal g.to
+
+abbrev pub gap_line : Gap → List (List ℕ) → List ℕ
+gap_line g path = path_line (gap_start g ++ codes " in ") path
+
+-- so many more paths than have a line
+abbrev pub more_gap_line : Gap → ℕ → List ℕ
+more_gap_line g count = gap_start g ++ (codes " and " ++ more_end count)
+
 -- ---- the last line
 
 unfoldable pub totals_shown : Totals → List ℕ
 totals_shown t = codes "total damaged " ++ decimal t.damaged ++ codes " paths " ++ decimal t.paths
-    ++ codes " missing " ++ decimal t.missing ++ codes "\n"
+    ++ codes " missing " ++ decimal t.missing ++ codes " gaps " ++ decimal t.gaps ++ codes "\n"
 
 -- the totals of no damage
 abbrev pub no_damage : Totals
-no_damage = record { damaged = 0; paths = 0; missing = 0 }
+no_damage = record { damaged = 0; paths = 0; missing = 0; gaps = 0 }

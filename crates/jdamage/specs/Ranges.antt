@@ -6,9 +6,9 @@ use Rattle.std.specs.Ordering.{nat_cmp}
 use Rattle.jnode.specs.declared.order.Endian.{Endian}
 use Rattle.jnode.specs.declared.node.Damage.{Damage}
 use Rattle.jnode.specs.declared.node.Damage.TheVariants.{DataCrc}
-use Rattle.jdamage.specs.Fields.{stretch_at}
+use Rattle.jgaps.specs.Fields.{stretch_at}
 use Rattle.jdamage.specs.Sweep.{spot}
-use Rattle.jdamage.specs.declared.fields.Stretch.{Stretch}
+use Rattle.jgaps.specs.declared.fields.Stretch.{Stretch}
 
 -- the spots of a version: where its range begins, and where it ends
 abbrev pub range_of : Stretch → ℕ × ℕ

@@ -7,7 +7,9 @@ use Rattle.jnode.specs.declared.node.Damage.{Damage}
 use Rattle.jnode.specs.declared.node.Damage.TheVariants.{NameCrc, DataCrc}
 use Rattle.jmount.specs.Mount.{Mount}
 use Rattle.jmount.specs.Tree.{State}
-use Rattle.jdamage.specs.Fields.{stretch_at, loss_at}
+use Rattle.jgaps.specs.Fields.{stretch_at}
+use Rattle.jdamage.specs.Fields.{loss_at}
+use Rattle.jgaps.specs.declared.gap.Gap.{Gap}
 use Rattle.jdamage.specs.Damage.{most_paths}
 use Rattle.jdamage.specs.Ways.{HeldName, NameOf, depth, name_held, names_led}
 
@@ -28,3 +30,7 @@ NodePathsFit e m hidden room (addr, DataCrc) = contains nat_cmp hidden addr ≡ 
     → PathsFit m.state room (names_told m.state (stretch_at e m.image addr).ino)
 NodePathsFit e m hidden room (addr, NameCrc) = depth m.state (loss_at e m.image addr).pino < room
 NodePathsFit e m hidden room (addr, _) = ⊤
+
+-- and those of the names of a gap's file
+abbrev pub GapPathsFit : State → ℕ → List Gap → Type 0
+GapPathsFit s room gaps = All (λ g. PathsFit s room (names_told s g.ino)) gaps

@@ -9,9 +9,9 @@ ghost use Rattle.std.specs.List.{All};
 ghost use Rattle.std.specs.Ordering.{nat_cmp};
 ghost use Rattle.jdamage.specs.Coverage.{hides_nothing};
 ghost use Rattle.jdamage.specs.Sweep.{AreBelow, Ascends, HaveEnds, Numbers, Taken, spot};
-ghost use Rattle.jdamage.specs.declared.fields.Stretch.{Stretch};
+ghost use Rattle.jgaps.specs.declared.fields.Stretch.{Stretch};
 
-use crate::fields::Stretch;
+use jgaps::Stretch;
 use std::alloc::AllocError;
 use std::collections::BTreeSet;
 

@@ -1,6 +1,6 @@
 //! What the damage of a mounted image costs.
 
-ghost use Rattle.std.specs.Prelude.{◌≡◌, ◌-◌, ◌^◌, ◌≤◌, ℕ, true, All, IfOk, OnOk, length, min, sum_by, vec_capacity};
+ghost use Rattle.std.specs.Prelude.{◌≡◌, ◌-◌, ◌^◌, ◌≤◌, ℕ, [], true, All, IfOk, OnOk, length, min, sum_by, vec_capacity};
 ghost use Rattle.std.specs.BTreeSet.{contains};
 ghost use Rattle.std.specs.List.{flat_map};
 ghost use Rattle.std.specs.Ordering.{nat_cmp};
@@ -8,23 +8,24 @@ ghost use Rattle.flashbase.specs.Sinks.{PutsTo};
 ghost use Rattle.jnode.specs.declared.node.Damage.TheVariants.{DataCrc};
 ghost use Rattle.jscan.specs.Image.{greatest_image};
 ghost use Rattle.jscan.specs.Scans.{IsScannable};
-ghost use Rattle.jdamage.specs.Damage.{PutsDamage, damage_told};
-ghost use Rattle.jdamage.specs.Fields.{stretch_at};
+ghost use Rattle.jdamage.specs.Damage.{PutsDamage, damage_told, gap_text, reached_once};
+ghost use Rattle.jgaps.specs.Fields.{stretch_at};
 ghost use Rattle.jdamage.specs.Lines.{no_damage, totals_shown};
-ghost use Rattle.jdamage.specs.Room.{HeldPathsFit, NodePathsFit};
-ghost use Rattle.jdamage.specs.Telling.{HaveNumbers, missing_texts, own_paths, own_text, own_totals, own_whole};
+ghost use Rattle.jdamage.specs.Room.{GapPathsFit, HeldPathsFit, NodePathsFit};
+ghost use Rattle.jdamage.specs.Telling.{HaveFiles, HaveNumbers, missing_texts, own_count, own_lines, own_paths, own_text, own_totals, own_whole};
 
 use crate::fault::DamageFault;
-use crate::fields::{loss_at, stretch_at};
+use crate::fields::loss_at;
 use crate::firsts::Name;
 use crate::hidden::hidden_of;
 use crate::lines::put_totals;
 use crate::nodes::{damaged_nodes, stretches_beside};
-use crate::room::{deepest, deepest_of_all};
-use crate::telling::{put_missing_name, put_node};
+use crate::room::{deepest, deepest_of_all, deepest_of_gaps};
+use crate::telling::{put_gap, put_missing_name, put_node};
 use crate::totals::Totals;
 use crate::ways::Ways;
 use flashbase::{DeviceFault, Sink};
+use jgaps::{Gap, gaps_of, stretch_at};
 use jmount::Mounted;
 use jnode::{Damage, Order};
 use jscan::Geometry;
@@ -54,7 +55,7 @@ fn note_number<E: Order>(
 }
 
 /// The numbers of the objects whose data are damaged.
-fn numbers_of<E: Order>(
+fn damaged_numbers<E: Order>(
     alloc: Global,
     image: &[u8],
     damaged: &[(u32, Damage)],
@@ -66,6 +67,34 @@ fn numbers_of<E: Order>(
     for (addr, which) in damaged {
         note_number::<E>(image, *addr, *which, &mut numbers)?;
     }
+    Ok(numbers)
+}
+
+/// Adds the numbers of the files that these gaps are in.
+fn add_files(gaps: &[Gap], numbers: &mut BTreeSet<u32>) -> Result<(), AllocError>
+    ensures keeps { OnOk result ((n : ℕ) → contains nat_cmp numbers.old n ≡ true
+        → contains nat_cmp numbers.new n ≡ true) }
+    ensures files { OnOk result (HaveFiles numbers.new gaps.now) }
+{
+    for gap in gaps {
+        numbers.insert(gap.ino)?;
+    }
+    Ok(())
+}
+
+/// The numbers of the objects whose data are damaged, and of the files with gaps.
+fn numbers_of<E: Order>(
+    alloc: Global,
+    image: &[u8],
+    damaged: &[(u32, Damage)],
+    gaps: &[Gap],
+) -> Result<BTreeSet<u32>, AllocError>
+    requires { length image.now ≤ greatest_image }
+    ensures damaged { IfOk result (λ numbers. HaveNumbers E.order image.now numbers damaged.now) }
+    ensures files { IfOk result (λ numbers. HaveFiles numbers gaps.now) }
+{
+    let mut numbers = damaged_numbers::<E>(alloc, image, damaged)?;
+    add_files(gaps, &mut numbers)?;
     Ok(numbers)
 }
 
@@ -133,6 +162,7 @@ fn put_all_missing<'m, T: Sink>(
     requires { HeldPathsFit ways.now.up.mounted.now.state (vec_capacity path.old) missing.now }
     ensures puts { PutsTo T.Sink sink.old sink.new
         (missing_texts ways.now.up.mounted.now.state missing.now) result }
+    ensures capacity { vec_capacity path.old ≤ vec_capacity path.new }
 {
     for name in missing {
         put_missing_name(ways, *name, path, sink)?;
@@ -140,7 +170,8 @@ fn put_all_missing<'m, T: Sink>(
     Ok(())
 }
 
-/// Tells all, where these addresses are of those that hide nothing.
+/// Tells of damaged nodes, and of names whose objects are missing. Answers how many paths the nodes
+/// hide.
 fn put_lines<'m, E: Order, T: Sink>(
     ways: &Ways<'m, '_>,
     hidden: &BTreeSet<u32>,
@@ -148,7 +179,7 @@ fn put_lines<'m, E: Order, T: Sink>(
     missing: &[Name<'m>],
     path: &mut Vec<&'m [u8]>,
     sink: &mut T,
-) -> Result<Totals, DeviceFault>
+) -> Result<u64, DeviceFault>
     requires image { length ways.now.up.mounted.now.image ≤ greatest_image }
     requires numbers { HaveNumbers E.order ways.now.up.mounted.now.image ways.now.numbers.now
         damaged.now }
@@ -157,16 +188,95 @@ fn put_lines<'m, E: Order, T: Sink>(
     requires names { HeldPathsFit ways.now.up.mounted.now.state (vec_capacity path.old)
         missing.now }
     ensures puts { PutsTo T.Sink sink.old sink.new
-        (own_whole E.order ways.now.up.mounted.now hidden.now damaged.now missing.now) result }
-    ensures totals { IfOk result (λ totals. totals
-        ≡ own_totals E.order ways.now.up.mounted.now hidden.now damaged.now missing.now) }
+        (own_lines E.order ways.now.up.mounted.now hidden.now damaged.now missing.now) result }
+    ensures count { IfOk result (λ count. count
+        ≡ own_count E.order ways.now.up.mounted.now hidden.now damaged.now) }
+    ensures capacity { vec_capacity path.old ≤ vec_capacity path.new }
 {
     let paths = put_nodes::<E, T>(ways, hidden, damaged, path, sink)?;
     put_all_missing(ways, missing, path, sink)?;
+    Ok(paths)
+}
+
+/// Tells of gaps. Answers how many are in files that a path leads to.
+fn put_gaps<'m, T: Sink>(
+    ways: &Ways<'m, '_>,
+    gaps: &[Gap],
+    path: &mut Vec<&'m [u8]>,
+    sink: &mut T,
+) -> Result<usize, DeviceFault>
+    requires files { HaveFiles ways.now.numbers.now gaps.now }
+    requires room { GapPathsFit ways.now.up.mounted.now.state (vec_capacity path.old) gaps.now }
+    ensures puts { PutsTo T.Sink sink.old sink.new
+        (flat_map (gap_text ways.now.up.mounted.now.state) gaps.now) result }
+    ensures count { IfOk result (λ count. count
+        ≡ sum_by (reached_once ways.now.up.mounted.now.state) gaps.now) }
+{
+    let mut count = 0usize;
+    for gap in gaps {
+        let more = put_gap(ways, gap, path, sink)?;
+        count += more;
+    }
+    Ok(count)
+}
+
+/// What is told of: damaged nodes, names whose objects are missing, and gaps.
+#[derive(Clone, Copy)]
+struct Found<'d, 'n, 'g, 'm> {
+    damaged: &'d [(u32, Damage)],
+    missing: &'n [Name<'m>],
+    gaps: &'g [Gap],
+}
+
+/// All of it.
+fn found_of<'d, 'n, 'g, 'm>(
+    damaged: &'d [(u32, Damage)],
+    missing: &'n [Name<'m>],
+    gaps: &'g [Gap],
+) -> Found<'d, 'n, 'g, 'm>
+    ensures damaged { result.damaged.now ≡ damaged.now }
+    ensures missing { result.missing.now ≡ missing.now }
+    ensures gaps { result.gaps.now ≡ gaps.now }
+{
+    Found {
+        damaged,
+        missing,
+        gaps,
+    }
+}
+
+/// Tells all, where these addresses are of those that hide nothing.
+fn put_all<'m, E: Order, T: Sink>(
+    ways: &Ways<'m, '_>,
+    hidden: &BTreeSet<u32>,
+    found: Found<'_, '_, '_, 'm>,
+    path: &mut Vec<&'m [u8]>,
+    sink: &mut T,
+) -> Result<Totals, DeviceFault>
+    requires image { length ways.now.up.mounted.now.image ≤ greatest_image }
+    requires numbers { HaveNumbers E.order ways.now.up.mounted.now.image ways.now.numbers.now
+        found.damaged.now }
+    requires files { HaveFiles ways.now.numbers.now found.gaps.now }
+    requires room { All (NodePathsFit E.order ways.now.up.mounted.now hidden.now
+        (vec_capacity path.old)) found.damaged.now }
+    requires names { HeldPathsFit ways.now.up.mounted.now.state (vec_capacity path.old)
+        found.missing.now }
+    requires gaps { GapPathsFit ways.now.up.mounted.now.state (vec_capacity path.old)
+        found.gaps.now }
+    ensures puts { PutsTo T.Sink sink.old sink.new
+        (own_whole E.order ways.now.up.mounted.now hidden.now found.entry.damaged.now
+        found.entry.missing.now found.entry.gaps.now) result }
+    ensures totals { IfOk result (λ totals. totals
+        ≡ own_totals E.order ways.now.up.mounted.now hidden.now found.entry.damaged.now
+        found.entry.missing.now found.entry.gaps.now) }
+{
+    let paths = put_lines::<E, T>(ways, hidden, found.damaged, found.missing, path, sink)?;
+    let gaps = put_gaps(ways, found.gaps, path, sink)?;
     let totals = Totals {
-        damaged: damaged.len(),
+        damaged: found.damaged.len(),
         paths,
-        missing: missing.len(),
+        missing: found.missing.len(),
+        gaps,
     };
     put_totals(&totals, sink)?;
     Ok(totals)
@@ -177,20 +287,25 @@ fn room_for<'m, E: Order>(
     alloc: Global,
     ways: &Ways<'m, '_>,
     hidden: &BTreeSet<u32>,
-    damaged: &[(u32, Damage)],
-    missing: &[Name<'m>],
+    found: Found<'_, '_, '_, 'm>,
 ) -> Result<Vec<&'m [u8]>, AllocError>
     requires image { length ways.now.up.mounted.now.image ≤ greatest_image }
     requires numbers { HaveNumbers E.order ways.now.up.mounted.now.image ways.now.numbers.now
-        damaged.now }
+        found.damaged.now }
+    requires files { HaveFiles ways.now.numbers.now found.gaps.now }
     ensures room { IfOk result (λ path. All (NodePathsFit E.order ways.now.up.mounted.now hidden.now
-        (vec_capacity path)) damaged.now) }
-    ensures names { IfOk result (λ path.
-        HeldPathsFit ways.now.up.mounted.now.state (vec_capacity path) missing.now) }
+        (vec_capacity path)) found.entry.damaged.now) }
+    ensures names { IfOk result (λ path. HeldPathsFit ways.now.up.mounted.now.state
+        (vec_capacity path) found.entry.missing.now) }
+    ensures gaps { IfOk result (λ path. GapPathsFit ways.now.up.mounted.now.state
+        (vec_capacity path) found.entry.gaps.now) }
 {
-    let nodes = deepest_of_all::<E>(ways, hidden, damaged);
-    let names = deepest(ways, missing);
-    Vec::with_capacity(alloc, nodes.max(names) as usize + 1)
+    let nodes = deepest_of_all::<E>(ways, hidden, found.damaged);
+    let names = deepest(ways, found.missing);
+    let files = deepest_of_gaps(ways, found.gaps);
+    let most = nodes.max(names);
+    let room = most.max(files);
+    Vec::with_capacity(alloc, room as usize + 1)
 }
 
 /// Tells that there is no damage.
@@ -202,6 +317,7 @@ fn put_none<T: Sink>(sink: &mut T) -> Result<Totals, DeviceFault>
         damaged: 0,
         paths: 0,
         missing: 0,
+        gaps: 0,
     };
     put_totals(&totals, sink)?;
     Ok(totals)
@@ -217,15 +333,33 @@ fn told(put: Result<Totals, DeviceFault>) -> Result<Totals, DamageFault>
     }
 }
 
+/// Whether there are none of these.
+fn is_none<T>(items: &[T]) -> bool
+    ensures { result ≡ true → items.now ≡ [] }
+{
+    items.is_empty()
+}
+
+/// Whether there is nothing to tell of.
+fn is_nothing(found: Found<'_, '_, '_, '_>) -> bool
+    ensures damaged { result ≡ true → found.entry.damaged.now ≡ [] }
+    ensures missing { result ≡ true → found.entry.missing.now ≡ [] }
+    ensures gaps { result ≡ true → found.entry.gaps.now ≡ [] }
+{
+    is_none(found.damaged) && is_none(found.missing) && is_none(found.gaps)
+}
+
 /// Puts what the damage of a mounted image costs: of each damaged entry or inode node, in order of
 /// address, which paths it hides, that it hides nothing, or that what it said is not known; then a
-/// line for each name whose object is missing, and the totals, which are the answer. A damaged node
-/// hides nothing where the object is the same whatever it said. The image was mounted in `E`'s
-/// order and with this geometry, as it is or through its compression. Each line goes out as it is
-/// made. Before the first, where there is damage, it takes memory for the damaged nodes, for the
-/// sound ones of their objects that touch what they were for, for the names of these objects, for
-/// the directories on the ways up from what is told, in a tree that has not its shape for all that
-/// `ls` enters, and for one path.
+/// line for each name whose object is missing; then of each gap, in which paths it is, and the
+/// totals, which are the answer. A damaged node hides nothing where the object is the same whatever
+/// it said. A gap is a maximal range of bytes of a file that no sound node has. The image was
+/// mounted in `E`'s order and with this geometry, as it is or through its compression. Each line
+/// goes out as it is made. Before the first it takes memory for what the sound inode nodes have, to
+/// find the gaps, and gives it back. Where there is something to tell, it takes memory for it, for
+/// the sound nodes of damaged objects that touch what was lost, for the names of these objects and
+/// of the files with gaps, for the directories on the ways up from what is told, in a tree that has
+/// not its shape for all that `ls` enters, and for one path.
 ///
 /// # Errors
 /// `OutOfMemory`, and nothing was put. `Output`: the sink failed, and took a beginning.
@@ -242,14 +376,16 @@ pub fn put_damage<E: Order, T: Sink>(
     let image = mounted.image();
     let damaged = damaged_nodes::<E>(alloc, image, geometry)?;
     let missing = mounted.dangling(alloc)?;
-    if damaged.is_empty() && missing.is_empty() {
+    let gaps = gaps_of::<E>(alloc, mounted, geometry)?;
+    let found = found_of(&damaged, &missing, &gaps);
+    if is_nothing(found) {
         return told(put_none(sink));
     }
-    let numbers = numbers_of::<E>(alloc, image, &damaged)?;
-    let sound = stretches_beside::<E>(alloc, image, geometry, &numbers, &damaged)?;
-    let hidden = hidden_of::<E>(alloc, mounted, sound, &damaged)?;
-    let dirs = dirs_of::<E>(alloc, mounted, &numbers, &damaged)?;
+    let numbers = numbers_of::<E>(alloc, image, found.damaged, found.gaps)?;
+    let sound = stretches_beside::<E>(alloc, image, geometry, &numbers, found.damaged)?;
+    let hidden = hidden_of::<E>(alloc, mounted, sound, found.damaged)?;
+    let dirs = dirs_of::<E>(alloc, mounted, &numbers, found.damaged)?;
     let ways = Ways::new(alloc, mounted, &numbers, &dirs)?;
-    let mut path = room_for::<E>(alloc, &ways, &hidden, &damaged, &missing)?;
-    told(put_lines::<E, T>(&ways, &hidden, &damaged, &missing, &mut path, sink))
+    let mut path = room_for::<E>(alloc, &ways, &hidden, found)?;
+    told(put_all::<E, T>(&ways, &hidden, found, &mut path, sink))
 }

@@ -5,13 +5,13 @@ ghost use Rattle.std.specs.BTreeSet.{contains};
 ghost use Rattle.std.specs.Ordering.{eq_by_cmp, nat_cmp};
 ghost use Rattle.jscan.specs.Image.{greatest_image};
 ghost use Rattle.jdamage.specs.Damage.{changes_nothing, size_at};
-ghost use Rattle.jdamage.specs.Fields.{stretch_at};
+ghost use Rattle.jgaps.specs.Fields.{stretch_at};
 ghost use Rattle.jdamage.specs.Hidden.{AreHidden, AreVersions, HaveStarts, LostAscend, lost_if, spot_at};
 ghost use Rattle.jdamage.specs.Sweep.{AreBelow, Ascends, HaveEnds, Numbers, Taken, spot};
-ghost use Rattle.jdamage.specs.declared.fields.Stretch.{Stretch};
+ghost use Rattle.jgaps.specs.declared.fields.Stretch.{Stretch};
 
 use crate::coverage::{hides_nothing, spot, take_from};
-use crate::fields::{Stretch, stretch_at};
+use jgaps::{Stretch, stretch_at};
 use jmount::Mounted;
 use jnode::{Damage, Order};
 use std::alloc::{AllocError, Global};

@@ -1,14 +1,15 @@
 //! The lines of `damage`.
 
-ghost use Rattle.std.specs.Prelude.{◌≡◌, ◌++◌, ◌≤◌, length, map, option_map};
+ghost use Rattle.std.specs.Prelude.{◌≡◌, ◌++◌, ◌≤◌, codes, length, map, option_map};
 ghost use Rattle.flashbase.specs.Sinks.{PutsTo};
 ghost use Rattle.jline.specs.Paths.{path_shown};
 ghost use Rattle.jline.specs.Words.{escaped};
-ghost use Rattle.jdamage.specs.Lines.{hides_line, loss_line, loss_start, missing_end, missing_line, missing_start, more_end, more_line, no_path_line, nothing_line, stretch_start, totals_shown, unknown_line};
+ghost use Rattle.jdamage.specs.Lines.{gap_start, loss_line, loss_start, missing_end, missing_line, missing_start, more_end, more_gap_line, more_line, path_line, no_path_line, nothing_line, stretch_start, totals_shown, unknown_line};
 
-use crate::fields::{Loss, Stretch};
+use crate::fields::Loss;
 use crate::totals::Totals;
 use flashbase::{DeviceFault, Sink};
+use jgaps::{Gap, Stretch};
 use jline::{LineBuffer, damage_name, put_escaped, put_path, put_text};
 use jnode::Damage;
 
@@ -97,19 +98,23 @@ pub(crate) fn put_no_path<T: Sink>(
     )
 }
 
-/// The line of a node that hides what a path leads to.
-#[tactic(auto, using(std::proofs::Common::append_assoc))]
-pub(crate) fn put_hides<T: Sink>(
-    addr: u32,
-    lost: &Stretch,
+/// What the line of a node that hides a path begins with.
+pub(crate) fn hides_start(addr: u32, lost: &Stretch) -> LineBuffer
+    ensures { result ≡ stretch_start addr lost.now ++ codes " hides " }
+{
+    stretch_until(addr, lost, b" hides ")
+}
+
+/// A path behind a text, as a line.
+pub(crate) fn put_path_line<T: Sink>(
+    start: &[u8],
     path: &[&[u8]],
     sink: &mut T,
 ) -> Result<(), DeviceFault>
     ensures { PutsTo T.Sink sink.old sink.new
-        (hides_line addr lost.now (map (λ name. name.now) path.now)) result }
+        (path_line start.now (map (λ name. name.now) path.now)) result }
 {
-    let start = stretch_until(addr, lost, b" hides ");
-    put_path_between(start.as_slice(), path, b"\n", sink)
+    put_path_between(start, path, b"\n", sink)
 }
 
 /// The end of a line that tells how many more paths there are.
@@ -239,6 +244,39 @@ pub(crate) fn put_missing<T: Sink>(
     }
 }
 
+/// What each line of a gap begins with, and this text.
+#[tactic(auto, unfolding(crate::specs::Lines::gap_start), using(std::proofs::Common::append_assoc))]
+fn gap_until(gap: &Gap, end: &[u8]) -> LineBuffer
+    requires { length end.now ≤ 32 }
+    ensures { result ≡ gap_start gap.now ++ end.now }
+{
+    let mut line = LineBuffer::new();
+    line.push_text(b"gap ino ");
+    line.push_decimal(u64::from(gap.ino));
+    line.push_text(b" bytes ");
+    line.push_decimal(u64::from(gap.from));
+    line.push_text(b" to ");
+    line.push_decimal(u64::from(gap.to));
+    line.push_text(end);
+    line
+}
+
+/// What the line of a gap in a path begins with.
+pub(crate) fn gap_in(gap: &Gap) -> LineBuffer
+    ensures { result ≡ gap_start gap.now ++ codes " in " }
+{
+    gap_until(gap, b" in ")
+}
+
+/// The line of a gap in so many more paths than have a line.
+#[tactic(auto, using(std::proofs::Common::append_assoc))]
+pub(crate) fn put_more_gap<T: Sink>(gap: &Gap, count: u64, sink: &mut T) -> Result<(), DeviceFault>
+    ensures { PutsTo T.Sink sink.old sink.new (more_gap_line gap.now count) result }
+{
+    let start = gap_until(gap, b" and ");
+    put_two(start.as_slice(), more_end(count).as_slice(), sink)
+}
+
 /// The last line.
 #[tactic(auto, unfolding(crate::specs::Lines::totals_shown), using(std::proofs::Common::append_assoc))]
 fn totals_shown(totals: &Totals) -> LineBuffer
@@ -251,6 +289,8 @@ fn totals_shown(totals: &Totals) -> LineBuffer
     line.push_decimal(totals.paths);
     line.push_text(b" missing ");
     line.push_decimal(totals.missing as u64);
+    line.push_text(b" gaps ");
+    line.push_decimal(totals.gaps as u64);
     line.push_text(b"\n");
     line
 }

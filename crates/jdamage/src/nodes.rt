@@ -3,13 +3,14 @@
 ghost use Rattle.std.specs.Prelude.{◌≡◌, ◌++◌, ℕ, List, ◌≤◌, IfOk, OnOk, filter, filter_map, length, option_to_list};
 ghost use Rattle.jscan.specs.Image.{greatest_image};
 ghost use Rattle.jscan.specs.Scans.{IsScannable};
-ghost use Rattle.jdamage.specs.Fields.{damaged_if, damaged_nodes, stretch_sighted, stretches};
+ghost use Rattle.jgaps.specs.Fields.{stretch_sighted, stretches};
+ghost use Rattle.jdamage.specs.Fields.{damaged_if, damaged_nodes};
 ghost use Rattle.jdamage.specs.Ranges.{FindsAll, KeepsWhatMatters, Sifted, range_if};
 ghost use Rattle.jdamage.specs.Telling.{is_kept};
-ghost use Rattle.jdamage.specs.declared.fields.Stretch.{Stretch};
+ghost use Rattle.jgaps.specs.declared.fields.Stretch.{Stretch};
 
-use crate::fields::{Stretch, stretch_at, stretch_of};
 use crate::ranges::{Range, Tops, add_tops, keep, ranges_of};
+use jgaps::{Stretch, stretch_sighted};
 use jnode::{Damage, Order, Seen};
 use jscan::{Geometry, Sightings};
 use std::alloc::{AllocError, Global};
@@ -51,18 +52,6 @@ pub(crate) fn damaged_nodes<E: Order>(
         push_damaged(&mut nodes, addr, &seen)?;
     }
     Ok(nodes)
-}
-
-/// What a sound inode node has, compressed or not.
-fn stretch_sighted<E: Order>(image: &[u8], addr: u32, seen: &Seen<'_>) -> Option<Stretch>
-    requires { length image.now ≤ greatest_image }
-    ensures { result ≡ stretch_sighted E.order image.now (addr, seen.now) }
-{
-    match seen {
-        Seen::Inode(node) => Some(stretch_of(node)),
-        Seen::Compressed { .. } => Some(stretch_at::<E>(image, addr)),
-        _ => None,
-    }
 }
 
 /// Keeps what an inode node has, where it is of one of these objects and matters.

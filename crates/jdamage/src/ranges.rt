@@ -6,10 +6,10 @@ ghost use Rattle.std.specs.List.Sorted.{IsNonDecreasingBy};
 ghost use Rattle.std.specs.Ordering.{nat_cmp};
 ghost use Rattle.jscan.specs.Image.{greatest_image};
 ghost use Rattle.jdamage.specs.Ranges.{FindsAll, KeepsWhatMatters, Sifted, TouchesOne, higher_version, range_if};
-ghost use Rattle.jdamage.specs.declared.fields.Stretch.{Stretch};
+ghost use Rattle.jgaps.specs.declared.fields.Stretch.{Stretch};
 
 use crate::coverage::spot;
-use crate::fields::{Stretch, stretch_at};
+use jgaps::{Stretch, stretch_at};
 use jnode::{Damage, Order};
 use std::alloc::{AllocError, Global};
 use std::collections::BTreeMap;

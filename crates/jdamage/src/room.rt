@@ -2,12 +2,13 @@
 
 ghost use Rattle.std.specs.Prelude.{◌≡◌, ◌+◌, ◌≤◌, ◌^◌, All, length, true};
 ghost use Rattle.jscan.specs.Image.{greatest_image};
-ghost use Rattle.jdamage.specs.Room.{HeldPathsFit, NodePathsFit};
-ghost use Rattle.jdamage.specs.Telling.{HasListedNumber, HaveNumbers};
+ghost use Rattle.jdamage.specs.Room.{GapPathsFit, HeldPathsFit, NodePathsFit};
+ghost use Rattle.jdamage.specs.Telling.{HasListedNumber, HaveFiles, HaveNumbers};
 
-use crate::fields::{loss_at, stretch_at};
+use crate::fields::loss_at;
 use crate::firsts::Name;
 use crate::ways::Ways;
+use jgaps::{Gap, stretch_at};
 use jnode::{Damage, Order};
 use std::collections::BTreeSet;
 
@@ -66,6 +67,19 @@ pub(crate) fn deepest_of_all<E: Order>(
     let mut most = 0;
     for (addr, which) in damaged {
         most = most.max(deepest_of::<E>(ways, hidden, *addr, *which));
+    }
+    most
+}
+
+/// The same of the files of these gaps.
+pub(crate) fn deepest_of_gaps(ways: &Ways<'_, '_>, gaps: &[Gap]) -> u64
+    requires { HaveFiles ways.now.numbers.now gaps.now }
+    ensures room { GapPathsFit ways.now.up.mounted.now.state (result + 1) gaps.now }
+    ensures few { result ≤ 2 ^ 32 }
+{
+    let mut most = 0;
+    for gap in gaps {
+        most = most.max(deepest(ways, ways.told(gap.ino)));
     }
     most
 }

@@ -3,78 +3,102 @@
 ghost use Rattle.std.specs.Prelude.{◌≡◌, ◌++◌, ◌-◌, ◌^◌, ◌<◌, ◌≤◌, [], true, IfOk, false, length, min, vec_capacity};
 ghost use Rattle.flashbase.specs.Sinks.{PutsTo};
 ghost use Rattle.jscan.specs.Image.{greatest_image};
-ghost use Rattle.jdamage.specs.Damage.{hurt_text, missing_text, rest_text};
+ghost use Rattle.jdamage.specs.Damage.{gap_text, hurt_text, missing_text, more_gap_text, reached_once, rest_text};
 ghost use Rattle.std.specs.BTreeSet.{contains};
 ghost use Rattle.std.specs.List.{flat_map};
 ghost use Rattle.std.specs.Ordering.{nat_cmp};
-ghost use Rattle.jdamage.specs.Lines.{hides_line, loss_line};
+ghost use Rattle.jdamage.specs.Lines.{loss_line, path_line};
 ghost use Rattle.jdamage.specs.Room.{HeldPathsFit, NodePathsFit, PathsFit, names_told};
-ghost use Rattle.jdamage.specs.Telling.{HasListedNumber, lost_paths, lost_text, named_text, own_paths, own_text};
+ghost use Rattle.jdamage.specs.Telling.{HasListedNumber, first_lines, lost_paths, lost_text, named_text, own_paths, own_text};
 ghost use Rattle.jdamage.specs.Ways.{depth, name_held, path_below, paths_to, root_paths};
 
-use crate::fields::{Loss, Stretch, loss_at, stretch_at};
+use crate::fields::{Loss, loss_at};
 use crate::firsts::Name;
 use crate::lines::{
-    put_hides, put_loss, put_missing, put_more, put_no_path, put_nothing, put_unknown,
+    gap_in, hides_start, put_loss, put_missing, put_more, put_more_gap, put_no_path, put_nothing,
+    put_path_line, put_unknown,
 };
 use crate::ways::{MOST_PATHS, Ways};
 use flashbase::{DeviceFault, Sink};
+use jgaps::{Gap, Stretch, stretch_at};
 use jmount::ROOT;
 use jnode::{Damage, Order};
 use std::collections::BTreeSet;
 
-/// Tells that a node hides what a name leads to, where a path leads to the name.
+/// Puts a line with the path of a name, where a path leads to it.
 fn put_name<'m, T: Sink>(
     ways: &Ways<'m, '_>,
-    addr: u32,
-    lost: &Stretch,
+    start: &[u8],
     name: Name<'m>,
     path: &mut Vec<&'m [u8]>,
     sink: &mut T,
 ) -> Result<(), DeviceFault>
     requires { depth ways.now.up.mounted.now.state name.0 < vec_capacity path.old }
     ensures puts { PutsTo T.Sink sink.old sink.new
-        (named_text ways.now.up.mounted.now.state addr lost.now name.entry) result }
+        (named_text ways.now.up.mounted.now.state start.now name.entry) result }
     ensures capacity { vec_capacity path.old ≤ vec_capacity path.new }
 {
     if !ways.up.put_name(name.0, name.1, path) {
         return Ok(());
     }
-    put_hides(addr, lost, path.as_slice(), sink)
+    put_path_line(start, path.as_slice(), sink)
 }
 
-/// Tells that a node hides the root, where it is of its number. Answers how many paths that is.
-fn put_root<T: Sink>(addr: u32, lost: &Stretch, sink: &mut T) -> Result<u64, DeviceFault>
+/// Puts a line with the root's path, for its number. Answers how many paths that is.
+fn put_root<T: Sink>(start: &[u8], ino: u32, sink: &mut T) -> Result<u64, DeviceFault>
     ensures puts { PutsTo T.Sink sink.old sink.new
-        (flat_map (hides_line addr lost.now) (root_paths lost.now.ino)) result }
-    ensures count { IfOk result (λ count. count ≡ length (root_paths lost.now.ino)) }
+        (flat_map (path_line start.now) (root_paths ino)) result }
+    ensures count { IfOk result (λ count. count ≡ length (root_paths ino)) }
     ensures few { IfOk result (λ count. count ≤ 1) }
 {
-    if lost.ino != ROOT {
+    if ino != ROOT {
         return Ok(0);
     }
-    put_hides(addr, lost, &[], sink)?;
+    put_path_line(start, &[], sink)?;
     Ok(1)
 }
 
-/// Tells that a node hides what these names lead to.
+/// Puts a line for each of these names that a path leads to.
 fn put_names<'m, T: Sink>(
     ways: &Ways<'m, '_>,
-    addr: u32,
-    lost: &Stretch,
+    start: &[u8],
     names: &[Name<'m>],
     path: &mut Vec<&'m [u8]>,
     sink: &mut T,
 ) -> Result<(), DeviceFault>
     requires { HeldPathsFit ways.now.up.mounted.now.state (vec_capacity path.old) names.now }
     ensures puts { PutsTo T.Sink sink.old sink.new
-        (flat_map (named_text ways.now.up.mounted.now.state addr lost.now) names.now) result }
+        (flat_map (named_text ways.now.up.mounted.now.state start.now) names.now) result }
     ensures capacity { vec_capacity path.old ≤ vec_capacity path.new }
 {
     for name in names {
-        put_name(ways, addr, lost, *name, path, sink)?;
+        put_name(ways, start, *name, path, sink)?;
     }
     Ok(())
+}
+
+/// Puts a line for each of the first paths that lead to a number. Answers how many paths do.
+fn put_paths<'m, T: Sink>(
+    ways: &Ways<'m, '_>,
+    start: &[u8],
+    ino: u32,
+    path: &mut Vec<&'m [u8]>,
+    sink: &mut T,
+) -> Result<u64, DeviceFault>
+    requires number { contains nat_cmp ways.now.numbers.now ino ≡ true }
+    requires room { PathsFit ways.now.up.mounted.now.state (vec_capacity path.old)
+        (names_told ways.now.up.mounted.now.state ino) }
+    ensures puts { PutsTo T.Sink sink.old sink.new
+        (first_lines ways.now.up.mounted.now.state start.now ino) result }
+    ensures count { IfOk result (λ count. count
+        ≡ length (paths_to ways.now.up.mounted.now.state ino)) }
+    ensures few { IfOk result (λ count. count ≤ 2 ^ 63) }
+    ensures capacity { vec_capacity path.old ≤ vec_capacity path.new }
+{
+    let root = put_root(start, ino, sink)?;
+    let names = ways.first_names(ino, (MOST_PATHS - root) as usize);
+    put_names(ways, start, names, path, sink)?;
+    Ok(root + ways.count(ino))
 }
 
 /// Tells that no path leads to what a node hides, or how many more do than were told.
@@ -108,13 +132,43 @@ fn put_hurt<'m, T: Sink>(
         ≡ min (length (paths_to ways.now.up.mounted.now.state lost.now.ino)) (2 ^ 64 - 1)) }
     ensures capacity { vec_capacity path.old ≤ vec_capacity path.new }
 {
-    let root = put_root(addr, lost, sink)?;
-    let names = ways.first_names(lost.ino, (MOST_PATHS - root) as usize);
-    put_names(ways, addr, lost, names, path, sink)?;
-    let named = ways.count(lost.ino);
-    let count = root + named;
+    let start = hides_start(addr, lost);
+    let count = put_paths(ways, start.as_slice(), lost.ino, path, sink)?;
     put_rest(addr, lost, count, sink)?;
     Ok(count)
+}
+
+/// Tells how many more paths lead to the file of a gap than were told.
+fn put_gap_rest<T: Sink>(gap: &Gap, count: u64, sink: &mut T) -> Result<(), DeviceFault>
+    ensures { PutsTo T.Sink sink.old sink.new (more_gap_text gap.now count) result }
+{
+    if count > MOST_PATHS {
+        return put_more_gap(gap, count - MOST_PATHS, sink);
+    }
+    Ok(())
+}
+
+/// Tells of a gap, by the first paths of its file alone. Answers 1 if a path leads there, else 0.
+pub(crate) fn put_gap<'m, T: Sink>(
+    ways: &Ways<'m, '_>,
+    gap: &Gap,
+    path: &mut Vec<&'m [u8]>,
+    sink: &mut T,
+) -> Result<usize, DeviceFault>
+    requires number { contains nat_cmp ways.now.numbers.now gap.now.ino ≡ true }
+    requires room { PathsFit ways.now.up.mounted.now.state (vec_capacity path.old)
+        (names_told ways.now.up.mounted.now.state gap.now.ino) }
+    ensures puts { PutsTo T.Sink sink.old sink.new
+        (gap_text ways.now.up.mounted.now.state gap.now) result }
+    ensures count { IfOk result (λ count. count
+        ≡ reached_once ways.now.up.mounted.now.state gap.now) }
+    ensures few { IfOk result (λ count. count ≤ 1) }
+    ensures capacity { vec_capacity path.old ≤ vec_capacity path.new }
+{
+    let start = gap_in(gap);
+    let count = put_paths(ways, start.as_slice(), gap.ino, path, sink)?;
+    put_gap_rest(gap, count, sink)?;
+    Ok(count.min(1) as usize)
 }
 
 /// Tells what a node of damaged data hides. Answers how many paths.

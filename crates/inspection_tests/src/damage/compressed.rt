@@ -40,29 +40,33 @@ const HALVES: [Packed; 2] = [Packed(3, 8, 0, 4, FIRST), Packed(4, 8, 4, 4, LAST)
 const CUT: [Packed; 1] = [Packed(3, 4, 0, 4, FIRST)];
 
 const NOTHING: &str = "0000002c data-crc ino 2 version 2 bytes 0 to 8 hides nothing\n\
-total damaged 1 paths 0 missing 0\n";
+total damaged 1 paths 0 missing 0 gaps 0\n";
 
 const HIDES: &str = "0000002c data-crc ino 2 version 2 bytes 0 to 8 hides /a\n\
-total damaged 1 paths 1 missing 0\n";
+total damaged 1 paths 1 missing 0 gaps 0\n";
+
+const HALF_HIDES: &str = "0000002c data-crc ino 2 version 2 bytes 0 to 8 hides /a\n\
+gap ino 2 bytes 4 to 8 in /a\n\
+total damaged 1 paths 1 missing 0 gaps 1\n";
 
 const PACKED_HIDES: &str = "00000078 data-crc ino 2 version 3 bytes 0 to 8 hides /a\n\
-total damaged 1 paths 1 missing 0\n";
+total damaged 1 paths 1 missing 0 gaps 0\n";
 
 const PACKED_NOTHING: &str = "00000078 data-crc ino 2 version 1 bytes 0 to 8 hides nothing\n\
-total damaged 1 paths 0 missing 0\n";
+total damaged 1 paths 0 missing 0 gaps 0\n";
 
-/// The compressed nodes, which begin at 120, the place that is flipped, the lines, and how many
-/// paths are hidden.
-type Row = (&'static [Packed], usize, &'static str, u64);
+/// The compressed nodes, which begin at 120, the place that is flipped, the lines, how many paths
+/// are hidden, and how many gaps there are.
+type Row = (&'static [Packed], usize, &'static str, u64, usize);
 
 const ROWS: [Row; 7] = [
-    (&HIGHER, 112, NOTHING, 0),
-    (&HALF, 112, HIDES, 1),
-    (&HALVES, 112, NOTHING, 0),
-    (&CUT, 112, NOTHING, 0),
-    (&LOWER, 112, HIDES, 1),
-    (&HIGHER, 188, PACKED_HIDES, 1),
-    (&LOWER, 188, PACKED_NOTHING, 0),
+    (&HIGHER, 112, NOTHING, 0, 0),
+    (&HALF, 112, HALF_HIDES, 1, 1),
+    (&HALVES, 112, NOTHING, 0, 0),
+    (&CUT, 112, NOTHING, 0, 0),
+    (&LOWER, 112, HIDES, 1, 0),
+    (&HIGHER, 188, PACKED_HIDES, 1, 0),
+    (&LOWER, 188, PACKED_NOTHING, 0, 0),
 ];
 
 fn rows() -> &'static [Row] {
@@ -117,7 +121,7 @@ fn file_of(alloc: Global, image: &[u8]) -> Result<(Option<Object>, [u8; 8]), &'s
 /// without damage, and else it is another one.
 #[test]
 fn beside_compressed_nodes(rt: HostRuntime) -> Result<(), Fail> {
-    for &(packed, place, text, paths) in rows() {
+    for &(packed, place, text, paths, gaps) in rows() {
         let image = image_of(rt.alloc(), packed, Some(place))?;
         let mut contents = Vec::new(rt.alloc());
         let mounted = mount_through::<LittleEndian>(
@@ -131,7 +135,7 @@ fn beside_compressed_nodes(rt: HostRuntime) -> Result<(), Fail> {
             |_| "no totals",
         )?;
         equal(&rt, sink.bytes.as_slice(), text.as_bytes());
-        equal(&rt, told, totals((1, paths, 0)));
+        equal(&rt, told, totals((1, paths, 0, gaps)));
         let whole = file_of(rt.alloc(), &image_of(rt.alloc(), packed, None)?)?;
         expect_at(
             &rt,

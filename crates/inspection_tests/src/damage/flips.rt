@@ -110,57 +110,60 @@ pub(crate) fn put<T: Sink>(
 }
 
 /// The places that are flipped, the lines, and the totals.
-pub(crate) type Row = (&'static [usize], &'static str, (usize, u64, usize));
+pub(crate) type Row = (&'static [usize], &'static str, (usize, u64, usize, usize));
 
-pub(crate) fn totals((damaged, paths, missing): (usize, u64, usize)) -> Totals {
+pub(crate) fn totals((damaged, paths, missing, gaps): (usize, u64, usize, usize)) -> Totals {
     Totals {
         damaged,
         paths,
         missing,
+        gaps,
     }
 }
 
 const OLDER: &str = "00000000 data-crc ino 2 version 1 bytes 0 to 3 hides nothing\n\
 missing /d/gone ino 9\n\
 missing pino 7 name x\\x20y ino 8\n\
-total damaged 1 paths 0 missing 2\n";
+total damaged 1 paths 0 missing 2 gaps 0\n";
 
 const TWO_PATHS: &str = "00000048 data-crc ino 2 version 2 bytes 3 to 5 hides /a\n\
 00000048 data-crc ino 2 version 2 bytes 3 to 5 hides /d/b\\x20c\n\
 00000240 data-crc ino 1 version 5 bytes 0 to 1 hides /\n\
 missing /d/gone ino 9\n\
 missing pino 7 name x\\x20y ino 8\n\
-total damaged 2 paths 3 missing 2\n";
+gap ino 2 bytes 3 to 5 in /a\n\
+gap ino 2 bytes 3 to 5 in /d/b\\x20c\n\
+total damaged 2 paths 3 missing 2 gaps 1\n";
 
 const NO_PATH: &str = "00000184 data-crc ino 4 version 6 bytes 5 to 7 has no path\n\
 000001f8 data-crc ino 2 version 3 bytes 0 to 3 hides /a\n\
 000001f8 data-crc ino 2 version 3 bytes 0 to 3 hides /d/b\\x20c\n\
 missing /d/gone ino 9\n\
 missing pino 7 name x\\x20y ino 8\n\
-total damaged 2 paths 2 missing 2\n";
+total damaged 2 paths 2 missing 2 gaps 0\n";
 
 const NAMES: &str = "0000012c name-crc pino 3 version 1 ino 2 lost in /d\n\
 000001cc name-crc pino 7 version 11 ino 8 lost\n\
 missing /d/gone ino 9\n\
-total damaged 2 paths 0 missing 1\n";
+total damaged 2 paths 0 missing 1 gaps 0\n";
 
 const DIRECTORY_GONE: &str = "000000bc node-crc unknown\n\
 missing /d ino 3\n\
 missing pino 3 name gone ino 9\n\
 missing pino 7 name x\\x20y ino 8\n\
-total damaged 1 paths 0 missing 3\n";
+total damaged 1 paths 0 missing 3 gaps 0\n";
 
 const NONE: &str = "missing /d/gone ino 9\n\
 missing pino 7 name x\\x20y ino 8\n\
-total damaged 0 paths 0 missing 2\n";
+total damaged 0 paths 0 missing 2 gaps 0\n";
 
 const ROWS: [Row; 6] = [
-    (&[], NONE, (0, 0, 2)),
-    (&[68], OLDER, (1, 0, 2)),
-    (&[140, 644], TWO_PATHS, (2, 3, 2)),
-    (&[456, 572], NO_PATH, (2, 2, 2)),
-    (&[340, 500], NAMES, (2, 0, 1)),
-    (&[208], DIRECTORY_GONE, (1, 0, 3)),
+    (&[], NONE, (0, 0, 2, 0)),
+    (&[68], OLDER, (1, 0, 2, 0)),
+    (&[140, 644], TWO_PATHS, (2, 3, 2, 1)),
+    (&[456, 572], NO_PATH, (2, 2, 2, 0)),
+    (&[340, 500], NAMES, (2, 0, 1, 0)),
+    (&[208], DIRECTORY_GONE, (1, 0, 3, 0)),
 ];
 
 pub(crate) fn rows() -> &'static [Row] {
@@ -203,12 +206,12 @@ fn altered(alloc: Global, place: usize, value: u32) -> Result<Vec<u8>, &'static 
 const RANGE: &str = "00000184 range unknown\n\
 missing /d/gone ino 9\n\
 missing pino 7 name x\\x20y ino 8\n\
-total damaged 1 paths 0 missing 2\n";
+total damaged 1 paths 0 missing 2 gaps 0\n";
 
 const LENGTH: &str = "00000184 length unknown\n\
 missing /d/gone ino 9\n\
 missing pino 7 name x\\x20y ino 8\n\
-total damaged 1 paths 0 missing 2\n";
+total damaged 1 paths 0 missing 2 gaps 0\n";
 
 /// A node of the object 0, and one that has another length than it says: node_crc is right.
 #[test]
@@ -218,7 +221,7 @@ fn other_damage(rt: HostRuntime) -> Result<(), Fail> {
         let mut sink = Taker::new(rt.alloc());
         let found = put(rt.alloc(), &image, &mut sink)?;
         equal(&rt, sink.bytes.as_slice(), text.as_bytes());
-        equal(&rt, found, Some(totals((1, 0, 2))));
+        equal(&rt, found, Some(totals((1, 0, 2, 0))));
     }
     Ok(())
 }
@@ -248,22 +251,22 @@ const RING: [Node; 7] = [
 ];
 
 const OLDER_IN_RING: &str = "0000010c data-crc ino 4 version 1 bytes 0 to 1 hides nothing\n\
-total damaged 1 paths 0 missing 0\n";
+total damaged 1 paths 0 missing 0 gaps 0\n";
 
 const NEWER_IN_RING: &str = "00000154 data-crc ino 4 version 2 bytes 0 to 1 has no path\n\
-total damaged 1 paths 0 missing 0\n";
+total damaged 1 paths 0 missing 0 gaps 0\n";
 
 const BOTH_IN_RING: &str = "0000010c data-crc ino 4 version 1 bytes 0 to 1 has no path\n\
 00000154 data-crc ino 4 version 2 bytes 0 to 1 has no path\n\
 missing pino 2 name file ino 4\n\
-total damaged 2 paths 0 missing 1\n";
+total damaged 2 paths 0 missing 1 gaps 0\n";
 
 #[test]
 fn directories_in_one_another(rt: HostRuntime) -> Result<(), Fail> {
     let rows: [Row; 3] = [
-        (&[336], OLDER_IN_RING, (1, 0, 0)),
-        (&[408], NEWER_IN_RING, (1, 0, 0)),
-        (&[336, 408], BOTH_IN_RING, (2, 0, 1)),
+        (&[336], OLDER_IN_RING, (1, 0, 0, 0)),
+        (&[408], NEWER_IN_RING, (1, 0, 0, 0)),
+        (&[336, 408], BOTH_IN_RING, (2, 0, 1, 0)),
     ];
     for (places, text, wanted) in rows {
         let image = flipped_of(rt.alloc(), &RING, places)?;
@@ -290,15 +293,15 @@ const MANY_LOST: &str = "00000074 data-crc ino 2 version 2 bytes 2 to 6 hides no
 00000104 data-crc ino 2 version 5 bytes 2 to 6 hides /a\n\
 0000014c data-crc ino 2 version 7 bytes 0 to 4 hides /a\n\
 00000194 data-crc ino 2 version 3 bytes 0 to 4 hides nothing\n\
-total damaged 4 paths 2 missing 0\n";
+total damaged 4 paths 2 missing 0 gaps 0\n";
 
-const NOTHING_LOST: &str = "total damaged 0 paths 0 missing 0\n";
+const NOTHING_LOST: &str = "total damaged 0 paths 0 missing 0 gaps 0\n";
 
 #[test]
 fn many_of_one_file(rt: HostRuntime) -> Result<(), Fail> {
     let rows: [Row; 2] = [
-        (&[184, 328, 400, 472], MANY_LOST, (4, 2, 0)),
-        (&[], NOTHING_LOST, (0, 0, 0)),
+        (&[184, 328, 400, 472], MANY_LOST, (4, 2, 0, 0)),
+        (&[], NOTHING_LOST, (0, 0, 0, 0)),
     ];
     for (places, text, wanted) in rows {
         let image = flipped_of(rt.alloc(), &MANY, places)?;

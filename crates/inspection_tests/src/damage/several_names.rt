@@ -12,7 +12,7 @@ pub(crate) type Case = (
     &'static [Node],
     &'static [usize],
     &'static str,
-    (usize, u64, usize),
+    (usize, u64, usize, usize),
 );
 
 /// A directory with the names `x`, in the directory `d`, and `a`, in `q`. There is a file in it.
@@ -31,24 +31,24 @@ const TWICE: [Node; 11] = [
 ];
 
 const BY_FIRST: &str = "000001f0 data-crc ino 4 version 2 bytes 0 to 1 hides /d/x/f\n\
-total damaged 1 paths 1 missing 0\n";
+total damaged 1 paths 1 missing 0 gaps 0\n";
 
 const BY_SECOND: &str = "00000044 name-crc pino 1 version 2 ino 2 lost in /\n\
 000001f0 data-crc ino 4 version 2 bytes 0 to 1 hides /q/a/f\n\
-total damaged 2 paths 1 missing 0\n";
+total damaged 2 paths 1 missing 0 gaps 0\n";
 
 const BY_NEITHER: &str = "00000044 name-crc pino 1 version 2 ino 2 lost in /\n\
 000001c4 name-crc pino 6 version 1 ino 3 lost in /q\n\
 000001f0 data-crc ino 4 version 2 bytes 0 to 1 has no path\n\
-total damaged 3 paths 0 missing 0\n";
+total damaged 3 paths 0 missing 0 gaps 0\n";
 
 const BOTH_NAMES: &str = "00000238 data-crc ino 3 version 2 bytes 0 to 1 hides /d/x\n\
 00000238 data-crc ino 3 version 2 bytes 0 to 1 hides /q/a\n\
-total damaged 1 paths 2 missing 0\n";
+total damaged 1 paths 2 missing 0 gaps 0\n";
 
 const ONE_NAME: &str = "00000044 name-crc pino 1 version 2 ino 2 lost in /\n\
 00000238 data-crc ino 3 version 2 bytes 0 to 1 hides /q/a\n\
-total damaged 2 paths 1 missing 0\n";
+total damaged 2 paths 1 missing 0 gaps 0\n";
 
 /// The same, but `z` in the place of `d`, so that `q` comes before it, and the number of `q` is the
 /// greater one.
@@ -64,11 +64,11 @@ const LATER: [Node; 8] = [
 ];
 
 const BY_ENTERED: &str = "missing /q/a/gone ino 4\n\
-total damaged 0 paths 0 missing 1\n";
+total damaged 0 paths 0 missing 1 gaps 0\n";
 
 const BY_FIRST_LEFT: &str = "0000017c name-crc pino 6 version 1 ino 3 lost in /q\n\
 missing /z/x/gone ino 4\n\
-total damaged 1 paths 0 missing 1\n";
+total damaged 1 paths 0 missing 1 gaps 0\n";
 
 /// The name of the lower directory number lies in a regular file.
 const UNDER_FILE: [Node; 9] = [
@@ -85,7 +85,7 @@ const UNDER_FILE: [Node; 9] = [
 
 const BESIDE_FILE: &str = "000001a8 data-crc ino 4 version 2 bytes 0 to 1 hides /q/a/f\n\
 missing /q/a/f ino 4\n\
-total damaged 1 paths 1 missing 1\n";
+total damaged 1 paths 1 missing 1 gaps 0\n";
 
 /// Two directories that lie in one another, one of which has a name in `q` too.
 const RING: [Node; 9] = [
@@ -102,12 +102,12 @@ const RING: [Node; 9] = [
 
 const INTO_RING: &str = "000001a8 data-crc ino 4 version 2 bytes 0 to 1 hides /q/in/down/f\n\
 missing /q/in/down/f ino 4\n\
-total damaged 1 paths 1 missing 1\n";
+total damaged 1 paths 1 missing 1 gaps 0\n";
 
 const NOT_INTO_RING: &str = "00000150 name-crc pino 6 version 1 ino 2 lost in /q\n\
 000001a8 data-crc ino 4 version 2 bytes 0 to 1 has no path\n\
 missing pino 3 name f ino 4\n\
-total damaged 2 paths 0 missing 1\n";
+total damaged 2 paths 0 missing 1 gaps 0\n";
 
 /// A name of the root, in a directory of two names in the root.
 const ROOT_AGAIN: [Node; 6] = [
@@ -122,20 +122,20 @@ const ROOT_AGAIN: [Node; 6] = [
 const ROOT_TWICE: &str = "000000f4 data-crc ino 1 version 5 bytes 0 to 1 hides /\n\
 000000f4 data-crc ino 1 version 5 bytes 0 to 1 hides /a/top\n\
 missing /a/gone ino 5\n\
-total damaged 1 paths 2 missing 1\n";
+total damaged 1 paths 2 missing 1 gaps 0\n";
 
 const CASES: [Case; 11] = [
-    (&TWICE, &[564], BY_FIRST, (1, 1, 0)),
-    (&TWICE, &[108, 564], BY_SECOND, (2, 1, 0)),
-    (&TWICE, &[108, 492, 564], BY_NEITHER, (3, 0, 0)),
-    (&TWICE, &[636], BOTH_NAMES, (1, 2, 0)),
-    (&TWICE, &[108, 636], ONE_NAME, (2, 1, 0)),
-    (&LATER, &[], BY_ENTERED, (0, 0, 1)),
-    (&LATER, &[420], BY_FIRST_LEFT, (1, 0, 1)),
-    (&UNDER_FILE, &[492], BESIDE_FILE, (1, 1, 1)),
-    (&RING, &[492], INTO_RING, (1, 1, 1)),
-    (&RING, &[376, 492], NOT_INTO_RING, (2, 0, 1)),
-    (&ROOT_AGAIN, &[312], ROOT_TWICE, (1, 2, 1)),
+    (&TWICE, &[564], BY_FIRST, (1, 1, 0, 0)),
+    (&TWICE, &[108, 564], BY_SECOND, (2, 1, 0, 0)),
+    (&TWICE, &[108, 492, 564], BY_NEITHER, (3, 0, 0, 0)),
+    (&TWICE, &[636], BOTH_NAMES, (1, 2, 0, 0)),
+    (&TWICE, &[108, 636], ONE_NAME, (2, 1, 0, 0)),
+    (&LATER, &[], BY_ENTERED, (0, 0, 1, 0)),
+    (&LATER, &[420], BY_FIRST_LEFT, (1, 0, 1, 0)),
+    (&UNDER_FILE, &[492], BESIDE_FILE, (1, 1, 1, 0)),
+    (&RING, &[492], INTO_RING, (1, 1, 1, 0)),
+    (&RING, &[376, 492], NOT_INTO_RING, (2, 0, 1, 0)),
+    (&ROOT_AGAIN, &[312], ROOT_TWICE, (1, 2, 1, 0)),
 ];
 
 pub(crate) fn cases() -> &'static [Case] {

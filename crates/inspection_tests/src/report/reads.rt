@@ -309,7 +309,8 @@ fn judged() -> &'static [Judged] {
     &[
         (&[], None, None),
         (&[COMPRESSED], None, None),
-        (&[DAMAGED_INODE_2], None, Some(1)),
+        (&[COMPRESSED, &ATTRIBUTE, &ATTRIBUTE], None, Some(2)),
+        (&[DAMAGED_INODE_2, &ATTRIBUTE, &ATTRIBUTE], None, Some(1)),
         (&[OTHER_ORDER], Some(0), Some(1)),
     ]
 }

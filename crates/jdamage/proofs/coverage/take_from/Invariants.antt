@@ -1,6 +1,6 @@
 use Rattle.std.proofs.Common.{List, length}
 use Rattle.jdamage.specs.Sweep.{Ascends, Numbers, Taken}
-use Rattle.jdamage.specs.declared.fields.Stretch.{Stretch}
+use Rattle.jgaps.specs.declared.fields.Stretch.{Stretch}
 use Rattle.jdamage.proofs.coverage.take_from.Given as goal
 
 abbrev pub invariant-loop-stretch : goal.invariant-loop-stretch

@@ -12,16 +12,14 @@ put_missing_name-requires g c =
     let d : HeldName = (0, record { ref_ptr = (0, 0); now = [] }, 0) in
     omega (arith, held_fits c.args.ways.now.up.mounted.now.state _ c.args.missing.now c.loop-name.name-index d c.loop-name-test.true c.requires, c.loop-name.invariant.capacity)
 
-pub returns-in_err-put_missing_name : goal.returns-in_err-put_missing_name
-returns-in_err-put_missing_name g c =
+pub returns-in_err-put_missing_name-clause-puts : goal.returns-in_err-put_missing_name-clause-puts
+returns-in_err-put_missing_name-clause-puts g c =
     let put = c.in_err-put_missing_name.ensures.puts in
     let before = c.loop-name.invariant in
     let d : HeldName = (0, record { ref_ptr = (0, 0); now = [] }, 0) in
     let name = get_or c.args.missing.now c.loop-name.name-index d in
-    record {
-      puts = item_failed (λ n. missing_text c.args.ways.now.up.mounted.now.state (name_held n)) c.args.missing.now c.loop-name.name-index d name _ (g.T.Sink.taken c.loop-name.sink) _ _ _ _ _
-          c.from_residual.ensures.0 c.loop-name-test.true refl before.put before.failed put.0 put.1;
-    }
+    item_failed (λ n. missing_text c.args.ways.now.up.mounted.now.state (name_held n)) c.args.missing.now c.loop-name.name-index d name _ (g.T.Sink.taken c.loop-name.sink) _ _ _ _ _
+    c.from_residual.ensures.0 c.loop-name-test.true refl before.put before.failed put.0 put.1
 
 pub loop-name-preserved : goal.loop-name-preserved
 loop-name-preserved g c =

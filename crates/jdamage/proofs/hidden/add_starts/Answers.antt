@@ -3,7 +3,7 @@ use Rattle.std.specs.BTreeSet.{contains}
 use Rattle.std.specs.Ordering.{nat_cmp}
 use Rattle.jdamage.specs.Hidden.{spot_at}
 use Rattle.jdamage.specs.Sweep.{spot}
-use Rattle.jdamage.specs.declared.fields.Stretch.{Stretch}
+use Rattle.jgaps.specs.declared.fields.Stretch.{Stretch}
 use Rattle.jdamage.proofs.DamageLemmas.{each_more}
 use Rattle.jdamage.proofs.NowhereLemmas.{gains_it, gains_more}
 use Rattle.jdamage.proofs.hidden.add_starts.Goals as goal

@@ -2,7 +2,7 @@ use Rattle.std.proofs.Common.{◌≡◌, ℕ, true, subst}
 use Rattle.std.specs.BTreeSet.{contains}
 use Rattle.std.specs.Ordering.{nat_cmp}
 use Rattle.jdamage.specs.Sweep.{spot}
-use Rattle.jdamage.specs.declared.fields.Stretch.{Stretch}
+use Rattle.jgaps.specs.declared.fields.Stretch.{Stretch}
 use Rattle.jdamage.proofs.DamageLemmas.{each_more}
 use Rattle.jdamage.proofs.NowhereLemmas.{gains_it, gains_more}
 use Rattle.jdamage.proofs.hidden.ends_of.Goals as goal

@@ -2,7 +2,7 @@ use Rattle.std.proofs.Common.{◌≡◌, ℕ, ◌<◌, true, get_or}
 use Rattle.std.specs.BTreeSet.{contains}
 use Rattle.std.specs.Ordering.{nat_cmp}
 use Rattle.jdamage.specs.Sweep.{spot}
-use Rattle.jdamage.specs.declared.fields.Stretch.{Stretch}
+use Rattle.jgaps.specs.declared.fields.Stretch.{Stretch}
 use Rattle.jdamage.proofs.hidden.ends_of.Given as goal
 
 abbrev pub invariant-loop-stretch : goal.invariant-loop-stretch

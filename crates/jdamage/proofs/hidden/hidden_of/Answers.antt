@@ -2,7 +2,7 @@ use Rattle.std.proofs.Common.{◌≡◌, ℕ, List, rules, ap, ◌∙◌}
 use Rattle.std.specs.Prelude.{filter_map}
 use Rattle.std.proofs.lemmas.List.Sorted.{IsNonDecreasingBy-from_sort_by_key}
 use Rattle.jdamage.specs.Hidden.{AreHidden, lost_if}
-use Rattle.jdamage.specs.declared.fields.Stretch.{Stretch}
+use Rattle.jgaps.specs.declared.fields.Stretch.{Stretch}
 use Rattle.jdamage.proofs.HiddenLemmas.{all_hidden, ends_kept, if_both, starts_of, versions_sorted}
 use Rattle.jdamage.proofs.hidden.hidden_of.Goals as goal
 

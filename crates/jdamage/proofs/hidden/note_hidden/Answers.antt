@@ -1,6 +1,6 @@
 use Rattle.std.proofs.Common.{◌≡◌, ℕ, List, sym, ap, ◌∙◌}
 use Rattle.jdamage.specs.Damage.{changes_nothing}
-use Rattle.jdamage.specs.Fields.{stretch_at}
+use Rattle.jgaps.specs.Fields.{stretch_at}
 use Rattle.jdamage.proofs.HiddenLemmas.{judged, noted_yes, noted_no}
 use Rattle.jdamage.proofs.hidden.note_hidden.Goals as goal
 

@@ -1,7 +1,7 @@
 use Rattle.std.proofs.Common.{ℕ}
 use Rattle.jnode.specs.declared.node.Seen.{Seen}
 use Rattle.jdamage.specs.Fields.{damaged_if}
-use Rattle.jdamage.proofs.NodeLemmas.{one_more, none_left}
+use Rattle.jgaps.proofs.NodeLemmas.{one_more, none_left}
 use Rattle.jdamage.proofs.nodes.damaged_nodes.Goals as goal
 
 pub loop-addr-preserved : goal.loop-addr-preserved

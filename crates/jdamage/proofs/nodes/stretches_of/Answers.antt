@@ -1,10 +1,10 @@
 use Rattle.std.proofs.Common.{rules, ◌≡◌, ◌++◌, List, Option, subst, sym}
 use Rattle.std.specs.Prelude.{filter, filter_map, option_to_list}
 use Rattle.jscan.specs.SightingsLeft.{sightings_left}
-use Rattle.jdamage.specs.Fields.{stretch_sighted, stretches}
+use Rattle.jgaps.specs.Fields.{stretch_sighted, stretches}
 use Rattle.jdamage.specs.Ranges.{Sifted}
 use Rattle.jdamage.specs.Telling.{is_kept}
-use Rattle.jdamage.specs.declared.fields.Stretch.{Stretch}
+use Rattle.jgaps.specs.declared.fields.Stretch.{Stretch}
 use Rattle.jdamage.proofs.RangeLemmas.{sifted_end, sifted_next, sifted_start}
 use Rattle.jdamage.proofs.nodes.stretches_of.Goals as goal
 

@@ -1,7 +1,7 @@
 use Rattle.std.proofs.Common.{ℕ, List}
 use Rattle.std.specs.Prelude.{filter, filter_map}
 use Rattle.jscan.specs.SightingsLeft.{sightings_left}
-use Rattle.jdamage.specs.Fields.{stretch_sighted, stretches}
+use Rattle.jgaps.specs.Fields.{stretch_sighted, stretches}
 use Rattle.jdamage.specs.Ranges.{FindsAll, Sifted}
 use Rattle.jdamage.specs.Telling.{is_kept}
 use Rattle.jdamage.proofs.nodes.stretches_of.Given as goal

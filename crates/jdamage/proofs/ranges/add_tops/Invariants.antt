@@ -1,6 +1,6 @@
 use Rattle.std.proofs.Common.{ℕ, List, [], length}
 use Rattle.jdamage.specs.Ranges.{Sifted}
-use Rattle.jdamage.specs.declared.fields.Stretch.{Stretch}
+use Rattle.jgaps.specs.declared.fields.Stretch.{Stretch}
 use Rattle.jdamage.proofs.ranges.add_tops.Given as goal
 
 abbrev pub invariant-loop-top : goal.invariant-loop-top

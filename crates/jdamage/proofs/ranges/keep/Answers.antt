@@ -1,6 +1,6 @@
 use Rattle.std.proofs.Common.{sym, ap, subst, ◌∙◌, Vec, Global}
 use Rattle.jdamage.specs.Ranges.{Sifted}
-use Rattle.jdamage.specs.declared.fields.Stretch.{Stretch}
+use Rattle.jgaps.specs.declared.fields.Stretch.{Stretch}
 use Rattle.jdamage.proofs.RangeLemmas.{on_both, sifted_passed, sifted_pushed}
 use Rattle.jdamage.proofs.ranges.keep.Goals.{then-touches+in_ok-push, else-touches}
 use Rattle.jdamage.proofs.ranges.keep.Goals as goal

@@ -18,7 +18,7 @@ returns-in_err-put_name-clause-puts g c =
     let before = c.loop-name.invariant in
     let d : HeldName = (0, record { ref_ptr = (0, 0); now = [] }, 0) in
     let name = get_or c.args.names.now c.loop-name.name-index d in
-    item_failed (named_text c.args.ways.now.up.mounted.now.state c.args.addr c.args.lost.now) c.args.names.now c.loop-name.name-index d name _ (g.T.Sink.taken c.loop-name.sink) _ _ _ _ _
+    item_failed (named_text c.args.ways.now.up.mounted.now.state c.args.start.now) c.args.names.now c.loop-name.name-index d name _ (g.T.Sink.taken c.loop-name.sink) _ _ _ _ _
     c.from_residual.ensures.0 c.loop-name-test.true refl before.put before.failed put.0 put.1
 
 pub loop-name-preserved : goal.loop-name-preserved
@@ -29,7 +29,7 @@ loop-name-preserved g c =
     let i = c.loop-name.name-index in
     let d : HeldName = (0, record { ref_ptr = (0, 0); now = [] }, 0) in
     let name = get_or c.args.names.now i d in
-    let text = named_text s c.args.addr c.args.lost.now in
+    let text = named_text s c.args.start.now in
     record {
       put = subst (Appends (g.T.Sink.taken c.args.sink.now) (g.T.Sink.taken c.put_name.new.sink)) (flat_map-next text c.args.names.now i d name c.loop-name-test.true refl)
           (Appends-trans _ (g.T.Sink.taken c.loop-name.sink) _ _ _ before.put put.0);

@@ -1,7 +1,7 @@
 use Rattle.std.proofs.Common.{ap, sym, ◌∙◌, length, take, List, ℕ}
-use Rattle.jdamage.proofs.NodeLemmas.{front_is_long, front_is}
-use Rattle.jdamage.specs.Fields.{node_front}
-use Rattle.jdamage.proofs.fields.node_front.Goals as goal
+use Rattle.jgaps.proofs.NodeLemmas.{front_is_long, front_is}
+use Rattle.jgaps.specs.Fields.{node_front}
+use Rattle.jgaps.proofs.fields.node_front.Goals as goal
 
 pub copy_to-requires : goal.copy_to-requires
 copy_to-requires c =

@@ -1,0 +1,5 @@
+pub mod GapLemmas
+pub mod SweptLemmas
+pub mod MaximalLemmas
+pub mod SortedLemmas
+pub mod NodeLemmas

@@ -1,0 +1,4 @@
+pub mod Fields
+pub mod Gaps
+pub mod Sweeping
+pub mod Laws
