@@ -1,22 +1,24 @@
 -- What a command with `--auto` does, by what it does with the options that are found.
-use Rattle.std.proofs.Common.{◌≡◌, ℕ, Bool, List, [], ◌∷◌, ◌++◌, Option, None, Some, Ok, Err, refl, sym, ap, subst, ◌∙◌, inl, inr, append_assoc}
+use Rattle.std.proofs.Common.{◌≡◌, ℕ, Bool, List, [], ◌∷◌, ◌++◌, Option, None, Some, Ok, Err, sym, ap, subst, inl, inr}
 use Rattle.std.specs.Prelude.{◌⊎◌, Result, option_map}
 use Rattle.jinfo.specs.Containers.{container_line, container_of}
 use Rattle.jinfo.specs.Infos.{info_of}
+use Rattle.jspare.specs.declared.layout.PageLayout.{PageLayout}
 use Rattle.jcommand.specs.declared.outcome.Outcome.{Outcome}
 use Rattle.jcommand.specs.declared.parsed.Options.{Options}
-use Rattle.jedge.specs.Acts.{Act, DoesFrom, Then, Ends, GoesOn, loads, says}
+use Rattle.jedge.specs.Acts.{Act, DoesFrom, Ends, GoesOn, loads}
 use Rattle.jedge.specs.Calls.{Event, Did, Read}
 use Rattle.jedge.specs.Commands.{ends, reported}
-use Rattle.jedge.specs.Laws.{Happened, LooksOnly, MakesNothing}
+use Rattle.jedge.specs.Laws.{Happened, MakesNothing}
 use Rattle.jedge.specs.Told.{Told}
 use Rattle.jedge.specs.declared.fault.Fault.{Fault}
-use Rattle.jedge.proofs.LookingLemmas.{answers_looks, both, loads_looks, said_looks, same, then_looks}
-use Rattle.jedge.proofs.Steps.{History, does_at, joined, then_err, then_reported}
-use Rattle.jauto.specs.AutoLaws.{DoesFound, EndsUnfound, FoundAreTold, LookingMakesNothing}
+use Rattle.jedge.proofs.LookingLemmas.{answers_looks, loads_looks, said_looks, spare_looks, step_looks, then_looks}
+use Rattle.jedge.proofs.Steps.{History, does_at, step_reported, then_err, then_reported}
+use Rattle.jauto.specs.AutoLaws.{DoesFound, EndsUnfound, FoundAreTold, LeavingMakesNothing, LookingMakesNothing}
+use Rattle.jauto.specs.Leaving.{leaves_shown}
 use Rattle.jauto.specs.Looking.{auto_act, options_act, takes_options}
 use Rattle.jauto.specs.Taking.{taking_of}
-use Rattle.jauto.specs.TakingText.{taken_line, unclear_line}
+use Rattle.jauto.specs.TakingText.{left_line, taken_line, unclear_line}
 use Rattle.jauto.specs.declared.taking.Taking.{Taking}
 use Rattle.jauto.specs.declared.taking.Taking.TheVariants as taking
 
@@ -29,6 +31,14 @@ takes_looks image (taking.Taken options) = then_looks _ _ (λ events r said. sai
 
 pub looking_makes_nothing : LookingMakesNothing
 looking_makes_nothing writes name = then_looks (loads name) _ (loads_looks name) (λ (image : List ℕ). takes_looks image (taking_of writes (info_of image)))
+
+leaves_looks : (name : List ℕ) (spare : Option PageLayout) → MakesNothing (leaves_shown name spare)
+leaves_looks name None = answers_looks _
+leaves_looks name (Some layout) = then_looks _ _ (λ events r said. said_looks (Some (left_line layout)) events said) (λ _. spare_looks layout (name ∷ []))
+
+pub leaving_makes_nothing : LeavingMakesNothing
+leaving_makes_nothing name = then_looks (loads name) _ (loads_looks name) (λ (dump : List ℕ).
+    then_looks _ _ (answers_looks _) (λ (spare : Option PageLayout). leaves_looks name spare))
 
 -- ---- what is found
 
@@ -86,19 +96,8 @@ auto_does_as_given writes name act events result (GoesOn options before after di
 pub found_reported : {old mid new : History} (writes : Bool) {asked : Bool} {name : List ℕ} (act : Options → Act Told) {options : Options} {r : Result Outcome Fault}
     → asked ≡ writes → DoesFrom old mid (options_act asked name) (Ok options)
     → DoesFrom mid new (reported (act options)) r → DoesFrom old new (reported (auto_act writes name act)) r
-found_reported {old} writes {asked} {name} act {options} is found done =
-    let looked = does_at (λ (w : Bool). options_act w name) is found in record {
-      events = looked.events ++ done.events;
-      acts = record {
-        answer = done.acts.answer;
-        work = looked.events ++ done.acts.work;
-        last = done.acts.last;
-        worked = GoesOn options looked.events done.acts.work looked.acts done.acts.worked refl;
-        ended = done.acts.ended;
-        all = ap (λ (l : List Event). looked.events ++ l) done.acts.all ∙ sym (append_assoc looked.events done.acts.work done.acts.last);
-      };
-      told = done.told ∙ ap (option_map (λ told. told ++ done.events)) looked.told ∙ joined old looked.events done.events;
-    }
+found_reported writes {asked} {name} act is found done =
+    step_reported (does_at (λ (w : Bool). options_act w name) is found) done
 
 -- none were found, and the fault was told
 pub unfound_reported : {old mid new : History} (writes : Bool) {asked : Bool} {name : List ℕ} (act : Options → Act Told) {f : Fault} {r : Result Outcome Fault}
@@ -107,23 +106,6 @@ pub unfound_reported : {old mid new : History} (writes : Bool) {asked : Bool} {n
 unfound_reported writes {asked} {name} act is found told =
     then_reported (then_err (does_at (λ (w : Bool). options_act w name) is found)) told
 
-auto_looks_by : (writes : Bool) (name : List ℕ) (act : Options → Act Told) → ((options : Options) → MakesNothing (reported (act options)))
-    → (events : List Event) (r : Result Outcome Fault) (work : List Event) (answer : Result Told Fault) → auto_act writes name act work answer
-    → (last : List Event) → ends answer last r → events ≡ work ++ last → LooksOnly events
-auto_looks_by writes name act looks events r work answer (Ends f did is) last ended all =
-    same all (both work last (looking_makes_nothing writes name work (Err f) did) (said_looks ended.text last ended.said))
-auto_looks_by writes name act looks events r work answer (GoesOn options before after did more is) last ended all =
-    same (all ∙ ap (λ (l : List Event). l ++ last) is ∙ append_assoc before after last)
-    (both before (after ++ last) (looking_makes_nothing writes name before (Ok options) did)
-    (looks options (after ++ last) r (record {
-      answer = answer;
-      work = after;
-      last = last;
-      worked = more;
-      ended = ended;
-      all = refl;
-    })))
-
 -- the command makes nothing where it makes nothing with each options
 pub auto_looks : (writes : Bool) (name : List ℕ) (act : Options → Act Told) → ((options : Options) → MakesNothing (reported (act options))) → MakesNothing (reported (auto_act writes name act))
-auto_looks writes name act looks events r did = auto_looks_by writes name act looks events r did.work did.answer did.worked did.last did.ended did.all
+auto_looks writes name act looks = step_looks (options_act writes name) act (looking_makes_nothing writes name) looks

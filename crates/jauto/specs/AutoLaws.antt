@@ -7,6 +7,7 @@ use Rattle.jedge.specs.Calls.{Event, Did, Read}
 use Rattle.jedge.specs.Laws.{Happened, LooksOnly, MakesNothing}
 use Rattle.jedge.specs.Told.{Told}
 use Rattle.jedge.specs.declared.fault.Fault.{Fault}
+use Rattle.jauto.specs.Leaving.{leaving_act}
 use Rattle.jauto.specs.Looking.{options_act}
 use Rattle.jauto.specs.Taking.{taking_of}
 use Rattle.jauto.specs.declared.taking.Taking.TheVariants as taking
@@ -14,6 +15,10 @@ use Rattle.jauto.specs.declared.taking.Taking.TheVariants as taking
 -- options are found without that anything is made, or a file changed
 abbrev pub LookingMakesNothing : Type 0
 LookingMakesNothing = (writes : Bool) (name : List ℕ) → MakesNothing (options_act writes name)
+
+-- so are spare bytes
+abbrev pub LeavingMakesNothing : Type 0
+LeavingMakesNothing = (name : List ℕ) → MakesNothing (leaving_act name)
 
 -- the options are those that the bytes tell which were read
 abbrev pub FoundAreTold : Type 0

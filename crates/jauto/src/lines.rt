@@ -1,12 +1,13 @@
 //! The lines on what is taken of an image.
 ghost use Rattle.std.specs.Prelude.{◌≡◌, ◌≤◌, [], length};
 ghost use Rattle.jinfo.specs.InfoText.{order_name};
-ghost use Rattle.jauto.specs.TakingText.{taken_line, unclear_line};
+ghost use Rattle.jauto.specs.TakingText.{left_line, taken_line, unclear_line};
 
 use jcommand::Options;
 use jinfo::SizeRange;
 use jline::LineBuffer;
 use jnode::Endian;
+use jspare::PageLayout;
 
 fn order_name(order: Endian) -> &'static [u8]
     ensures name { result.now ≡ order_name order }
@@ -28,6 +29,19 @@ pub(crate) fn write_taken(line: &mut LineBuffer, options: Options)
     line.push_text(order_name(options.endian));
     line.push_text(b"-endian, blocks of ");
     line.push_decimal(u64::from(options.geometry.block));
+    line.push_text(b"\n");
+}
+
+/// Writes which spare bytes are left out.
+#[tactic(auto, unfolding(crate::specs::TakingText::left_line))]
+pub(crate) fn write_left(line: &mut LineBuffer, layout: PageLayout)
+    ensures { line.new ≡ left_line layout }
+{
+    line.clear();
+    line.push_text(b"jffs2_image: note: left out: ");
+    line.push_decimal(u64::from(layout.spare));
+    line.push_text(b" spare bytes after each ");
+    line.push_decimal(u64::from(layout.page));
     line.push_text(b"\n");
 }
 

@@ -21,7 +21,7 @@ use jnode::Endian;
 use jreport::ProgramFault;
 
 /// Says a line on standard error.
-fn say_line<H: Host>(host: &mut H, line: &[u8])
+pub(crate) fn say_line<H: Host>(host: &mut H, line: &[u8])
     ensures { DoesFrom (H.history host.old) (H.history host.new) (says (Some line.now))
         (Ok result) }
 {

@@ -55,9 +55,13 @@ plain_command name = with_rule
     (lettered_flag (codes "little-endian") 108))
     (lettered_flag (codes "big-endian") 98)
 
--- a subcommand that finds these options in the image that it reads, where `--auto` or `-a` is given
+-- a subcommand that reads the pages of an image alone, where their spare bytes are given
+abbrev pub sparing : App → App
+sparing app = with_rule app (option_of (codes "oob"))
+
+-- the same, which finds these options in the image, where `--auto` or `-a` is given
 abbrev pub automatic : App → App
-automatic app = with_rule app (lettered_flag (codes "auto") 97)
+automatic app = sparing (with_rule app (lettered_flag (codes "auto") 97))
 
 abbrev pub reader : Text → App
 reader name = automatic (plain_command name)
@@ -66,19 +70,19 @@ reader name = automatic (plain_command name)
 abbrev pub decompressing : App → App
 decompressing app = with_rule app (flag (codes "decompress"))
 
--- `check [--scan] [--shape] [--decompress] [--auto] [--block N] [--endian ORDER] IMAGE`
+-- `check [--scan] [--shape] [--decompress] [--auto] [--oob P+S] [--block N] [--endian ORDER] IMAGE`
 abbrev pub check_app : App
 check_app = with_rule
     (decompressing (with_rule (with_rule (reader (codes "check")) (flag (codes "scan")))
     (flag (codes "shape"))))
     (word (codes "IMAGE"))
 
--- `ls [--decompress] [--auto] [--block N] [--endian ORDER] IMAGE [PATH]`
+-- `ls [--decompress] [--auto] [--oob P+S] [--block N] [--endian ORDER] IMAGE [PATH]`
 abbrev pub ls_app : App
 ls_app = with_rule (with_rule (decompressing (reader (codes "ls"))) (word (codes "IMAGE")))
     (optional_word (codes "PATH"))
 
--- `cat [--decompress] [--auto] [--block N] [--endian ORDER] IMAGE PATH`
+-- `cat [--decompress] [--auto] [--oob P+S] [--block N] [--endian ORDER] IMAGE PATH`
 abbrev pub cat_app : App
 cat_app = with_rule (with_rule (decompressing (reader (codes "cat"))) (word (codes "IMAGE")))
     (word (codes "PATH"))
@@ -115,8 +119,8 @@ abbrev pub build_app : App
 build_app =
     writing (with_rule (placing (compressing (noting (codes "build")))) (word (codes "LISTING")))
 
--- `append --blocks N [--page N] [--weak] [--pad] [--atomic] [--decompress] [--auto] [--block N]
--- [--endian ORDER] IMAGE LISTING OUT`
+-- `append --blocks N [--page N] [--weak] [--pad] [--atomic] [--decompress] [--auto] [--oob P+S]
+-- [--block N] [--endian ORDER] IMAGE LISTING OUT`
 abbrev pub append_app : App
 append_app = writing
     (with_rule
@@ -128,8 +132,8 @@ append_app = writing
 abbrev pub updating : App → App
 updating app = with_rule (with_rule app (flag (codes "plain"))) (flag (codes "tail"))
 
--- `update [--blocks N] [--page N] [--plain] [--tail] [--pad] [--atomic] [--auto] [--block N]
--- [--endian ORDER] IMAGE LISTING OUT`
+-- `update [--blocks N] [--page N] [--plain] [--tail] [--pad] [--atomic] [--auto] [--oob P+S]
+-- [--block N] [--endian ORDER] IMAGE LISTING OUT`
 abbrev pub update_app : App
 update_app = writing
     (with_rule
@@ -145,21 +149,21 @@ update_app = writing
 abbrev pub replacing : App → App
 replacing app = with_rule (atomic app) (flag (codes "force"))
 
--- `decompress [--clashes RULE] [--atomic] [--force] [--auto] [--block N] [--endian ORDER] IMAGE
--- OUT`
+-- `decompress [--clashes RULE] [--atomic] [--force] [--auto] [--oob P+S] [--block N] [--endian
+-- ORDER] IMAGE OUT`
 abbrev pub decompress_app : App
 decompress_app = writing
     (with_rule
     (replacing (with_rule (reader (codes "decompress")) (option_of (codes "clashes"))))
     (word (codes "IMAGE")))
 
--- `compress [--atomic] [--force] [--auto] [--block N] [--endian ORDER] IMAGE OUT`
+-- `compress [--atomic] [--force] [--auto] [--oob P+S] [--block N] [--endian ORDER] IMAGE OUT`
 abbrev pub compress_app : App
 compress_app =
     writing (with_rule (replacing (reader (codes "compress"))) (word (codes "IMAGE")))
 
--- `compact [--blocks N] [--clashes RULE] [--pad] [--atomic] [--force] [--auto] [--block N]
--- [--endian ORDER] IMAGE OUT`
+-- `compact [--blocks N] [--clashes RULE] [--pad] [--atomic] [--force] [--auto] [--oob P+S] [--block
+-- N] [--endian ORDER] IMAGE OUT`
 abbrev pub compact_app : App
 compact_app = writing
     (with_rule
@@ -190,8 +194,8 @@ pack_app = writing
     (flag (codes "weak"))))))
     (word (codes "DIR")))
 
--- `extract [--decompress] [--auto] [--block N] [--endian ORDER] [--owners] [--quiet] IMAGE DIR
--- [PATH]`
+-- `extract [--decompress] [--auto] [--oob P+S] [--block N] [--endian ORDER] [--owners] [--quiet]
+-- IMAGE DIR [PATH]`
 abbrev pub extract_app : App
 extract_app = with_rule
     (with_rule
@@ -207,12 +211,12 @@ listing_app = with_rule
     (with_rule (with_rule (with_rule (new_app (codes "listing")) (option_of_two (codes "owner")))
     (option_of (codes "time"))) (flag (codes "quiet"))) (word (codes "DIR"))
 
--- `info IMAGE`
+-- `info [--oob P+S] IMAGE`
 abbrev pub info_app : App
-info_app = with_rule (new_app (codes "info")) (word (codes "IMAGE"))
+info_app = with_rule (sparing (new_app (codes "info"))) (word (codes "IMAGE"))
 
 -- `cuts [--blocks N] [--page N] [--on IMAGE] [--compress] [--decompress] [--update [--plain]
--- [--tail]] [--auto] [--block N] [--endian ORDER] LISTING`
+-- [--tail]] [--auto] [--oob P+S] [--block N] [--endian ORDER] LISTING`
 abbrev pub cuts_app : App
 cuts_app = with_rule
     (updating
@@ -226,29 +230,29 @@ cuts_app = with_rule
     (flag (codes "update"))))
     (word (codes "LISTING"))
 
--- `diff [--decompress] [--times] [--auto] [--block N] [--endian ORDER] A B`
+-- `diff [--decompress] [--times] [--auto] [--oob P+S] [--block N] [--endian ORDER] A B`
 abbrev pub diff_app : App
 diff_app = with_rule
     (with_rule (with_rule (decompressing (reader (codes "diff"))) (flag (codes "times")))
     (word (codes "A")))
     (word (codes "B"))
 
--- `damage [--decompress] [--auto] [--block N] [--endian ORDER] IMAGE`
+-- `damage [--decompress] [--auto] [--oob P+S] [--block N] [--endian ORDER] IMAGE`
 abbrev pub damage_app : App
 damage_app = with_rule (decompressing (reader (codes "damage"))) (word (codes "IMAGE"))
 
--- `map [--svg] [--auto] [--block N] [--endian ORDER] IMAGE`
+-- `map [--svg] [--auto] [--oob P+S] [--block N] [--endian ORDER] IMAGE`
 abbrev pub map_app : App
 map_app = with_rule (with_rule (reader (codes "map")) (flag (codes "svg")))
     (word (codes "IMAGE"))
 
--- `history [--auto] [--block N] [--endian ORDER] IMAGE [PATH]`
+-- `history [--auto] [--oob P+S] [--block N] [--endian ORDER] IMAGE [PATH]`
 abbrev pub history_app : App
 history_app = with_rule (with_rule (reader (codes "history")) (word (codes "IMAGE")))
     (optional_word (codes "PATH"))
 
--- `verify [--times] [--owner UID GID] [--time T] [--quiet] [--auto] [--block N] [--endian ORDER]
--- IMAGE DIR`
+-- `verify [--times] [--owner UID GID] [--time T] [--quiet] [--auto] [--oob P+S] [--block N]
+-- [--endian ORDER] IMAGE DIR`
 abbrev pub verify_app : App
 verify_app = with_rule
     (with_rule (folder_settings (with_rule (reader (codes "verify")) (flag (codes "times"))))

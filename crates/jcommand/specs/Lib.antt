@@ -1,3 +1,4 @@
+pub mod Layouts
 pub mod Parsed
 pub mod Commands
 pub mod Refused

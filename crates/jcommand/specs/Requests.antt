@@ -1,11 +1,13 @@
--- What a command line asks for: a command, and whether its byte order, its block size and whether
--- it decompresses are found in the image that it reads.
-use Rattle.std.specs.Prelude.{◌≡◌, ◌&&◌, ◌||◌, Bool, true, false, List, [], Option, Some, None, if◌then◌else◌, codes, is_none, is_some}
+-- What a command line asks for: a command, whether its byte order, its block size and whether it
+-- decompresses are found in the image that it reads, and the spare bytes of that image's pages.
+use Rattle.std.specs.Prelude.{◌≡◌, ◌&&◌, ◌||◌, Bool, true, false, List, [], ◌∷◌, Option, Some, None, if◌then◌else◌, codes, is_none, is_some, option_map}
 use Rattle.std.specs.Borrow.{Bor}
 use Rattle.std.specs.Str.{bytes_eq}
 use Rattle.clap.specs.Words.{Row, Text, fault_of, first_of, subcommand_of}
 use Rattle.jline.specs.Read.{◌>>=◌}
+use Rattle.jspare.specs.declared.layout.PageLayout.{PageLayout}
 use Rattle.jcommand.specs.Commands.{program}
+use Rattle.jcommand.specs.Layouts.{layout_of}
 use Rattle.jcommand.specs.Parsed.{command_view, is_given, parsed}
 use Rattle.jcommand.specs.declared.parsed.Command.{Command}
 use Rattle.jcommand.specs.declared.parsed.Command.TheVariants as command
@@ -13,7 +15,11 @@ use Rattle.jcommand.specs.declared.parsed.Options.{Options}
 use Rattle.jcommand.specs.declared.request.Request.{Request}
 
 abbrev pub request_view : Request (Bor Text) → Request Text
-request_view r = record { auto = r.auto; command = command_view r.command }
+request_view r = record { auto = r.auto; spare = r.spare; command = command_view r.command }
+
+abbrev pub as_list : {T : Type 0} → Option T → List T
+as_list None = []
+as_list (Some x) = x ∷ []
 
 -- ---- of a command
 
@@ -46,6 +52,16 @@ image_read (command.Listing l) = None
 image_read (command.Pack p) = None
 image_read (command.PackCompressed p) = None
 image_read (command.Verify v) = Some v.image
+
+-- all images that it reads
+abbrev pub images_read : {T : Type 0} → Command T → List T
+images_read (command.Info image) = image ∷ []
+images_read (command.Diff d) = d.first ∷ d.second ∷ []
+images_read asked = as_list (image_read asked)
+
+abbrev pub reads_image : {T : Type 0} → Command T → Bool
+reads_image (command.Info image) = true
+reads_image asked = is_some (image_read asked)
 
 -- it writes an image, or foretells how one is written
 abbrev pub writes_image : {T : Type 0} → Command T → Bool
@@ -139,11 +155,22 @@ is_read_once (Some name) = bytes_eq name (codes "-")
 abbrev pub has_no_second_read : Command Text → Bool
 has_no_second_read asked = is_none (image_read asked) || is_read_once (image_read asked)
 
+-- of an image, where one is read
+abbrev pub spare_by : Bool → Option Text → Option (Option PageLayout)
+spare_by reads None = Some None
+spare_by reads (Some text) =
+    if reads then option_map (λ layout. Some layout) (layout_of text) else None
+
+-- the spare bytes of the image's pages, where they are given; they say nothing where none is read
+abbrev pub spare_in : List Row → Command Text → Option (Option PageLayout)
+spare_in rows asked = spare_by (reads_image asked) (first_of (codes "oob") rows)
+
 -- `--auto` says nothing beside one of these, or where the image is not read twice
 abbrev pub request_of : List Row → Command Text → Option (Request Text)
 request_of rows asked =
     if is_auto rows && (are_options_given rows || has_no_second_read asked) then None
-    else Some (record { auto = is_auto rows; command = asked })
+    else spare_in rows asked >>= λ spare.
+    Some (record { auto = is_auto rows; spare = spare; command = asked })
 
 abbrev pub request_by : Option (Text × List Row) → Option (Request Text)
 request_by (Some p) = parsed p.0 p.1 >>= request_of p.1
@@ -153,18 +180,26 @@ abbrev pub auto_by : Option (Text × List Row) → Bool
 auto_by (Some p) = is_auto p.1
 auto_by None = false
 
+abbrev pub spare_text_by : Option (Text × List Row) → Option Text
+spare_text_by (Some p) = first_of (codes "oob") p.1
+spare_text_by None = None
+
 -- ---- by the words
 
 -- `--auto` is among them
 unfoldable pub auto_from : List Text → Bool
 auto_from args = auto_by (subcommand_of program args)
 
+-- what is given with `--oob` among them
+unfoldable pub spare_text_from : List Text → Option Text
+spare_text_from args = spare_text_by (subcommand_of program args)
+
 -- rule: What is printed: What the words of a command line ask for.
 --   definitions: jcommand.Parsed.parsed_from, jcommand.Requests.request_from
 --   code: jcommand::command_line::asked
 --   laws: jcommand::laws::known_requests, jcommand::laws::known_placings,
 --   jcommand::laws::known_refusals, jcommand::laws::known_autos,
---   jcommand::laws::requests_are_parsed
+--   jcommand::laws::known_spares, jcommand::laws::requests_are_parsed
 -- what the words ask for, by clap's matches of them
 unfoldable pub request_from : List Text → Option (Request Text)
 request_from args = request_by (subcommand_of program args)

@@ -8,6 +8,7 @@ ghost use Rattle.jcommand.specs.Refused.{IsHelp, IsUsage};
 ghost use Rattle.jcommand.specs.declared.command_line.RequestFault.TheVariants.{OutOfMemory};
 
 use crate::commands::make_program;
+use crate::layout::layout;
 use crate::matching::{
     apart, are_options_given, endian, is_given, number, order_at, owner_number, page, parsed_of,
     request_at, size_at, text_at, texts_at,
@@ -252,6 +253,21 @@ fn image_named<'a>(name: &str, found: &ArgMatches<'a>) -> Option<&'a str> {
     }
 }
 
+/// Spare bytes that can't be read, or that there is no image for.
+fn spare_objection<'a>(name: &str, found: &ArgMatches<'a>) -> Option<Objection<'a>> {
+    match text_at(found, "oob") {
+        Some(value) if layout(value).is_none() => Some(Objection::Value {
+            value,
+            option: "--oob <P+S>",
+            wanted: "bytes of a page and spare ones behind it, up to 65536 of each, as 2048+64",
+        }),
+        Some(_) if name == "cuts" && text_at(found, "on").is_none() => {
+            Some(Objection::Missing("--on <IMAGE>"))
+        }
+        _ => None,
+    }
+}
+
 /// Whether no image is read, or one that can be read only once.
 fn is_alone(name: &str, found: &ArgMatches<'_>) -> bool {
     matches!(image_named(name, found), None | Some("-"))
@@ -277,7 +293,10 @@ fn objection_to<'a>(name: &str, found: &ArgMatches<'a>) -> Objection<'a> {
     if is_given(found, "compress") && is_given(found, "weak") {
         return Objection::Conflict("--compress", "--weak");
     }
-    value_objection(found)
+    match spare_objection(name, found) {
+        Some(objection) => objection,
+        None => value_objection(found),
+    }
 }
 
 /// The text that answers them.

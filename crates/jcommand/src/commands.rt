@@ -2,9 +2,9 @@
 //! takes.
 ghost use Rattle.std.specs.Prelude.{◌≡◌, Ok, IfOk};
 ghost use Rattle.clap.specs.Words.{App, Rule, new_app, with_rule, with_subcommand};
-ghost use Rattle.jcommand.specs.Commands.{IsApp, IsRule, MakesApp, word, optional_word, option_or, required_option, option_of, option_of_two, lettered_option, flag, lettered_flag, block_option, plain_command, automatic, reader, writer, noting, check_app, ls_app, cat_app, build_app, append_app, update_app, decompress_app, compress_app, compact_app, extract_app, listing_app, info_app, cuts_app, diff_app, damage_app, map_app, history_app, pack_app, verify_app, atomic, compressing, replacing, placing, writing, updating, folder_settings, bare, program};
+ghost use Rattle.jcommand.specs.Commands.{IsApp, IsRule, MakesApp, word, optional_word, option_or, required_option, option_of, option_of_two, lettered_option, flag, lettered_flag, block_option, plain_command, automatic, reader, writer, noting, check_app, ls_app, cat_app, build_app, append_app, update_app, decompress_app, compress_app, compact_app, extract_app, listing_app, info_app, cuts_app, diff_app, damage_app, map_app, history_app, pack_app, verify_app, atomic, compressing, replacing, placing, sparing, writing, updating, folder_settings, bare, program};
 
-use crate::help;
+use crate::{epilogues, help};
 use clap::{Arg, ArgAction, Command};
 use std::alloc::{AllocError, Global};
 
@@ -152,12 +152,20 @@ fn make_plain<'a>(alloc: Global, name: &'a str, about: &'a str, after: &'a str) 
     add_arg(add_arg(command, little), big)
 }
 
-/// The command that finds these options in the image that it reads, where that is asked for.
+/// The command that reads the pages of an image alone, where their spare bytes are given.
+fn add_spare<'a>(alloc: Global, command: Made<'a>) -> Made<'a>
+    ensures { (app : App) → MakesApp command.entry app → MakesApp result (sparing app) }
+{
+    let layout = make_optional(alloc, "oob", "P+S", help::SPARE);
+    add_arg(command, layout)
+}
+
+/// The same, which finds its options in the image, where that is asked for.
 fn add_auto<'a>(alloc: Global, command: Made<'a>) -> Made<'a>
     ensures { (app : App) → MakesApp command.entry app → MakesApp result (automatic app) }
 {
     let flag = make_lettered_flag(alloc, "auto", 'a', help::AUTO);
-    add_arg(command, flag)
+    add_spare(alloc, add_arg(command, flag))
 }
 
 /// A subcommand that reads an image.
@@ -174,7 +182,7 @@ fn make_check<'a>(alloc: Global) -> Made<'a>
     let shape = make_flag(alloc, "shape", help::SHAPE);
     let decompress = make_flag(alloc, "decompress", help::MOUNTED_DECOMPRESSED);
     let image = make_word(alloc, "IMAGE", help::IMAGE);
-    let command = make_reader(alloc, "check", help::CHECK, help::CHECK_EPILOGUE);
+    let command = make_reader(alloc, "check", help::CHECK, epilogues::CHECK);
     let command = add_arg(add_arg(command, scan), shape);
     add_arg(add_arg(command, decompress), image)
 }
@@ -185,7 +193,7 @@ fn make_ls<'a>(alloc: Global) -> Made<'a>
     let decompress = make_flag(alloc, "decompress", help::SHOWN_DECOMPRESSED);
     let image = make_word(alloc, "IMAGE", help::IMAGE);
     let path = make_optional_word(alloc, "PATH", help::PART);
-    let command = make_reader(alloc, "ls", help::LIST, help::LIST_EPILOGUE);
+    let command = make_reader(alloc, "ls", help::LIST, epilogues::LIST);
     add_arg(add_arg(add_arg(command, decompress), image), path)
 }
 
@@ -195,7 +203,7 @@ fn make_cat<'a>(alloc: Global) -> Made<'a>
     let decompress = make_flag(alloc, "decompress", help::SHOWN_DECOMPRESSED);
     let image = make_word(alloc, "IMAGE", help::IMAGE);
     let path = make_word(alloc, "PATH", help::PATH);
-    let command = make_reader(alloc, "cat", help::CAT, help::CAT_EPILOGUE);
+    let command = make_reader(alloc, "cat", help::CAT, epilogues::CAT);
     add_arg(add_arg(add_arg(command, decompress), image), path)
 }
 
@@ -272,7 +280,7 @@ fn make_build<'a>(alloc: Global) -> Made<'a>
     ensures { MakesApp result build_app }
 {
     let listing = make_word(alloc, "LISTING", help::LISTING);
-    let command = make_noting(alloc, "build", help::BUILD, help::BUILD_EPILOGUE);
+    let command = make_noting(alloc, "build", help::BUILD, epilogues::BUILD);
     let command = add_placing(alloc, add_compressing(alloc, command));
     add_output(alloc, add_arg(command, listing))
 }
@@ -283,7 +291,7 @@ fn make_append<'a>(alloc: Global) -> Made<'a>
     let decompress = make_flag(alloc, "decompress", help::DECOMPRESSED);
     let image = make_word(alloc, "IMAGE", help::IMAGE);
     let listing = make_word(alloc, "LISTING", help::LISTING);
-    let command = make_noting(alloc, "append", help::APPEND, help::APPEND_EPILOGUE);
+    let command = make_noting(alloc, "append", help::APPEND, epilogues::APPEND);
     let command = add_placing(alloc, add_auto(alloc, command));
     let command = add_arg(command, decompress);
     add_output(alloc, add_arg(add_arg(command, image), listing))
@@ -296,7 +304,7 @@ fn make_update<'a>(alloc: Global) -> Made<'a>
     let page = make_option(alloc, "page", "N", "4096", help::PAGE);
     let image = make_word(alloc, "IMAGE", help::IMAGE);
     let listing = make_word(alloc, "LISTING", help::LISTING);
-    let command = make_reader(alloc, "update", help::UPDATE, help::UPDATE_EPILOGUE);
+    let command = make_reader(alloc, "update", help::UPDATE, epilogues::UPDATE);
     let command = add_arg(add_arg(command, blocks), page);
     let command = add_placing(alloc, add_updating(alloc, command));
     add_output(alloc, add_arg(add_arg(command, image), listing))
@@ -307,12 +315,7 @@ fn make_decompress<'a>(alloc: Global) -> Made<'a>
 {
     let clashes = make_optional(alloc, "clashes", "RULE", help::CLASHES);
     let image = make_word(alloc, "IMAGE", help::IMAGE);
-    let command = make_reader(
-        alloc,
-        "decompress",
-        help::DECOMPRESS,
-        help::DECOMPRESS_EPILOGUE,
-    );
+    let command = make_reader(alloc, "decompress", help::DECOMPRESS, epilogues::DECOMPRESS);
     let command = add_replacing(alloc, add_arg(command, clashes));
     add_output(alloc, add_arg(command, image))
 }
@@ -321,7 +324,7 @@ fn make_compress<'a>(alloc: Global) -> Made<'a>
     ensures { MakesApp result compress_app }
 {
     let image = make_word(alloc, "IMAGE", help::IMAGE);
-    let command = make_reader(alloc, "compress", help::COMPRESS, help::COMPRESS_EPILOGUE);
+    let command = make_reader(alloc, "compress", help::COMPRESS, epilogues::COMPRESS);
     add_output(alloc, add_arg(add_replacing(alloc, command), image))
 }
 
@@ -332,7 +335,7 @@ fn make_compact<'a>(alloc: Global) -> Made<'a>
     let clashes = make_optional(alloc, "clashes", "RULE", help::CLASHES);
     let force = make_flag(alloc, "force", help::FORCE);
     let image = make_word(alloc, "IMAGE", help::IMAGE);
-    let command = make_reader(alloc, "compact", help::COMPACT, help::COMPACT_EPILOGUE);
+    let command = make_reader(alloc, "compact", help::COMPACT, epilogues::COMPACT);
     let command = add_placing(alloc, add_arg(add_arg(command, blocks), clashes));
     add_output(alloc, add_arg(add_arg(command, force), image))
 }
@@ -346,7 +349,7 @@ fn make_extract<'a>(alloc: Global) -> Made<'a>
     let image = make_word(alloc, "IMAGE", help::IMAGE);
     let folder = make_word(alloc, "DIR", help::NEW_FOLDER);
     let path = make_optional_word(alloc, "PATH", help::PART);
-    let command = make_reader(alloc, "extract", help::EXTRACT, help::EXTRACT_EPILOGUE);
+    let command = make_reader(alloc, "extract", help::EXTRACT, epilogues::EXTRACT);
     let command = add_arg(add_arg(add_arg(command, decompress), owners), quiet);
     add_arg(add_arg(add_arg(command, image), folder), path)
 }
@@ -365,7 +368,7 @@ fn make_listing<'a>(alloc: Global) -> Made<'a>
     ensures { MakesApp result listing_app }
 {
     let folder = make_word(alloc, "DIR", help::FOLDER);
-    let command = make_named(alloc, "listing", help::LISTING_OF, help::LISTING_EPILOGUE);
+    let command = make_named(alloc, "listing", help::LISTING_OF, epilogues::LISTING_OF);
     add_arg(add_settings(alloc, Ok(command)), folder)
 }
 
@@ -373,8 +376,8 @@ fn make_info<'a>(alloc: Global) -> Made<'a>
     ensures { MakesApp result info_app }
 {
     let image = make_word(alloc, "IMAGE", help::IMAGE);
-    let command = make_named(alloc, "info", help::INFO, help::INFO_EPILOGUE);
-    add_arg(Ok(command), image)
+    let command = make_named(alloc, "info", help::INFO, epilogues::INFO);
+    add_arg(add_spare(alloc, Ok(command)), image)
 }
 
 fn make_cuts<'a>(alloc: Global) -> Made<'a>
@@ -386,7 +389,7 @@ fn make_cuts<'a>(alloc: Global) -> Made<'a>
     let decompress = make_flag(alloc, "decompress", help::MOUNTED_DECOMPRESSED);
     let update = make_flag(alloc, "update", help::UPDATING);
     let listing = make_word(alloc, "LISTING", help::LISTING);
-    let command = make_reader(alloc, "cuts", help::CUTS, help::CUTS_EPILOGUE);
+    let command = make_reader(alloc, "cuts", help::CUTS, epilogues::CUTS);
     let command = add_arg(add_arg(add_arg(command, blocks), page), on);
     let command = add_arg(add_compressing(alloc, command), decompress);
     let command = add_updating(alloc, add_arg(command, update));
@@ -400,7 +403,7 @@ fn make_diff<'a>(alloc: Global) -> Made<'a>
     let times = make_flag(alloc, "times", help::TIMES);
     let first = make_word(alloc, "A", help::FIRST);
     let second = make_word(alloc, "B", help::SECOND);
-    let command = make_reader(alloc, "diff", help::DIFF, help::DIFF_EPILOGUE);
+    let command = make_reader(alloc, "diff", help::DIFF, epilogues::DIFF);
     let command = add_arg(add_arg(command, decompress), times);
     add_arg(add_arg(command, first), second)
 }
@@ -410,7 +413,7 @@ fn make_damage<'a>(alloc: Global) -> Made<'a>
 {
     let decompress = make_flag(alloc, "decompress", help::DECOMPRESSED);
     let image = make_word(alloc, "IMAGE", help::IMAGE);
-    let command = make_reader(alloc, "damage", help::DAMAGE, help::DAMAGE_EPILOGUE);
+    let command = make_reader(alloc, "damage", help::DAMAGE, epilogues::DAMAGE);
     add_arg(add_arg(command, decompress), image)
 }
 
@@ -419,7 +422,7 @@ fn make_map<'a>(alloc: Global) -> Made<'a>
 {
     let svg = make_flag(alloc, "svg", help::SVG);
     let image = make_word(alloc, "IMAGE", help::IMAGE);
-    let command = make_reader(alloc, "map", help::MAP, help::MAP_EPILOGUE);
+    let command = make_reader(alloc, "map", help::MAP, epilogues::MAP);
     add_arg(add_arg(command, svg), image)
 }
 
@@ -428,7 +431,7 @@ fn make_history<'a>(alloc: Global) -> Made<'a>
 {
     let image = make_word(alloc, "IMAGE", help::IMAGE);
     let path = make_optional_word(alloc, "PATH", help::FORMER);
-    let command = make_reader(alloc, "history", help::HISTORY, help::HISTORY_EPILOGUE);
+    let command = make_reader(alloc, "history", help::HISTORY, epilogues::HISTORY);
     add_arg(add_arg(command, image), path)
 }
 
@@ -439,7 +442,7 @@ fn make_pack<'a>(alloc: Global) -> Made<'a>
     let page = make_option(alloc, "page", "N", "4096", help::PAGE);
     let weak = make_flag(alloc, "weak", help::WEAK);
     let folder = make_word(alloc, "DIR", help::FOLDER);
-    let command = make_plain(alloc, "pack", help::PACK, help::PACK_EPILOGUE);
+    let command = make_plain(alloc, "pack", help::PACK, epilogues::PACK);
     let command = add_arg(add_arg(add_arg(command, blocks), page), weak);
     let command = add_placing(alloc, add_compressing(alloc, command));
     let command = add_settings(alloc, command);
@@ -452,7 +455,7 @@ fn make_verify<'a>(alloc: Global) -> Made<'a>
     let times = make_flag(alloc, "times", help::TIMES);
     let image = make_word(alloc, "IMAGE", help::IMAGE);
     let folder = make_word(alloc, "DIR", help::FOLDER);
-    let command = make_reader(alloc, "verify", help::VERIFY, help::VERIFY_EPILOGUE);
+    let command = make_reader(alloc, "verify", help::VERIFY, epilogues::VERIFY);
     let command = add_settings(alloc, add_arg(command, times));
     add_arg(add_arg(command, image), folder)
 }
@@ -461,7 +464,7 @@ fn make_verify<'a>(alloc: Global) -> Made<'a>
 fn make_bare<'a>(alloc: Global) -> Command<'a>
     ensures { IsApp result bare }
 {
-    make_named(alloc, "jffs2_image", help::PROGRAM, help::EPILOGUE)
+    make_named(alloc, "jffs2_image", help::PROGRAM, epilogues::PROGRAM)
         .version(VERSION)
         .subcommand_required(true)
 }

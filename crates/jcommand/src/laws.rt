@@ -1,5 +1,5 @@
 //! Worked examples of the definitions that the contracts cite.
-ghost use Rattle.std.specs.Prelude.{◌≡◌, true, false, List, [], ◌∷◌, Some, None, codes, option_map};
+ghost use Rattle.std.specs.Prelude.{◌≡◌, true, false, List, [], ◌∷◌, Some, None, codes, option_and_then, option_map};
 ghost use Rattle.clap.specs.Words.{Text, fault_of};
 ghost use Rattle.clap.specs.declared.error.ErrorKind.TheVariants.{ArgumentConflict, DisplayHelp, DisplayVersion, MissingSubcommand, MissingRequiredArgument, UnknownArgument, WrongNumberOfValues};
 ghost use Rattle.jnode.specs.declared.order.Endian.TheVariants.{Little, Big};
@@ -10,7 +10,8 @@ ghost use Rattle.jcommand.specs.Commands.{program};
 ghost use Rattle.jcommand.specs.Sizes.{size_number};
 ghost use Rattle.jcommand.specs.declared.parsed.Command.TheVariants as command;
 ghost use Rattle.jcommand.specs.declared.request.Request.{Request};
-ghost use Rattle.jcommand.specs.Requests.{auto_from, request_from};
+ghost use Rattle.jcommand.specs.Layouts.{layout_of};
+ghost use Rattle.jcommand.specs.Requests.{auto_from, images_read, request_from, spare_text_from};
 
 /// The values of options.
 pub fn known_values()
@@ -481,6 +482,7 @@ pub fn known_autos()
     ensures tree { request_from (codes "jffs2_image" ∷ codes "ls" ∷ codes "-a" ∷ codes "a" ∷ [])
         ≡ Some (record {
           auto = true;
+          spare = None;
           command = command.List (record {
             options = no_options;
             decompress = false;
@@ -492,12 +494,14 @@ pub fn known_autos()
         ∷ codes "--auto" ∷ codes "a" ∷ [])
         ≡ Some (record {
           auto = true;
+          spare = None;
           command = command.Scan (record { options = no_options; image = codes "a" });
         }) }
     ensures compared { request_from (codes "jffs2_image" ∷ codes "diff" ∷ codes "a"
         ∷ codes "--auto" ∷ codes "b" ∷ [])
         ≡ Some (record {
           auto = true;
+          spare = None;
           command = command.Diff (record {
             options = no_options;
             decompress = false;
@@ -510,10 +514,11 @@ pub fn known_autos()
         ∷ codes "--blocks=2" ∷ codes "--on=b" ∷ codes "a" ∷ [])
         ≡ Some (record {
           auto = true;
+          spare = None;
           command = command.Cuts (record cuts_of_a { on = Some (codes "b") });
         }) }
     ensures given { request_from (codes "jffs2_image" ∷ codes "info" ∷ codes "a" ∷ [])
-        ≡ Some (record { auto = false; command = command.Info (codes "a") }) }
+        ≡ Some (record { auto = false; spare = None; command = command.Info (codes "a") }) }
     ensures size { request_from (codes "jffs2_image" ∷ codes "ls" ∷ codes "--auto"
         ∷ codes "--block=65536" ∷ codes "a" ∷ []) ≡ None }
     ensures letter { request_from (codes "jffs2_image" ∷ codes "ls" ∷ codes "-a" ∷ codes "-l"
@@ -531,14 +536,58 @@ pub fn known_autos()
         ≡ UnknownArgument ∷ [] }
 {}
 
-/// What is asked for is the command of the words. Without `--auto` among them it is that command
-/// alone, with the options that it is given.
+/// What words with `--oob` ask for.
+pub fn known_spares()
+    ensures layout { layout_of (codes "2048+64") ≡ Some (record { page = 2048; spare = 64 }) }
+    ensures none_spare { layout_of (codes "1+0") ≡ Some (record { page = 1; spare = 0 }) }
+    ensures greatest { layout_of (codes "65536+65536")
+        ≡ Some (record { page = 65536; spare = 65536 }) }
+    ensures no_page { layout_of (codes "0+64") ≡ None }
+    ensures past_greatest { layout_of (codes "2048+65537") ≡ None }
+    ensures page_alone { layout_of (codes "2048") ≡ None }
+    ensures no_spare { layout_of (codes "2048+") ≡ None }
+    ensures two_signs { layout_of (codes "2048+64+1") ≡ None }
+    ensures counted { request_from (codes "jffs2_image" ∷ codes "info" ∷ codes "--oob"
+        ∷ codes "512+16" ∷ codes "a" ∷ [])
+        ≡ Some (record {
+          auto = false;
+          spare = Some (record { page = 512; spare = 16 });
+          command = command.Info (codes "a");
+        }) }
+    ensures found { request_from (codes "jffs2_image" ∷ codes "map" ∷ codes "-a"
+        ∷ codes "--oob=4096+224" ∷ codes "a" ∷ [])
+        ≡ Some (record {
+          auto = true;
+          spare = Some (record { page = 4096; spare = 224 });
+          command = command.Map
+              (record { options = no_options; svg = false; image = codes "a" });
+        }) }
+    ensures unread { request_from (codes "jffs2_image" ∷ codes "check" ∷ codes "--oob=64"
+        ∷ codes "a" ∷ []) ≡ None }
+    ensures cut_alone { request_from (codes "jffs2_image" ∷ codes "cuts" ∷ codes "--oob=512+16"
+        ∷ codes "--blocks=2" ∷ codes "a" ∷ []) ≡ None }
+    ensures not_of_build { fault_of program (codes "jffs2_image" ∷ codes "build"
+        ∷ codes "--oob=512+16" ∷ codes "--blocks=2" ∷ codes "a" ∷ codes "b" ∷ [])
+        ≡ UnknownArgument ∷ [] }
+    ensures images { images_read (command.Diff (record {
+      options = no_options;
+      decompress = false;
+      times = false;
+      first = codes "a";
+      second = codes "b";
+    })) ≡ codes "a" ∷ codes "b" ∷ [] }
+{}
+
+/// What is asked for is the command of the words, and the layout that they have. Without `--auto`
+/// and `--oob` among them it is that command alone, with the options that it is given.
 pub fn requests_are_parsed()
     ensures command { (args : List Text) (asked : Request Text) → request_from args ≡ Some asked
         → parsed_from args ≡ Some asked.command }
     ensures auto { (args : List Text) (asked : Request Text) → request_from args ≡ Some asked
         → asked.auto ≡ auto_from args }
-    ensures plain { (args : List Text) → auto_from args ≡ false
+    ensures spare { (args : List Text) (asked : Request Text) → request_from args ≡ Some asked
+        → asked.spare ≡ option_and_then layout_of (spare_text_from args) }
+    ensures plain { (args : List Text) → auto_from args ≡ false → spare_text_from args ≡ None
         → request_from args
-        ≡ option_map (λ c. record { auto = false; command = c }) (parsed_from args) }
+        ≡ option_map (λ c. record { auto = false; spare = None; command = c }) (parsed_from args) }
 {}

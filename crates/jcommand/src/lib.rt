@@ -7,7 +7,7 @@
 //!
 //! - `commands`: the program, its subcommands, and the words that each one takes;
 //!   `specs/Commands.antt` has the same as clap sees it.
-//! - `help`: the texts of the help.
+//! - `help` and `epilogues`: the texts of the help.
 //! - `parsed`: commands, with what they are given; `matching`: the command that clap's matches ask
 //!   for, `specs/Parsed.antt`.
 //! - `request`: a command whose options may be found in its image, `specs/Requests.antt`.
@@ -21,8 +21,10 @@
 mod blocks;
 mod command_line;
 mod commands;
+mod epilogues;
 mod help;
 pub mod laws;
+mod layout;
 mod matching;
 mod outcome;
 mod parsed;

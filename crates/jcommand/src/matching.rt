@@ -2,8 +2,9 @@
 ghost use Rattle.std.specs.Prelude.{◌≡◌, codes, map, option_map};
 ghost use Rattle.clap.specs.Words.{found_of, rows_of, all_of, first_of};
 ghost use Rattle.jcommand.specs.Parsed.{append_in, block_size_in, build_in, cat_in, check_in, command_view, compact_in, conversion_in, conversion_view, cuts_in, damage_in, decimal_number, decompress_in, diff_in, endian_of, extract_in, folder_in, folder_view, history_in, if_given, image_in, image_view, info_in, is_apart, is_given, log_cuts_in, ls_in, map_in, number_option, options_in, order_in, order_named, output_in, owner_number, owner_of, pack_in, page_of, parsed, placing_in, target_in, target_view, update_cuts_in, update_in, verify_in};
-ghost use Rattle.jcommand.specs.Requests.{are_options_given, has_no_second_read, request_of, request_view};
+ghost use Rattle.jcommand.specs.Requests.{are_options_given, has_no_second_read, request_of, request_view, spare_in};
 
+use crate::layout::layout;
 use crate::parsed::{
     Appending, Building, Check, Command, Compaction, Comparison, Conversion, Cuts, CutsThrough,
     Examination, Extraction, FileContent, FolderListing, Image, Mapping, NodeHistory, Options,
@@ -14,6 +15,7 @@ use crate::sizes::size;
 use clap::ArgMatches;
 use jnode::Endian;
 use jscan::{Geometry, Page};
+use jspare::PageLayout;
 
 /// A number below 2^32 in decimal digits.
 pub(crate) fn number(text: &str) -> Option<u32>
@@ -579,6 +581,17 @@ pub(crate) fn has_no_second_read(command: &Command<&str>) -> bool
     }
 }
 
+/// The spare bytes of the image's pages, where they are given; nothing where no image is read.
+fn spare_at(found: &ArgMatches<'_>, command: &Command<&str>) -> Option<Option<PageLayout>>
+    ensures { result ≡ spare_in (rows_of (found_of found.now)) (command_view command.now) }
+{
+    match text_at(found, "oob") {
+        None => Some(None),
+        Some(_) if !command.reads_image() => None,
+        Some(text) => Some(Some(layout(text)?)),
+    }
+}
+
 /// What the command is given, and whether its options are found; or nothing where these are given
 /// too, or there is no image that they are found in.
 pub(crate) fn request_at<'a>(
@@ -592,5 +605,10 @@ pub(crate) fn request_at<'a>(
     if auto && (are_options_given(found) || has_no_second_read(&command)) {
         return None;
     }
-    Some(Request { auto, command })
+    let spare = spare_at(found, &command)?;
+    Some(Request {
+        auto,
+        spare,
+        command,
+    })
 }

@@ -1,19 +1,23 @@
 //! A command, and the options that are found in the image that it reads.
-ghost use Rattle.std.specs.Prelude.{◌≡◌, true, false, option_map};
+ghost use Rattle.std.specs.Prelude.{◌≡◌, true, false, map, IfOk, option_map};
 ghost use Rattle.jcommand.specs.Parsed.{command_view};
-ghost use Rattle.jcommand.specs.Requests.{image_read, with_options, writes_image};
+ghost use Rattle.jcommand.specs.Requests.{image_read, images_read, reads_image, with_options, writes_image};
 
 use crate::parsed::{
     Appending, Check, Command, Compaction, Comparison, Conversion, Cuts, CutsThrough, Examination,
     Extraction, FileContent, Image, Mapping, NodeHistory, Options, Target, TreeListing, UpdateCuts,
     Updating, Verification,
 };
+use jspare::PageLayout;
+use std::alloc::{AllocError, Global};
 
 /// What a command line asks for. Files, folders and paths are named by texts `T`.
 #[derive(Clone, Copy)]
 pub struct Request<T> {
     /// The options of the command are those that its image shows, and its data are decompressed.
     pub auto: bool,
+    /// The pages of its images, which have spare bytes behind them.
+    pub spare: Option<PageLayout>,
     pub command: Command<T>,
 }
 
@@ -102,6 +106,37 @@ impl<'a> Command<&'a str> {
             | Command::Listing(_)
             | Command::Pack(_)
             | Command::PackCompressed(_) => None,
+        }
+    }
+
+    /// All images that are read.
+    pub fn images(&self, alloc: Global) -> Result<Vec<&'a str>, AllocError>
+        ensures { IfOk result (λ images. map (λ n. n.now) images.items
+            ≡ images_read (command_view self.now)) }
+    {
+        let mut images = Vec::new(alloc);
+        match self {
+            Command::Info { image } => images.push(*image)?,
+            Command::Diff(asked) => {
+                images.push(asked.first)?;
+                images.push(asked.second)?;
+            }
+            _ => {
+                if let Some(image) = self.image() {
+                    images.push(image)?;
+                }
+            }
+        }
+        Ok(images)
+    }
+
+    /// Whether it reads an image.
+    pub(crate) fn reads_image(&self) -> bool
+        ensures { result ≡ reads_image (command_view self.now) }
+    {
+        match self {
+            Command::Info { .. } => true,
+            _ => self.image().is_some(),
         }
     }
 

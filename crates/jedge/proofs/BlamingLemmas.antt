@@ -26,6 +26,8 @@ use Rattle.jedge.specs.Commands.{Cat, Check, Damage, Diff, Info, Ls, cat_act, ch
 use Rattle.jedge.specs.Comparing.{Compares, compared}
 use Rattle.jedge.specs.Images.{HasNodes, MountsBoth, MountsFor, MountsOrRefuses, MountsWith, NotesNone, view_refusal}
 use Rattle.jedge.specs.Showing.{Checks, Contains, Lists, NamesNothing}
+use Rattle.jspare.specs.declared.layout.PageLayout.{PageLayout}
+use Rattle.jedge.specs.Sparing.{FindsSpare}
 use Rattle.jedge.specs.Told.{Told}
 use Rattle.jedge.specs.Views.{HasBlockSize, IsViewed, NamesPart, NamesPath, conversion_refusal, views}
 use Rattle.jedge.specs.Laws.{BlamesEvent, BlamedIsFailed, BlamesFailed, Happened, IsOfBytes}
@@ -275,6 +277,16 @@ both_blame decompress e size image other events f is = elim is.1 [
 pub notes_blame : (e : Endian) (size : ℕ) (image : List ℕ) → BlamesFailed (answers (NotesNone e size image))
 notes_blame e size image events f is = absurd is.1
 
+pub spare_blames : (dump : List ℕ) → BlamesFailed (answers (FindsSpare dump))
+spare_blames dump events (fault.File file) is = absurd is.1
+spare_blames dump events (fault.NotRead file) is = absurd is.1
+spare_blames dump events (fault.NoNodes of others) is = tt
+spare_blames dump events (fault.NoSpace folder) is = absurd is.1
+spare_blames dump events (fault.Findings of findings) is = tt
+spare_blames dump events (fault.Refused why) is = absurd is.1
+spare_blames dump events fault.Output is = absurd is.1
+spare_blames dump events fault.OutOfMemory is = tt
+
 pub shows_blames : (choice : Choice) (decompress : Bool) (e : Endian) (size : ℕ) (says : Option ℕ → Mount → Saying Told) → ((others : Option ℕ) (m : Mount) → Unnamed (says others m))
     → (image : List ℕ) → BlamesFailed (shows_mount choice decompress e size says image)
 shows_blames choice decompress e size says unnamed image = then_blames _ _ (notes_blame e size image) (λ (others : Option ℕ).
@@ -352,7 +364,7 @@ cat_blames options decompress name word = then_blames _ _ (path_blames word) (λ
     (λ (others : Option ℕ) (m : Mount). contains_unnamed (content_of m.state path) (read_told options.endian options.geometry.block others m))))
 
 pub info_blames : (name : List ℕ) → BlamesFailed (info_act name)
-info_blames name = then_blames (loads name) _ (loads_blames name) (λ (image : List ℕ). whole_blames _ _)
+info_blames name = then_blames (loads name) _ (loads_blames name) (λ (image : List ℕ). then_blames _ _ (spare_blames image) (λ (spare : Option PageLayout). whole_blames _ _))
 
 pub damage_blames : (options : Options) (decompress : Bool) (name : List ℕ) → BlamesFailed (damage_act options decompress name)
 damage_blames options decompress name = then_blames (loads name) _ (loads_blames name)

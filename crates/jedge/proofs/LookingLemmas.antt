@@ -1,13 +1,16 @@
 -- What makes nothing.
-use Rattle.std.proofs.Common.{◌≡◌, ℕ, Bool, List, [], ◌∷◌, ◌++◌, Option, None, Some, Result, Ok, Err, sym, subst, inl, inr}
+use Rattle.std.proofs.Common.{◌≡◌, ℕ, Bool, List, [], ◌∷◌, ◌++◌, Option, None, Some, Result, Ok, Err, refl, sym, ap, subst, ◌∙◌, inl, inr, append_assoc}
+use Rattle.jcommand.specs.declared.outcome.Outcome.{Outcome}
 use Rattle.jcommand.specs.declared.parsed.Comparison.{Comparison}
 use Rattle.jcommand.specs.declared.parsed.Options.{Options}
 use Rattle.jedge.specs.Acts.{Act, Then, Ends, GoesOn, IsPrintedInPart, IsSaidBy, Saying, answers, closes, loads, opens, prints, reads_whole}
 use Rattle.jedge.specs.Calls.{Event, Stream, Answers, Errors, Failed, Print, printed}
 use Rattle.jnode.specs.declared.order.Endian.{Endian}
+use Rattle.jspare.specs.declared.layout.PageLayout.{PageLayout}
 use Rattle.jmount.specs.Mount.{Mount}
-use Rattle.jedge.specs.Commands.{Cat, Check, Damage, Diff, Info, Ls, cat_act, check_act, damage_act, diff_act, info_act, list_act, reported}
+use Rattle.jedge.specs.Commands.{Cat, Check, Damage, Diff, Info, Ls, cat_act, check_act, damage_act, diff_act, ends, info_act, list_act, reported}
 use Rattle.jedge.specs.Views.{views}
+use Rattle.jedge.specs.Sparing.{leaves_spare}
 use Rattle.jedge.specs.Told.{Told}
 use Rattle.jedge.specs.Laws.{LooksOnly, MakesNothing, ReadsOnly}
 use Rattle.jedge.specs.declared.fault.Fault.{Fault}
@@ -41,6 +44,17 @@ reads_looks name events (Err (fault.Findings of findings)) is = absurd is
 reads_looks name events (Err (fault.Refused why)) is = same is.1 (tt, tt)
 reads_looks name events (Err fault.Output) is = absurd is
 reads_looks name events (Err fault.OutOfMemory) is = absurd is
+
+pub spare_looks : (layout : PageLayout) (names : List (List ℕ)) → MakesNothing (leaves_spare layout names)
+spare_looks layout names events (Ok done) did = same did (tt, tt)
+spare_looks layout names events (Err (fault.File file)) did = absurd did
+spare_looks layout names events (Err (fault.NotRead file)) did = absurd did
+spare_looks layout names events (Err (fault.NoNodes of others)) did = absurd did
+spare_looks layout names events (Err (fault.NoSpace folder)) did = absurd did
+spare_looks layout names events (Err (fault.Findings of findings)) did = absurd did
+spare_looks layout names events (Err (fault.Refused why)) did = absurd did
+spare_looks layout names events (Err fault.Output) did = absurd did
+spare_looks layout names events (Err fault.OutOfMemory) did = same did tt
 
 pub then_looks : {A B : Type 0} (first : Act A) (next : A → Act B) → MakesNothing first → ((a : A) → MakesNothing (next a)) → MakesNothing (Then first next)
 then_looks first next one two events r (Ends f did is) = one events (Err f) did
@@ -79,6 +93,27 @@ said_looks (Some text) events (inr cut) = cut_looks Errors text events cut
 pub reported_looks : (act : Act Told) → MakesNothing act → MakesNothing (reported act)
 reported_looks act looks events r did = same did.all (both did.work did.last (looks did.work did.answer did.worked) (said_looks did.ended.text did.last did.ended.said))
 
+-- what is reported behind a first step makes nothing where neither does
+step_looks_by : {A : Type 0} (first : Act A) (next : A → Act Told) → MakesNothing first → ((x : A) → MakesNothing (reported (next x)))
+    → (events : List Event) (r : Result Outcome Fault) (work : List Event) (answer : Result Told Fault) → Then first next work answer
+    → (last : List Event) → ends answer last r → events ≡ work ++ last → LooksOnly events
+step_looks_by first next one two events r work answer (Ends f did is) last ended all =
+    same all (both work last (one work (Err f) did) (said_looks ended.text last ended.said))
+step_looks_by first next one two events r work answer (GoesOn x before after did more is) last ended all =
+    same (all ∙ ap (λ (l : List Event). l ++ last) is ∙ append_assoc before after last)
+    (both before (after ++ last) (one before (Ok x) did)
+    (two x (after ++ last) r (record {
+      answer = answer;
+      work = after;
+      last = last;
+      worked = more;
+      ended = ended;
+      all = refl;
+    })))
+
+pub step_looks : {A : Type 0} (first : Act A) (next : A → Act Told) → MakesNothing first → ((x : A) → MakesNothing (reported (next x))) → MakesNothing (reported (Then first next))
+step_looks first next one two events r did = step_looks_by first next one two events r did.work did.answer did.worked did.last did.ended did.all
+
 pub loads_looks : (name : List ℕ) → MakesNothing (loads name)
 loads_looks name = then_looks (opens name) reads_whole (opens_looks name) reads_looks
 
@@ -100,7 +135,7 @@ cat_looks options decompress name word = then_looks _ _ (answers_looks _) (λ (p
     then_looks _ _ (answers_looks _) (λ (m : Mount). prints_looks _))))
 
 pub info_looks : (name : List ℕ) → MakesNothing (info_act name)
-info_looks name = then_looks (loads name) _ (loads_looks name) (λ (image : List ℕ). prints_looks _)
+info_looks name = then_looks (loads name) _ (loads_looks name) (λ (image : List ℕ). then_looks _ _ (answers_looks _) (λ (spare : Option PageLayout). prints_looks _))
 
 pub damage_looks : (options : Options) (decompress : Bool) (name : List ℕ) → MakesNothing (damage_act options decompress name)
 damage_looks options decompress name = then_looks (loads name) _ (loads_looks name)

@@ -146,6 +146,22 @@ then_reported {old} {answer} done more = record {
   told = more.told ∙ ap (option_map (λ told. told ++ more.events)) done.told ∙ joined old done.events more.events;
 }
 
+-- the first step was done, and the next one was done and reported
+pub step_reported : {A : Type 0} {old mid new : History} {first : Act A} {next : A → Act Told} {x : A} {r : Result Outcome Fault}
+    → DoesFrom old mid first (Ok x) → DoesFrom mid new (reported (next x)) r → DoesFrom old new (reported (Then first next)) r
+step_reported {old} {x} begun done = record {
+  events = begun.events ++ done.events;
+  acts = record {
+    answer = done.acts.answer;
+    work = begun.events ++ done.acts.work;
+    last = done.acts.last;
+    worked = GoesOn x begun.events done.acts.work begun.acts done.acts.worked refl;
+    ended = done.acts.ended;
+    all = ap (λ (l : List Event). begun.events ++ l) done.acts.all ∙ sym (append_assoc begun.events done.acts.work done.acts.last);
+  };
+  told = done.told ∙ ap (option_map (λ told. told ++ done.events)) begun.told ∙ joined old begun.events done.events;
+}
+
 -- the same where what is answered, or done, is seen of an equal thing
 pub answered_at : {X A : Type 0} {old : History} (Is : X → Result A Fault → Type 0) {x y : X} {r : Result A Fault} → x ≡ y → Is x r → DoesFrom old old (answers (Is y)) r
 answered_at {X} Is {x} {y} {r} same is = answered (subst (λ (z : X). Is z r) same is)

@@ -39,7 +39,7 @@ word_refused word why is = absurd is
 
 -- the image itself is shown
 pub plain_viewed : (e : Endian) (size : ℕ) (decompress : Bool) (image : List ℕ) (others : Option ℕ) → decompress ≡ false
-    → TellsNone e size image others → IsViewed e size decompress image (Ok (record { image = image; findings = None; others = others }))
+    → TellsNone e size image others → IsViewed e size decompress image (Ok (record { image = image; found = None; others = others }))
 plain_viewed e size true image others not tells = let no : ⊥ = cc in absurd no
 plain_viewed e size false image others not tells = ((refl, refl), tells)
 

@@ -3,6 +3,7 @@ use Rattle.std.specs.Prelude.{ℕ, Bool, List, [], ◌∷◌, Option}
 use Rattle.jextract.specs.Folders.{Made}
 use Rattle.jfolder.specs.Known.{Known}
 use Rattle.jreport.specs.declared.reason.Reason.{Reason}
+use Rattle.jspare.specs.declared.layout.PageLayout.{PageLayout}
 
 -- a stream that the program prints on: standard output, or standard error
 pub data Stream : Type 0 where
@@ -34,6 +35,9 @@ pub data Call : Type 0 where
   Open : List ℕ → Call
   Read : List ℕ → List ℕ → Call
   ReadPart : List ℕ → List ℕ → Call
+  -- The files of these names are dumps of which each page has spare bytes behind it. From here on
+  -- what is read of them are the pages alone.
+  LeaveSpare : PageLayout → List (List ℕ) → Call
   -- the host is asked what a name means, and whether two names mean one file
   Find : List ℕ → Meaning → Call
   Compare : List ℕ → List ℕ → Bool → Call

@@ -27,6 +27,8 @@ use Rattle.jedge.specs.Comparing.{Compares, compared}
 use Rattle.jedge.specs.Faults.{TellsFault}
 use Rattle.jedge.specs.Images.{HasNodes, MountsBoth, MountsFor, MountsWith, NotesNone}
 use Rattle.jedge.specs.Showing.{Checks, Contains, Lists}
+use Rattle.jspare.specs.Showing.{spare_lines}
+use Rattle.jedge.specs.Sparing.{FindsSpare}
 use Rattle.jedge.specs.Told.{Told, either, shown_notes}
 use Rattle.jedge.specs.Views.{HasBlockSize, NamesPart, NamesPath}
 use Rattle.jedge.specs.declared.fault.Fault.{Fault}
@@ -71,9 +73,11 @@ informed image = record {
   noted = option_map container_line (container_of image);
 }
 
--- the file is read, and what it tells of itself is printed
+-- the file is read, and what it tells of itself is printed, and the layout that it has if it is a
+-- dump with spare bytes
 abbrev pub info_act : List ℕ → Act Told
-info_act name = Then (loads name) (λ image. prints (Whole (info_text image) (informed image)))
+info_act name = Then (loads name) (λ image. Then (answers (FindsSpare image)) (λ spare.
+    prints (Whole (info_text image ++ spare_lines spare) (informed image))))
 
 -- ---- `damage`
 
@@ -94,7 +98,7 @@ hint_if_found e size m = if findings m == 0 then None else hint_of e size m.imag
 -- damage that was told is found, or else the findings of the image, which are noted
 abbrev pub examined : Endian → ℕ → Totals → Mount → Told
 examined e size totals m = record {
-  counted = either (min (totals.damaged + totals.missing) (2 ^ 64 - 1)) (findings m);
+  counted = either (min (totals.damaged + totals.missing + totals.gaps) (2 ^ 64 - 1)) (findings m);
   noted = read_noted (hint_of e size m.image) (findings m) None;
 }
 

@@ -7,5 +7,6 @@ pub mod Images
 pub mod Inflating
 pub mod Laws
 pub mod Showing
+pub mod Sparing
 pub mod Told
 pub mod Views

@@ -17,6 +17,7 @@ use Rattle.jreport.specs.declared.cause.Cause.TheVariants as causes
 use Rattle.jreport.specs.declared.cause.Limit.TheVariants as limits
 use Rattle.jreport.specs.declared.faults.ProgramFault.{ProgramFault}
 use Rattle.jreport.specs.declared.faults.ProgramFault.TheVariants as program
+use Rattle.jreport.specs.declared.findings.Found.{Found}
 use Rattle.jedge.specs.Acts.{Act, Then, answers, loads}
 use Rattle.jedge.specs.declared.fault.Fault.{Fault}
 use Rattle.jedge.specs.declared.fault.Fault.TheVariants as fault
@@ -60,25 +61,25 @@ NamesPart (Some word) (Err f) = NamesPath word (Err f)
 
 -- ---- the image that is shown
 
--- an image that is shown, and what is noted of the one that was read: how many findings it has,
--- where this one is made of it; and how many nodes of the other byte order, where it has none
+-- an image that is shown, and what is noted of the one that was read: what is found in it, where
+-- this one is made of it; and how many nodes of the other byte order, where it has none
 pub record Viewed : Type 0 where
   pub image : List ℕ
-  pub findings : Option ℕ
+  pub found : Option Found
   pub others : Option ℕ
 
 abbrev pub viewed : Subject → Viewed
 viewed subject = record {
   image = subject.image.items;
-  findings = subject.findings;
+  found = subject.found;
   others = subject.others;
 }
 
 -- the image, or what `decompress` makes of it where that is asked for
 abbrev pub IsShownOf : Bool → Endian → ℕ → List ℕ → Viewed → Type 0
-IsShownOf false e size image view = (view.image ≡ image) × (view.findings ≡ None)
+IsShownOf false e size image view = (view.image ≡ image) × (view.found ≡ None)
 IsShownOf true e size image view = Converts e size image (Ok view.image)
-    × (view.findings ≡ Some (found_in e size image).noted)
+    × (view.found ≡ Some (found_in e size image))
 
 -- why nothing is made of an image, as the program tells it
 abbrev pub conversion_refusal : ConvertFault → ProgramFault

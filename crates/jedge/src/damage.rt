@@ -1,5 +1,5 @@
 //! `damage`: what the damage of an image costs.
-ghost use Rattle.std.specs.Prelude.{◌≡◌, option_map};
+ghost use Rattle.std.specs.Prelude.{◌≡◌, ◌+◌, ◌-◌, ◌^◌, min, option_map};
 ghost use Rattle.jscan.specs.Scans.{IsScannable};
 ghost use Rattle.jedge.specs.Acts.{DoesFrom, prints, seen_as};
 ghost use Rattle.jedge.specs.Commands.{Costs, costs_found, damage_act, examined, findings_noted};
@@ -38,14 +38,21 @@ pub fn findings_noted(findings: u64) -> Option<Note<'static>>
     }
 }
 
+/// How much was told: nodes, names and gaps, up to the greatest number.
+fn count_told(totals: Totals) -> u64
+    ensures { result ≡ min (totals.damaged + totals.missing + totals.gaps) (2 ^ 64 - 1) }
+{
+    let lost = (totals.damaged as u64).saturating_add(totals.missing as u64);
+    lost.saturating_add(totals.gaps as u64)
+}
+
 /// What an examination comes to.
 fn examined(totals: Totals, mounted: &Mounted<'_>, options: Options) -> Found<'static>
     ensures { found_told result
         ≡ examined options.endian options.geometry.block totals mounted.now }
 {
-    let told = (totals.damaged as u64).saturating_add(totals.missing as u64);
     Found {
-        counted: either(told, noted(mounted)),
+        counted: either(count_told(totals), noted(mounted)),
         note: read_noted(mounted, options, None),
     }
 }

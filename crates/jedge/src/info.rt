@@ -1,9 +1,10 @@
 //! `info`: what an image tells of itself, of which nobody says the byte order or the block size.
-ghost use Rattle.std.specs.Prelude.{◌≡◌, ◌≤◌, length};
-ghost use Rattle.flashbase.specs.Sinks.{change_of};
+ghost use Rattle.std.specs.Prelude.{◌≡◌, ◌≤◌, ◌++◌, IfOk, length};
+ghost use Rattle.flashbase.specs.Sinks.{PutsTo, change_of};
 ghost use Rattle.jscan.specs.Image.{greatest_image};
 ghost use Rattle.jinfo.specs.InfoText.{info_text};
 ghost use Rattle.jinfo.specs.Infos.{order_of};
+ghost use Rattle.jspare.specs.Showing.{spare_lines};
 ghost use Rattle.jedge.specs.Acts.{DoesFrom, PutsBy, Whole, seen_as};
 ghost use Rattle.jedge.specs.Commands.{info_act, informed};
 ghost use Rattle.jedge.specs.Told.{found_told};
@@ -12,9 +13,11 @@ use crate::fault::Fault;
 use crate::found::{Found, Note, finished};
 use crate::host::Host;
 use crate::reading::load;
-use flashbase::Sink;
+use crate::spare_host::find_spare;
+use flashbase::{DeviceFault, Sink};
 use jinfo::{InfoFault, container_of, put_info};
 use jnode::Endian;
+use jspare::{PageLayout, put_spare};
 
 /// What an image was found to be.
 fn informed(image: &[u8], order: Option<Endian>) -> Found<'static>
@@ -30,15 +33,49 @@ fn informed(image: &[u8], order: Option<Endian>) -> Found<'static>
     }
 }
 
-/// Puts all lines of an image, and answers what it was found to be.
-fn put_lines<T: Sink>(image: &[u8], sink: &mut T) -> Result<Found<'static>, Fault>
+/// Puts the lines of an image, and answers its byte order.
+fn put_image<T: Sink>(image: &[u8], sink: &mut T) -> Result<Option<Endian>, DeviceFault>
     requires { length image.now ≤ greatest_image }
-    ensures { PutsBy (Whole (info_text image.now) (informed image.now))
-        (change_of T.Sink sink.old sink.new) (seen_as found_told result) }
+    ensures puts { PutsTo T.Sink sink.old sink.new (info_text image.now) result }
+    ensures order { IfOk result (λ order. order ≡ order_of image.now) }
 {
     match put_info(image, sink) {
+        Ok(order) => Ok(order),
+        Err(InfoFault::Output | InfoFault::TooLarge) => Err(DeviceFault),
+    }
+}
+
+/// Puts them, and the layout that is told.
+fn put_all<T: Sink>(
+    image: &[u8],
+    spare: Option<PageLayout>,
+    sink: &mut T,
+) -> Result<Option<Endian>, DeviceFault>
+    requires { length image.now ≤ greatest_image }
+    ensures puts { PutsTo T.Sink sink.old sink.new (info_text image.now ++ spare_lines spare)
+        result }
+    ensures order { IfOk result (λ order. order ≡ order_of image.now) }
+{
+    let order = put_image(image, sink)?;
+    match put_spare(spare, sink) {
+        Ok(()) => Ok(order),
+        Err(DeviceFault) => Err(DeviceFault),
+    }
+}
+
+/// Puts all lines of an image, and answers what it was found to be.
+fn put_lines<T: Sink>(
+    image: &[u8],
+    spare: Option<PageLayout>,
+    sink: &mut T,
+) -> Result<Found<'static>, Fault>
+    requires { length image.now ≤ greatest_image }
+    ensures { PutsBy (Whole (info_text image.now ++ spare_lines spare) (informed image.now))
+        (change_of T.Sink sink.old sink.new) (seen_as found_told result) }
+{
+    match put_all(image, spare, sink) {
         Ok(order) => Ok(informed(image, order)),
-        Err(InfoFault::Output | InfoFault::TooLarge) => Err(Fault::Output),
+        Err(DeviceFault) => Err(Fault::Output),
     }
 }
 
@@ -51,11 +88,15 @@ pub fn info<H: Host>(host: &mut H, name: &str) -> Result<Found<'static>, Fault>
         Ok(image) => image,
         Err(fault) => return Err(fault),
     };
+    let spare = match find_spare(host.alloc(), image.as_slice()) {
+        Ok(spare) => spare,
+        Err(fault) => return Err(fault),
+    };
     let mut out = match host.output() {
         Ok(out) => out,
         Err(fault) => return Err(fault),
     };
-    let answer = put_lines(image.as_slice(), &mut out);
+    let answer = put_lines(image.as_slice(), spare, &mut out);
     let closed = host.close(out);
     finished(answer, closed)
 }

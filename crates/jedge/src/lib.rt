@@ -20,4 +20,5 @@ pub mod list;
 pub mod mounting;
 pub mod reading;
 pub mod reporting;
+pub mod spare_host;
 pub mod subject;

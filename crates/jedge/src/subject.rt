@@ -52,8 +52,8 @@ pub fn part_named(alloc: Global, word: Option<&str>) -> Result<Option<Vec<u8>>, 
 #[derive(Drop)]
 pub struct Subject {
     pub image: Vec<u8>,
-    /// How many findings the image has that was read, where this one is made of it.
-    pub findings: Option<u64>,
+    /// What is found in the image that was read, where this one is made of it.
+    pub found: Option<jreport::Found>,
     /// Where no node is found in the image that was read, how many the other byte order has.
     pub others: Option<u64>,
 }
@@ -100,7 +100,7 @@ fn made_view<E: Order>(
     match decompressed::<E>(alloc, image, geometry) {
         Ok(made) => Ok(Subject {
             image: made,
-            findings: Some(found_in::<E>(image, geometry).noted),
+            found: Some(found_in::<E>(image, geometry)),
             others,
         }),
         Err(fault) => Err(Fault::Refused(conversion_refusal(fault))),
@@ -122,7 +122,7 @@ fn view_of<E: Order>(
     } else {
         Ok(Subject {
             image,
-            findings: None,
+            found: None,
             others,
         })
     }

@@ -7,14 +7,15 @@ use Rattle.jcommand.specs.declared.command_line.RequestFault.TheVariants as refu
 use Rattle.jcommand.specs.declared.parsed.Command.{Command}
 use Rattle.jcommand.specs.declared.parsed.Command.TheVariants as command
 use Rattle.jcommand.specs.declared.parsed.Options.{Options}
-use Rattle.jcommand.specs.Requests.{with_options, writes_image}
-use Rattle.jauto.proofs.AutoLemmas.{auto_does_as_given, auto_looks, looking_makes_nothing}
+use Rattle.jcommand.specs.Requests.{images_read, with_options, writes_image}
+use Rattle.jauto.proofs.AutoLemmas.{auto_does_as_given, auto_looks, leaving_makes_nothing, looking_makes_nothing}
 use Rattle.jedge.specs.Acts.{Ends, GoesOn}
 use Rattle.jedge.specs.Calls.{Event}
 use Rattle.jedge.specs.declared.fault.Fault.{Fault}
 use Rattle.jedge.specs.declared.fault.Fault.TheVariants as fault
 use Rattle.jedge.specs.Commands.{Cat, Check, Damage, Diff, Info, Ls, reported}
 use Rattle.jedge.specs.Laws.{MakesNothing}
+use Rattle.jspare.specs.declared.layout.PageLayout.{PageLayout}
 use Rattle.jedge.proofs.LookingLemmas as looking
 use Rattle.jinspects.specs.InspectLaws.{CheckThrough, History, MapNodes}
 use Rattle.jinspects.proofs.InspectLookLemmas.{inspects_only}
@@ -34,7 +35,7 @@ use Rattle.jupdates.proofs.UpdateLaws.{build_compressed_leaves_files, update_lea
 use Rattle.jremakes.specs.Laws.{Apart, Compact, CompactApart, Compress, Decompress}
 use Rattle.jremakes.proofs.LeftLemmas.{remade_is_left}
 use Rattle.jffs2_image.specs.RunLaws.{AtomicCommandsLeaveFiles, AutoDoesAsGiven, IsAtomic, IsPrintedOnly, PrintingMakesNothing, Product, product_of}
-use Rattle.jffs2_image.specs.Running.{command_act, found_act, image_looked, refused_act, remaking_asked}
+use Rattle.jffs2_image.specs.Running.{command_act, found_act, image_looked, refused_act, remaking_asked, spare_act}
 
 -- ---- nothing is made
 
@@ -107,8 +108,18 @@ found_looks None asked is = command_looks asked is
 found_looks (Some image) asked is = auto_looks (writes_image asked) image _ (λ (o : Options).
     command_looks (with_options o asked) (subst (λ (p : Product). IsPrintedOnly p) (product_kept o asked) is))
 
+-- what is left out of its images changes no file
+leaving_looks : (spare : Option PageLayout) (looked : Option Text) (asked : Command Text) → MakesNothing (spare_act spare looked asked)
+leaving_looks (Some layout) looked asked = looking.spare_looks layout (images_read asked)
+leaving_looks None (Some image) asked = leaving_makes_nothing image
+leaving_looks None None asked = looking.answers_looks _
+
 pub printing_makes_nothing : PrintingMakesNothing
-printing_makes_nothing = (λ asked is. found_looks (image_looked asked) asked.command is, refused_looks)
+printing_makes_nothing = (
+  λ asked is. looking.step_looks (spare_act asked.spare (image_looked asked) asked.command) (λ _. found_act (image_looked asked) asked.command)
+      (leaving_looks asked.spare (image_looked asked) asked.command) (λ _. found_looks (image_looked asked) asked.command is),
+  refused_looks,
+)
 
 -- ---- with `--auto`
 
@@ -164,5 +175,13 @@ image_leaves : (image : Option Text) (asked : Command Text) (events : List Event
 image_leaves None asked events f atomic other did = command_leaves asked events f atomic other did
 image_leaves (Some image) asked events f atomic other did = found_leaves image asked events f atomic other did
 
+-- before that the spare bytes of its images are left out
 pub atomic_commands_leave_files : AtomicCommandsLeaveFiles
-atomic_commands_leave_files asked events f atomic other did = image_leaves (image_looked asked) asked.command events f atomic other did
+atomic_commands_leave_files asked events f atomic other (Ends g did is) =
+    let looks = leaving_looks asked.spare (image_looked asked) asked.command events (Err g) did in
+    let quiet = looks_quiet [] events looks in record { others = quiet.others; removed = quiet.removed }
+atomic_commands_leave_files asked events f atomic other (GoesOn done before after did more is) =
+    let rest = image_leaves (image_looked asked) asked.command after f atomic other more in
+    let looked = looks_quiet [] before (leaving_looks asked.spare (image_looked asked) asked.command before (Ok done) did) in
+    let quiet = quiet_then [] before after looked (record { others = rest.others; removed = rest.removed }) in
+    subst (λ (l : List Event). LeavesFiles l) (sym is) (record { others = quiet.others; removed = quiet.removed })

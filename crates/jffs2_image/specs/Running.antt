@@ -3,7 +3,7 @@
 use Rattle.std.specs.Prelude.{◌≡◌, ◌⊎◌, ℕ, if◌then◌else◌, List, Option, Some, None, Result, Ok, Err, string_bytes}
 use Rattle.clap.specs.Words.{Text}
 use Rattle.jcommand.specs.Parsed.{IsFaultless, IsHelpRequested, IsRefusedByClap}
-use Rattle.jcommand.specs.Requests.{IsUnreadable, image_read, request_from, with_options, writes_image}
+use Rattle.jcommand.specs.Requests.{IsUnreadable, image_read, images_read, request_from, with_options, writes_image}
 use Rattle.jcommand.specs.declared.command_line.RequestFault.{RequestFault}
 use Rattle.jcommand.specs.declared.command_line.RequestFault.TheVariants as refused
 use Rattle.jcommand.specs.declared.outcome.Outcome.{Outcome}
@@ -12,13 +12,16 @@ use Rattle.jcommand.specs.declared.parsed.Command.{Command}
 use Rattle.jcommand.specs.declared.parsed.Command.TheVariants as command
 use Rattle.jcommand.specs.declared.parsed.Conversion.{Conversion}
 use Rattle.jcommand.specs.declared.request.Request.{Request}
+use Rattle.jauto.specs.Leaving.{leaving_act}
 use Rattle.jauto.specs.Looking.{auto_act}
 use Rattle.jedge.specs.Acts.{Act, Then, Whole, answers, prints, says}
 use Rattle.jedge.specs.Calls.{Event}
 use Rattle.jedge.specs.Commands.{cat_act, check_act, damage_act, diff_act, info_act, list_act, reported}
+use Rattle.jedge.specs.Sparing.{leaves_spare}
 use Rattle.jedge.specs.Told.{Told}
 use Rattle.jedge.specs.declared.fault.Fault.{Fault}
 use Rattle.jedge.specs.declared.fault.Fault.TheVariants as fault
+use Rattle.jspare.specs.declared.layout.PageLayout.{PageLayout}
 use Rattle.jinspects.specs.Inspecting.{check_through_act, history_act, map_act}
 use Rattle.jreads.specs.Cutting.{cuts_act}
 use Rattle.jreads.specs.Scanning.{scan_act}
@@ -94,12 +97,26 @@ found_act None asked = command_act asked
 found_act (Some image) asked = auto_act (writes_image asked) image
     (λ options. command_act (with_options options asked))
 
+-- ---- spare bytes
+
+-- With `--oob` the images that the command reads are dumps of which each page has spare bytes
+-- behind it: of them the pages alone are read. With `--auto` and no layout that is found, if the
+-- image that options are found in shows one.
+abbrev pub spare_act : Option PageLayout → Option Text → Command Text → Act Unit
+spare_act (Some layout) looked asked = leaves_spare layout (images_read asked)
+spare_act None (Some image) asked = leaving_act image
+spare_act None None asked = answers (λ result. result ≡ Ok (tt {0}))
+
+-- ---- what is asked for
+
 -- the image that options are found in, with `--auto`
 abbrev pub image_looked : Request Text → Option Text
 image_looked request = if request.auto then image_read request.command else None
 
 abbrev pub request_act : Request Text → Act Told
-request_act request = found_act (image_looked request) request.command
+request_act request =
+    Then (spare_act request.spare (image_looked request) request.command) (λ _.
+    found_act (image_looked request) request.command)
 
 -- ---- the words
 
@@ -135,6 +152,7 @@ AsksFor words (Err refused.OutOfMemory) = Unit {0}
 -- rule: What is printed: What a run of the program does.
 --   definitions: jffs2_image.Running.run_act, jffs2_image.Running.AsksFor,
 --   jffs2_image.Running.asked_act, jffs2_image.Running.request_act,
+--   jffs2_image.Running.spare_act,
 --   jffs2_image.Running.command_act
 --   code: jffs2_image::program::run, jffs2_image::commands::run_command
 -- The words ask for something, and the host does it.

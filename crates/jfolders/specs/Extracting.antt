@@ -11,6 +11,7 @@ use Rattle.jextract.specs.declared.totals.Totals.{Totals}
 use Rattle.jhint.specs.Hints.{hint_lines}
 use Rattle.jhint.specs.declared.hint.Hint.{Hint}
 use Rattle.jreport.specs.ExtractionNotes.{attribute_count, extraction_notes_of}
+use Rattle.jreport.specs.FoundIn.{found_count}
 use Rattle.jreport.specs.Notes.{noted as findings}
 use Rattle.jreport.specs.declared.faults.ProgramFault.TheVariants as program
 use Rattle.jreport.specs.declared.findings.Found.{Found}
@@ -48,9 +49,10 @@ extraction_noted hint found totals =
     if (found.noted == 0) && (totals.lost_bits == 0) && (found.attributes == 0) then None
     else Some (extraction_notes_of found.noted totals.lost_bits found.attributes ++ hint_lines hint)
 
--- objects that were left out are found, or else the findings of the image
+-- objects that were left out are found, or else the findings of the image, or else its extended
+-- attributes
 abbrev pub extracted_told : Option Hint → Found → Totals → Told
 extracted_told hint found totals = record {
-  counted = either totals.left_out found.noted;
+  counted = either totals.left_out (found_count found);
   noted = extraction_noted hint found totals;
 }

@@ -78,7 +78,7 @@ fn extracted(hint: Option<Hint>, found: jreport::Found, totals: Totals) -> Found
     ensures { found_told result ≡ extracted_told hint found totals }
 {
     Found {
-        counted: either(totals.left_out, found.noted),
+        counted: either(totals.left_out, found.count()),
         note: extraction_noted(hint, found, totals),
     }
 }

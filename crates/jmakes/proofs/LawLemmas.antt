@@ -30,7 +30,7 @@ use Rattle.jmakes.specs.Laws.{BlamesMaking, ComesLate, IsOfWriting, IsWriteBlame
 use Rattle.jmakes.specs.Leaving.{LeavesFiles}
 use Rattle.jmakes.specs.Making.{FileMade, WantedFile, makes}
 use Rattle.jmakes.specs.Notes.{TakesNotes, WeakNotes, written_told}
-use Rattle.jmakes.specs.Writing.{Done, Emission, Emits, EndsAs, HasLaterMemory, HasOps, ImageWanted, Numbered, IsStartedBehind, WholeLine, all_ran, base_image, ending_of, mounts_in, not_written, note_on, plan_on, prints_accepted, writes_from, writes_lines, writes_on}
+use Rattle.jmakes.specs.Writing.{Done, Emission, Emits, EndsAs, HasLaterMemory, HasOps, ImageWanted, Numbered, IsStartedBehind, WholeLine, all_ran, base_image, ending_of, mounts_in, not_written, told_on, plan_on, prints_accepted, writes_from, writes_lines, writes_on}
 use Rattle.jmakes.proofs.BlamingLemmas.{made_blamed, makes_blamed}
 use Rattle.jmakes.proofs.EndingLemmas.{EndsBadly, IsOfStop, ends_badly, unnamed_at_fault}
 use Rattle.jmakes.proofs.LeavingLemmas.{IsQuiet, happened_after, looks_quiet, makes_leave, quiet_then}
@@ -152,13 +152,13 @@ from_leaves_by wanted m of events f atomic other (NotPrinted is blames) = absurd
 from_leaves : (wanted : ImageWanted) (m : Mount) (of : Numbered) (from : ℕ) (told : Told) → LeavesAtFault wanted.file (writes_from wanted m of from told)
 from_leaves wanted m of from told events f atomic other did = from_leaves_by wanted m of events f atomic other (from_cases wanted m of from told events f did)
 
-pub on_leaves : (wanted : ImageWanted) (note : Option (List ℕ)) (m : Mount) (of : Numbered) → LeavesAtFault wanted.file (writes_on wanted note m of)
-on_leaves wanted note m of = then_leaves wanted.file _ _ (answers_looks _) (λ (from : ℕ).
-    then_leaves wanted.file _ _ (answers_looks _) (λ (notes : WeakNotes). from_leaves wanted m of from (written_told note notes)))
+pub on_leaves : (wanted : ImageWanted) (base : Told) (m : Mount) (of : Numbered) → LeavesAtFault wanted.file (writes_on wanted base m of)
+on_leaves wanted base m of = then_leaves wanted.file _ _ (answers_looks _) (λ (from : ℕ).
+    then_leaves wanted.file _ _ (answers_looks _) (λ (notes : WeakNotes). from_leaves wanted m of from (written_told base notes)))
 
 pub lines_leave : (wanted : ImageWanted) (base : Option Viewed) (files : List ℕ → List ℕ) (lines : List Line) → LeavesAtFault wanted.file (writes_lines wanted base files lines)
 lines_leave wanted base files lines = then_leaves wanted.file _ _ (answers_looks _) (λ (of : Numbered).
-    then_leaves wanted.file _ _ (answers_looks _) (λ (m : Mount). on_leaves wanted (note_on base m) m of))
+    then_leaves wanted.file _ _ (answers_looks _) (λ (m : Mount). on_leaves wanted (told_on base m) m of))
 
 -- ---- all is judged before a file is made
 
@@ -198,7 +198,7 @@ pub lines_judge : (wanted : ImageWanted) (base : Option Viewed) (files : List �
 lines_judge wanted base files lines = then_judges wanted.file _ _ (answers_looks _) (λ (of : Numbered).
     then_judges wanted.file _ _ (answers_looks _) (λ (m : Mount).
     then_judges wanted.file _ _ (answers_looks _) (λ (from : ℕ).
-    then_judges wanted.file _ _ (answers_looks _) (λ (notes : WeakNotes). from_judges wanted m of from (written_told (note_on base m) notes)))))
+    then_judges wanted.file _ _ (answers_looks _) (λ (notes : WeakNotes). from_judges wanted m of from (written_told (told_on base m) notes)))))
 
 -- ---- a fault is an event
 
@@ -246,4 +246,4 @@ lines_blamed wanted base files lines = then_blamed wanted.file _ _ (λ events f 
     then_blamed wanted.file _ _ (failed_blamed {A = Mount} wanted.file (mounts_in wanted (base_image base)) (mounts_blame wanted.order wanted.flash.geometry.block (base_image base))) (λ (m : Mount).
     then_blamed wanted.file _ _ (λ events f did. inl (start_of_bytes wanted.order wanted.flash m events f did.1)) (λ (from : ℕ).
     then_blamed wanted.file _ _ (λ events f did. memory_blamed wanted.file.name events f (notes_memory wanted.weak wanted.order wanted.flash m of.ops f did.1)) (λ (notes : WeakNotes).
-    from_blamed wanted m of from (written_told (note_on base m) notes)))))
+    from_blamed wanted m of from (written_told (told_on base m) notes)))))

@@ -1,3 +1,4 @@
+pub mod BaseLemmas
 pub mod BlamingLemmas
 pub mod CommandLaws
 pub mod EmissionLemmas

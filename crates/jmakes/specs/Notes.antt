@@ -1,4 +1,4 @@
--- Notes on the weak nodes of an image that is written.
+-- Notes on the base of an image that is written, and on its weak nodes.
 use Rattle.std.specs.Prelude.{◌≡◌, ◌==◌, ◌++◌, ℕ, Bool, true, false, codes, flat_map, length, if◌then◌else◌, List, [], Option, Some, None, Result, Ok, Err, IsOk}
 use Rattle.std.specs.Option.{option_map_or}
 use Rattle.jnode.specs.declared.order.Endian.{Endian}
@@ -11,7 +11,9 @@ use Rattle.jlog.specs.declared.start.Flash.{Flash}
 use Rattle.jcuts.specs.Lines.{weak_count, weak_line}
 use Rattle.jcuts.specs.Telling.{standings_told}
 use Rattle.jcuts.specs.declared.standing.Standing.{Standing}
-use Rattle.jedge.specs.Told.{Told}
+use Rattle.jreport.specs.ExtractionNotes.{left_attributes_line_of}
+use Rattle.jedge.specs.Commands.{shown_noted}
+use Rattle.jedge.specs.Told.{Told, either}
 use Rattle.jedge.specs.declared.fault.Fault.{Fault}
 use Rattle.jedge.specs.declared.fault.Fault.TheVariants as fault
 
@@ -71,7 +73,25 @@ abbrev pub text_or_none : Option (List ℕ) → List ℕ
 text_or_none None = []
 text_or_none (Some text) = text
 
--- a weak node is found; the note on the base comes before those on nodes
-abbrev pub written_told : Option (List ℕ) → WeakNotes → Told
-written_told note notes =
-    record { counted = notes.weak; noted = both_said note (weak_notes_said notes) }
+-- the note on so many nodes of extended attributes that are left out, if there are any
+abbrev pub attributes_noted : ℕ → Option (List ℕ)
+attributes_noted n = if n == 0 then None else Some (left_attributes_line_of n)
+
+-- What is told of a base: its findings, or that no node is found in the image that was read, and
+-- the extended attributes of that image that are left out. These are found.
+abbrev pub base_told : ℕ → ℕ → Option ℕ → Told
+base_told findings attributes others = record {
+  counted = attributes;
+  noted = both_said (shown_noted findings others) (attributes_noted attributes);
+}
+
+-- of an empty base
+abbrev pub none_told : Told
+none_told = record { counted = 0; noted = None }
+
+-- a weak node is found, or else what is found of the base; what is told of that comes first
+abbrev pub written_told : Told → WeakNotes → Told
+written_told base notes = record {
+  counted = either notes.weak base.counted;
+  noted = both_said base.noted (weak_notes_said notes);
+}

@@ -1,12 +1,11 @@
 -- What is asked for and what comes of it, as acts see them.
-use Rattle.std.specs.Prelude.{ℕ, List, Option, Some, None, Result, Ok, Err}
+use Rattle.std.specs.Prelude.{Option, Some, None, Result, Ok, Err}
 use Rattle.jnode.specs.declared.order.Endian.{Endian}
 use Rattle.jbuild.specs.declared.emitting.EmitFault.{EmitFault}
 use Rattle.jbuild.specs.declared.emitting.Emitted.{Emitted}
-use Rattle.jedge.specs.Commands.{shown_noted}
 use Rattle.jedge.specs.Told.{Told}
 use Rattle.jmakes.specs.Making.{FileMade, wanted_file}
-use Rattle.jmakes.specs.Notes.{WeakNotes, written_told}
+use Rattle.jmakes.specs.Notes.{WeakNotes, base_told, none_told, written_told}
 use Rattle.jmakes.specs.Writing.{Done, Emission, ImageWanted, NotRun, Numbered, Ran, Run}
 use Rattle.jmakes.specs.declared.asked.ImageToWrite.{ImageToWrite}
 use Rattle.jmakes.specs.declared.base_note.BaseNote.{BaseNote}
@@ -52,12 +51,12 @@ image_seen made = record { answer = emission_seen made.emitted; closed = made.cl
 abbrev pub done_seen : DoneOps → Done
 done_seen done = record { accepted = done.accepted; places = done.places.items }
 
-abbrev pub base_noted : BaseNote → Option (List ℕ)
-base_noted note = shown_noted note.findings note.others
+abbrev pub base_seen : BaseNote → Told
+base_seen note = base_told note.findings note.attributes note.others
 
-abbrev pub noted_seen : Option BaseNote → Option (List ℕ)
-noted_seen None = None
-noted_seen (Some note) = base_noted note
+abbrev pub note_seen : Option BaseNote → Told
+note_seen None = none_told
+note_seen (Some note) = base_seen note
 
 abbrev pub told_seen : Written → Told
-told_seen written = written_told (noted_seen written.note) (notes_seen written.weak)
+told_seen written = written_told (note_seen written.note) (notes_seen written.weak)

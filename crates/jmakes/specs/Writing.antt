@@ -30,10 +30,10 @@ use Rattle.jreport.specs.declared.cause.Cause.TheVariants as causes
 use Rattle.jreport.specs.declared.cause.Plan.{Plan}
 use Rattle.jreport.specs.declared.faults.ProgramFault.{ProgramFault}
 use Rattle.jreport.specs.declared.faults.ProgramFault.TheVariants as program
+use Rattle.jreport.specs.declared.findings.Found.{Found}
 use Rattle.jreport.specs.declared.reason.Reason.{Reason}
 use Rattle.jreport.specs.declared.reason.Reason.TheVariants as because
 use Rattle.jedge.specs.Acts.{Act, Saying, Then, answers, prints_put}
-use Rattle.jedge.specs.Commands.{shown_noted}
 use Rattle.jedge.specs.Images.{MountsOrRefuses}
 use Rattle.jedge.specs.Told.{Told}
 use Rattle.jedge.specs.Views.{Viewed}
@@ -41,7 +41,7 @@ use Rattle.jedge.specs.declared.fault.FailedFile.{FailedFile}
 use Rattle.jedge.specs.declared.fault.Fault.{Fault}
 use Rattle.jedge.specs.declared.fault.Fault.TheVariants as fault
 use Rattle.jmakes.specs.Making.{FileMade, FileSaying, WantedFile, makes}
-use Rattle.jmakes.specs.Notes.{WeakNotes, TakesNotes, written_told}
+use Rattle.jmakes.specs.Notes.{WeakNotes, TakesNotes, base_told, none_told, written_told}
 use Rattle.jmakes.specs.declared.wanted.CloseFault.{CloseFault}
 use Rattle.jmakes.specs.declared.wanted.CloseFault.TheVariants as close
 use Rattle.jmakes.specs.declared.wanted.Filling.{Filling}
@@ -243,14 +243,20 @@ EndsAs name (Nameless reason) result = (file : FailedFile) × (result ≡ Err (f
 -- ---- acts
 
 -- how many findings are noted of a base: those of the image that was read
-abbrev pub findings_shown : Option ℕ → ℕ → ℕ
+abbrev pub findings_shown : Option Found → ℕ → ℕ
 findings_shown None n = n
-findings_shown (Some read) n = read
+findings_shown (Some read) n = read.noted
 
--- the note on a base that was read, if it was
-abbrev pub note_on : Option Viewed → Mount → Option (List ℕ)
-note_on None m = None
-note_on (Some view) m = shown_noted (findings_shown view.findings (findings m)) view.others
+-- how many nodes of extended attributes that image has, of which the base has none
+abbrev pub attributes_lost : Option Found → ℕ
+attributes_lost None = 0
+attributes_lost (Some read) = read.attributes
+
+-- what is told of a base that was read, if it was
+abbrev pub told_on : Option Viewed → Mount → Told
+told_on None m = none_told
+told_on (Some view) m =
+    base_told (findings_shown view.found (findings m)) (attributes_lost view.found) view.others
 
 abbrev pub base_image : Option Viewed → List ℕ
 base_image None = []
@@ -284,11 +290,11 @@ writes_from wanted m of from told =
     (prints_accepted from told)))
 
 -- where writing goes on is judged, and the notes are taken
-abbrev pub writes_on : ImageWanted → Option (List ℕ) → Mount → Numbered → Act Told
-writes_on wanted note m of =
+abbrev pub writes_on : ImageWanted → Told → Mount → Numbered → Act Told
+writes_on wanted base m of =
     Then (answers (IsStartedBehind wanted.order wanted.flash m)) (λ from.
     Then (answers (TakesNotes wanted.weak wanted.order wanted.flash m of.ops)) (λ notes.
-    writes_from wanted m of from (written_told note notes)))
+    writes_from wanted m of from (written_told base notes)))
 
 -- an image is mounted in the order that is written, by its blocks
 abbrev pub mounts_in : ImageWanted → List ℕ → Act Mount
@@ -300,4 +306,4 @@ abbrev pub writes_lines : ImageWanted → Option Viewed → (List ℕ → List �
 writes_lines wanted base files lines =
     Then (answers (HasOps wanted.order files lines)) (λ of.
     Then (mounts_in wanted (base_image base)) (λ m.
-    writes_on wanted (note_on base m) m of))
+    writes_on wanted (told_on base m) m of))

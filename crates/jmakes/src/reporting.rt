@@ -4,16 +4,17 @@ ghost use Rattle.flashbase.specs.Sinks.{PutsTo};
 ghost use Rattle.jedge.specs.Acts.{DoesFrom, says, seen_as};
 ghost use Rattle.jedge.specs.Commands.{ends};
 ghost use Rattle.jmakes.specs.Notes.{both_said, text_or_none, weak_notes_said};
-ghost use Rattle.jmakes.specs.Seen.{noted_seen, notes_seen, told_seen};
+ghost use Rattle.jmakes.specs.Seen.{note_seen, notes_seen, told_seen};
 
-use crate::base_note::{BaseNote, put_base, told_of};
+use crate::base_note::{BaseNote, attributes_lost, put_base, say_base};
 use crate::notes::Notes;
 use crate::written::Written;
 use flashbase::{DeviceFault, Sink, put_all};
 use jcommand::Outcome;
+use jedge::damage::either;
 use jedge::fault::Fault;
 use jedge::host::Host;
-use jedge::reporting::{report, say_noted};
+use jedge::reporting::report;
 
 /// Puts a text.
 fn put_text<T: Sink>(text: &[u8], sink: &mut T) -> Result<(), DeviceFault>
@@ -25,9 +26,10 @@ fn put_text<T: Sink>(text: &[u8], sink: &mut T) -> Result<(), DeviceFault>
     }
 }
 
-/// Puts a note, if there is one, and a text behind it.
+/// Puts what is noted of a base, if there is anything, and a text behind it.
 fn put_both<T: Sink>(note: Option<BaseNote>, text: &[u8], sink: &mut T) -> Result<(), DeviceFault>
-    ensures { PutsTo T.Sink sink.old sink.new (text_or_none (noted_seen note) ++ text.now) result }
+    ensures { PutsTo T.Sink sink.old sink.new
+        (text_or_none (note_seen note).noted ++ text.now) result }
 {
     put_base(note, sink)?;
     put_text(text, sink)
@@ -36,20 +38,21 @@ fn put_both<T: Sink>(note: Option<BaseNote>, text: &[u8], sink: &mut T) -> Resul
 /// Says them.
 fn say_both<H: Host>(host: &mut H, note: Option<BaseNote>, text: &[u8])
     ensures { DoesFrom (H.history host.old) (H.history host.new)
-        (says (Some (text_or_none (noted_seen note) ++ text.now))) (Ok result) }
+        (says (Some (text_or_none (note_seen note).noted ++ text.now))) (Ok result) }
 {
     let mut errors = host.errors();
     let _ = put_both(note, text, &mut errors);
     host.close_errors(errors);
 }
 
-/// Says the note on a base, if there is one, and behind it those on weak nodes.
+/// Says what is noted of a base, if there is anything, and behind it the notes on weak nodes.
 fn say_written<H: Host>(host: &mut H, note: Option<BaseNote>, weak: &Notes)
     ensures { DoesFrom (H.history host.old) (H.history host.new)
-        (says (both_said (noted_seen note) (weak_notes_said (notes_seen weak.now)))) (Ok result) }
+        (says (both_said (note_seen note).noted (weak_notes_said (notes_seen weak.now))))
+        (Ok result) }
 {
     if weak.weak == 0 {
-        say_noted(host, told_of(note));
+        say_base(host, note);
     } else {
         say_both(host, note, &weak.text);
     }
@@ -63,7 +66,7 @@ pub fn report_written<H: Host>(host: &mut H, answer: Result<Written, Fault>) -> 
     match answer {
         Ok(written) => {
             say_written(host, written.note, &written.weak);
-            Outcome::of(written.weak.weak)
+            Outcome::of(either(written.weak.weak, attributes_lost(written.note)))
         }
         Err(fault) => report(host, Err(fault)),
     }

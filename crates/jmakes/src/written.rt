@@ -5,7 +5,7 @@ ghost use Rattle.jlog.specs.View.{address_of, flash_of_start, mount_of};
 ghost use Rattle.jmount.specs.Mounts.{IsMountOf};
 ghost use Rattle.jedge.specs.Acts.{DoesFrom, seen_as};
 ghost use Rattle.jedge.specs.Views.{viewed};
-ghost use Rattle.jmakes.specs.Seen.{done_seen, image_to_write, noted_seen, numbered_seen, told_seen};
+ghost use Rattle.jmakes.specs.Seen.{done_seen, image_to_write, note_seen, numbered_seen, told_seen};
 ghost use Rattle.jmakes.specs.Writing.{IsStartedBehind, base_image, line_answer, prints_accepted, writes_from, writes_lines, writes_on};
 
 use crate::asked::ImageToWrite;
@@ -159,7 +159,7 @@ fn write_on<E: Order, H: FileHost>(
     requires mount { IsMountOf E.order image.flash.geometry.block mounted.now }
     requires numbered { length of.now.numbers.items ≡ length of.now.ops.items }
     ensures { DoesFrom (H.history host.old) (H.history host.new)
-        (writes_on (image_to_write E.order image.entry) (noted_seen note) mounted.now
+        (writes_on (image_to_write E.order image.entry) (note_seen note) mounted.now
         (numbered_seen of.now)) (seen_as told_seen result) }
 {
     let start = match start_on::<E>(mounted, image.flash) {

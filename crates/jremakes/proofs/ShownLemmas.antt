@@ -25,8 +25,8 @@ use Rattle.jremakes.proofs.JudgedLemmas.{IsTakenIn, takes_taken}
 use Rattle.jremakes.specs.Asked.{AskedRemaking}
 use Rattle.jremakes.specs.Commands.{compacts, compacts_apart}
 use Rattle.jremakes.specs.Compacting.{CompactPlan, IsCompactPlan, IsCompactable, compact_blocks}
-use Rattle.jremakes.specs.CompactingApart.{compacted_apart_told}
 use Rattle.jremakes.specs.Laws.{CompactedApartShows, CompactedShowsTree, ShowsWhatStays, ShowsWhatWasRead, WentOut}
+use Rattle.jremakes.specs.Leaving.{left_out_told}
 use Rattle.jremakes.specs.Putting.{ComesTo, PutsAll, TakesMemory, TellsLine, remakes}
 use Rattle.jremakes.specs.declared.remaking.Unput.{Unput}
 use Rattle.jremakes.specs.declared.remaking.Unput.TheVariants as unput
@@ -174,14 +174,14 @@ then_told first next told one events y (GoesOn x before after did more is) = one
 record ShowsStaying (e : Endian) (size : ℕ) (file : WantedFile) (image : List ℕ) (events : List Event) (told : Told) : Type 0 where
   left : List LeftOut
   made : MakesOf (ShowsApart e size image left) file events
-  told_is : told ≡ compacted_apart_told left (found_in e size image)
+  told_is : told ≡ left_out_told left (found_in e size image)
 
 apart_shown : (e : Endian) (size blocks : ℕ) (file : WantedFile) (image : List ℕ) (events : List Event) (told : Told) → compacts_apart e size blocks file image events (Ok told)
     → ShowsStaying e size file image events told
 apart_shown e size blocks file image events told (Ends f did is) = let no : ⊥ = cc in absurd no
 apart_shown e size blocks file image events told (GoesOn plan before after did more is) =
     let Shows : List ℕ → Type 0 = ShowsApart e size image plan.left in
-    let says : Told = compacted_apart_told plan.left (found_in e size image) in record {
+    let says : Told = left_out_told plan.left (found_in e size image) in record {
       left = plan.left;
       made = made_after Shows file before after is
           (memory_made Shows file (copied_image e size image plan.addresses) _ after told

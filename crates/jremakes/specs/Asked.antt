@@ -2,7 +2,7 @@
 use Rattle.std.specs.Prelude.{◌≡◌, ℕ, Bool, IsFalse, IsTrue, List, None, Result, Ok, Err, string_bytes}
 use Rattle.jnode.specs.declared.order.Endian.{Endian}
 use Rattle.jcommand.specs.declared.parsed.Options.{Options}
-use Rattle.jreport.specs.FoundIn.{HasFindings, found_in}
+use Rattle.jreport.specs.FoundIn.{HasFindings, found_count, found_in}
 use Rattle.jedge.specs.Acts.{Act, Then, answers, loads}
 use Rattle.jedge.specs.Images.{HasNodes}
 use Rattle.jedge.specs.declared.fault.Fault.{Fault}
@@ -51,7 +51,7 @@ IsFindingsOf name n fault.OutOfMemory = Unit {0}
 abbrev pub MayBeReplaced : Endian → AskedRemaking → Bool → List ℕ → Result Unit Fault → Type 0
 MayBeReplaced e asked over image (Ok _) = WouldReplace e asked over image → ⊥
 MayBeReplaced e asked over image (Err f) = WouldReplace e asked over image
-    × IsFindingsOf asked.image (found_in e asked.options.geometry.block image).noted f
+    × IsFindingsOf asked.image (found_count (found_in e asked.options.geometry.block image)) f
 
 -- this is answered; nothing happens
 abbrev pub gives : {A : Type 0} → A → Act A

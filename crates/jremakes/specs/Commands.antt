@@ -6,19 +6,14 @@ use Rattle.jconvert.specs.Converting.{converted_image}
 use Rattle.jreport.specs.ConvertedLine.{compression_line, decompressed_line}
 use Rattle.jreport.specs.FoundIn.{found_in}
 use Rattle.jedge.specs.Acts.{Act, Then, answers, prints_put}
-use Rattle.jedge.specs.Commands.{findings_noted}
 use Rattle.jedge.specs.Told.{Told}
 use Rattle.jmakes.specs.Making.{WantedFile}
 use Rattle.jremakes.specs.Asked.{AskedRemaking, takes_original}
 use Rattle.jremakes.specs.Compacting.{IsCompactable, compact_blocks, compacted_line}
-use Rattle.jremakes.specs.CompactingApart.{IsCompactableApart, compacted_apart_told}
+use Rattle.jremakes.specs.CompactingApart.{IsCompactableApart}
 use Rattle.jremakes.specs.Judging.{ArePartedOf, IsCompressible, IsConvertible}
-use Rattle.jremakes.specs.Leaving.{compacted_told, left_out_told}
+use Rattle.jremakes.specs.Leaving.{left_out_told, remade_told}
 use Rattle.jremakes.specs.Putting.{PutsAll, PutsCompressed, PutsNodes, TakesMemory, TellsLine, remakes}
-
--- the findings of the image that was read are noted, and found
-abbrev pub remade_told : ℕ → Told
-remade_told n = record { counted = n; noted = findings_noted n }
 
 -- ---- `decompress`
 
@@ -29,7 +24,7 @@ converts e size file image =
     Then (answers TakesMemory) (λ _.
     Then (remakes file (PutsAll (converted_image e size image) (tt {0}))) (λ _.
     prints_put (TellsLine (decompressed_line told.changed told.nodes told.bytes)
-    (remade_told (found_in e size image).noted)))))
+    (remade_told (found_in e size image))))))
 
 -- rule: Building and extending: `decompress`, as an act.
 --   definitions: jremakes.Commands.decompress_act
@@ -51,7 +46,7 @@ packs e size file image =
     Then (answers TakesMemory) (λ _.
     Then (remakes file (PutsCompressed e size image)) (λ done.
     prints_put (TellsLine (compression_line done.0 nodes done.1)
-    (remade_told (found_in e size image).noted)))))
+    (remade_told (found_in e size image))))))
 
 -- rule: Building and extending: `compress`, as an act.
 --   definitions: jremakes.Commands.compress_act
@@ -74,7 +69,7 @@ leaves_out e size file image =
     Then (answers TakesMemory) (λ _.
     Then (remakes file (PutsNodes e size parted.stay)) (λ bytes.
     prints_put (TellsLine (decompressed_line told.changed (length parted.stay) bytes)
-    (left_out_told parted.left (found_in e size image).noted))))))
+    (left_out_told parted.left (found_in e size image)))))))
 
 -- rule: Building and extending: `decompress --clashes higher`, as an act.
 --   definitions: jremakes.Commands.apart_act
@@ -96,7 +91,7 @@ compacts e size blocks file image =
     Then (answers TakesMemory) (λ _.
     Then (remakes file (PutsAll (copied_image e size image plan.addresses) (tt {0}))) (λ _.
     prints_put (TellsLine (compacted_line (length plan.addresses) plan.nodes plan.bytes)
-    (compacted_told (found_in e size image))))))
+    (remade_told (found_in e size image))))))
 
 -- rule: Building and extending: `compact`, as an act.
 --   definitions: jremakes.Commands.compact_act
@@ -120,7 +115,7 @@ compacts_apart e size blocks file image =
     Then (answers TakesMemory) (λ _.
     Then (remakes file (PutsAll (copied_image e size image plan.addresses) (tt {0}))) (λ _.
     prints_put (TellsLine (compacted_line (length plan.addresses) plan.nodes plan.bytes)
-    (compacted_apart_told plan.left (found_in e size image))))))
+    (left_out_told plan.left (found_in e size image))))))
 
 -- rule: Building and extending: `compact --clashes higher`, as an act.
 --   definitions: jremakes.Commands.compact_apart_act

@@ -1,6 +1,6 @@
 -- What `compact --clashes higher` judges of an image before a file is made: which nodes stay, which
 -- of these matter, and whether a flash has room for them.
-use Rattle.std.specs.Prelude.{◌≡◌, ℕ, List, [], ◌∷◌, ◌++◌, length, Option, Some, Result, Ok, Err}
+use Rattle.std.specs.Prelude.{◌≡◌, ℕ, List, Result, Ok, Err}
 use Rattle.jnode.specs.declared.order.Endian.{Endian}
 use Rattle.jclash.specs.declared.parting.LeftOut.{LeftOut}
 use Rattle.jcollect.specs.PlanningApart.{ArePlannedApart, IsUnplannedApart}
@@ -8,14 +8,10 @@ use Rattle.jcollect.specs.declared.apart.PlanApart.{PlanApart}
 use Rattle.jcollect.specs.declared.fault.ThroughFault.{ThroughFault}
 use Rattle.jcollect.specs.declared.fault.ThroughFault.TheVariants as through
 use Rattle.jreport.specs.declared.faults.ProgramFault.{ProgramFault}
-use Rattle.jreport.specs.declared.findings.Found.{Found}
 use Rattle.jedge.specs.Images.{view_refusal}
-use Rattle.jedge.specs.Told.{Told, either}
 use Rattle.jedge.specs.declared.fault.Fault.{Fault}
 use Rattle.jedge.specs.declared.fault.Fault.TheVariants as fault
 use Rattle.jremakes.specs.Compacting.{collect_refusal}
-use Rattle.jremakes.specs.Leaving.{clashing_lines, compacted_noted, compacted_notes}
-use Rattle.jremakes.specs.declared.compact_apart.ApartCompacted.{ApartCompacted}
 
 -- the nodes that stay are not mounted, or do not go out, as the program tells it
 abbrev pub apart_refusal : ℕ → ℕ → ThroughFault → ProgramFault
@@ -54,20 +50,3 @@ IsCompactableApart e size blocks image (Err (fault.Refused why)) = (refused : Th
     × (why ≡ apart_refusal size blocks refused) × IsUnplannedApart e size blocks image refused
 IsCompactableApart e size blocks image (Err fault.Output) = ⊥
 IsCompactableApart e size blocks image (Err fault.OutOfMemory) = ⊥
-
--- ---- what is told
-
--- the lines of the nodes that are left out, and behind them what `compact` notes
-abbrev pub compacted_apart_noted : List LeftOut → Found → Option (List ℕ)
-compacted_apart_noted [] found = compacted_noted found
-compacted_apart_noted (l ∷ ls) found = Some (clashing_lines (l ∷ ls) ++ compacted_notes found)
-
--- nodes that are left out are found, or else what `compact` finds
-abbrev pub compacted_apart_told : List LeftOut → Found → Told
-compacted_apart_told left found = record {
-  counted = either (length left) (either found.noted found.attributes);
-  noted = compacted_apart_noted left found;
-}
-
-abbrev pub apart_compacted_told : ApartCompacted → Told
-apart_compacted_told done = compacted_apart_told done.left.items done.found

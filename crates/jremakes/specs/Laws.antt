@@ -20,7 +20,8 @@ use Rattle.jmakes.specs.Making.{filled_to, written_out}
 use Rattle.jremakes.specs.Asked.{AskedRemaking, WouldReplace}
 use Rattle.jremakes.specs.Commands.{apart_act, compact_act, compact_apart_act, compress_act, decompress_act}
 use Rattle.jremakes.specs.Compacting.{CompactPlan, IsCompactPlan, compact_blocks}
-use Rattle.jremakes.specs.CompactingApart.{CompactApartPlan, IsCompactApartPlan, compacted_apart_told}
+use Rattle.jremakes.specs.CompactingApart.{CompactApartPlan, IsCompactApartPlan}
+use Rattle.jremakes.specs.Leaving.{left_out_told}
 use Rattle.jremakes.specs.Putting.{unwritten_by}
 
 -- a command, and what is asked of it
@@ -140,7 +141,7 @@ pub record ShowsWhatStays (asked : AskedRemaking) (events : List Event) (told : 
   pub read : Happened (Did (Read asked.image image)) events
   pub shows : ShowsApart asked.options.endian asked.options.geometry.block image left out
   pub put : WentOut (filled_to asked.output.filling out) events
-  pub told_is : told ≡ compacted_apart_told left
+  pub told_is : told ≡ left_out_told left
       (found_in asked.options.endian asked.options.geometry.block image)
 
 abbrev pub CompactedApartShows : Type 0

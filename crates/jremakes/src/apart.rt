@@ -25,15 +25,15 @@ use jedge::host::Host;
 use jmakes::host::FileHost;
 use jmakes::wanted::Wanted;
 use jnode::{NodeRef, Order};
-use jreport::found_in;
+use jreport::{Found, found_in};
 use jscan::Geometry;
 use std::alloc::Global;
 
-/// What came of an image without nodes that clash: how many findings the image has that was read,
-/// and the nodes that are left out.
+/// What came of an image without nodes that clash: what is found in the image that was read, and
+/// the nodes that are left out.
 #[derive(Drop)]
 pub struct ApartDone {
-    pub findings: u64,
+    pub found: Found,
     pub left: Vec<LeftOut>,
 }
 
@@ -117,7 +117,7 @@ fn leave_out<E: Order, H: FileHost>(
     };
     match print_converted(host, out, told) {
         Ok(()) => Ok(ApartDone {
-            findings: found_in::<E>(image, geometry).noted,
+            found: found_in::<E>(image, geometry),
             left: parted.left,
         }),
         Err(fault) => Err(fault),

@@ -11,9 +11,8 @@ use crate::compact::compact;
 use crate::compact_apart::compact_apart;
 use crate::compress::compress;
 use crate::decompress::decompress;
-use crate::leaving::{report_apart, report_compacted, report_compacted_apart};
+use crate::leaving::{report_apart, report_remade};
 use jcommand::Outcome;
-use jedge::reporting::report;
 use jmakes::host::FileHost;
 use jnode::Order;
 
@@ -24,7 +23,7 @@ pub fn run_decompress<E: Order, H: FileHost>(host: &mut H, asked: Remaking<'_>) 
         (reported (decompress_act (remaking_of asked.entry))) (Ok result) }
 {
     let answer = decompress::<E, H>(host, asked);
-    report(host, answer)
+    report_remade(host, answer)
 }
 
 /// `compress`.
@@ -34,7 +33,7 @@ pub fn run_compress<E: Order, H: FileHost>(host: &mut H, asked: Remaking<'_>) ->
         (reported (compress_act (remaking_of asked.entry))) (Ok result) }
 {
     let answer = compress::<E, H>(host, asked);
-    report(host, answer)
+    report_remade(host, answer)
 }
 
 /// `decompress --clashes higher`.
@@ -58,7 +57,7 @@ pub fn run_compact<E: Order, H: FileHost>(
         (reported (compact_act (remaking_of asked.entry) blocks)) (Ok result) }
 {
     let answer = compact::<E, H>(host, asked, blocks);
-    report_compacted(host, answer)
+    report_remade(host, answer)
 }
 
 /// `compact --clashes higher`, to a flash of so many blocks, or else to the greatest.
@@ -72,5 +71,5 @@ pub fn run_compact_apart<E: Order, H: FileHost>(
         (reported (compact_apart_act (remaking_of asked.entry) blocks)) (Ok result) }
 {
     let answer = compact_apart::<E, H>(host, asked, blocks);
-    report_compacted_apart(host, answer)
+    report_apart(host, answer)
 }

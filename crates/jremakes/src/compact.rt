@@ -7,7 +7,7 @@ ghost use Rattle.jedge.specs.Acts.{DoesFrom, seen_as};
 ghost use Rattle.jmakes.specs.Making.{wanted_file};
 ghost use Rattle.jremakes.specs.Asked.{remaking_of};
 ghost use Rattle.jremakes.specs.Commands.{compact_act, compacts};
-ghost use Rattle.jremakes.specs.Leaving.{compacted_told};
+ghost use Rattle.jremakes.specs.Leaving.{remade_told};
 ghost use Rattle.jremakes.specs.Putting.{PutsAll, PutsInto, remakes};
 
 use crate::asked::Remaking;
@@ -80,7 +80,7 @@ fn collect<E: Order, H: FileHost>(
 ) -> Result<Found, Fault>
     ensures { DoesFrom (H.history host.old) (H.history host.new)
         (compacts E.order geometry.block blocks (wanted_file file.entry) image.now)
-        (seen_as compacted_told result) }
+        (seen_as remade_told result) }
 {
     let planned = match plan::<E>(host.alloc(), image, geometry, blocks) {
         Ok(planned) => planned,
@@ -121,7 +121,7 @@ pub fn compact<E: Order, H: FileHost>(
 ) -> Result<Found, Fault>
     requires { asked.options.endian ≡ E.order }
     ensures { DoesFrom (H.history host.old) (H.history host.new)
-        (compact_act (remaking_of asked.entry) blocks) (seen_as compacted_told result) }
+        (compact_act (remaking_of asked.entry) blocks) (seen_as remade_told result) }
 {
     let geometry = asked.options.geometry;
     let blocks = compact_blocks(geometry, blocks);

@@ -5,30 +5,22 @@ ghost use Rattle.jedge.specs.Acts.{DoesFrom, seen_as};
 ghost use Rattle.jmakes.specs.Making.{wanted_file};
 ghost use Rattle.jremakes.specs.Asked.{remaking_of};
 ghost use Rattle.jremakes.specs.Commands.{compact_apart_act, compacts_apart};
-ghost use Rattle.jremakes.specs.CompactingApart.{apart_compacted_told};
+ghost use Rattle.jremakes.specs.Leaving.{apart_told};
 
+use crate::apart::ApartDone;
 use crate::asked::Remaking;
 use crate::compact::make_image;
 use crate::line::print_compacted;
 use crate::original::take;
 use crate::planning::{compact_blocks, plan_staying};
 use crate::remaking::take_memory;
-use jclash::LeftOut;
 use jcollect::Collected;
 use jedge::fault::Fault;
 use jmakes::host::FileHost;
 use jmakes::wanted::Wanted;
 use jnode::Order;
-use jreport::{Found, found_in};
+use jreport::found_in;
 use jscan::Geometry;
-
-/// What came of an image that was compacted without nodes that clash: what is found in the image
-/// that was read, and the nodes that are left out.
-#[derive(Drop)]
-pub struct ApartCompacted {
-    pub found: Found,
-    pub left: Vec<LeftOut>,
-}
 
 /// Makes a file of an image that was read, for so many blocks, and prints the line on it.
 fn collect<E: Order, H: FileHost>(
@@ -37,10 +29,10 @@ fn collect<E: Order, H: FileHost>(
     image: &[u8],
     geometry: Geometry,
     blocks: u32,
-) -> Result<ApartCompacted, Fault>
+) -> Result<ApartDone, Fault>
     ensures { DoesFrom (H.history host.old) (H.history host.new)
         (compacts_apart E.order geometry.block blocks (wanted_file file.entry) image.now)
-        (seen_as apart_compacted_told result) }
+        (seen_as apart_told result) }
 {
     let planned = match plan_staying::<E>(host.alloc(), image, geometry, blocks) {
         Ok(planned) => planned,
@@ -61,7 +53,7 @@ fn collect<E: Order, H: FileHost>(
         bytes: planned.plan.bytes,
     };
     match print_compacted(host, out, told) {
-        Ok(()) => Ok(ApartCompacted {
+        Ok(()) => Ok(ApartDone {
             found: found_in::<E>(image, geometry),
             left: planned.left,
         }),
@@ -75,11 +67,11 @@ pub fn compact_apart<E: Order, H: FileHost>(
     host: &mut H,
     asked: Remaking<'_>,
     blocks: Option<u32>,
-) -> Result<ApartCompacted, Fault>
+) -> Result<ApartDone, Fault>
     requires { asked.options.endian ≡ E.order }
     ensures { DoesFrom (H.history host.old) (H.history host.new)
         (compact_apart_act (remaking_of asked.entry) blocks)
-        (seen_as apart_compacted_told result) }
+        (seen_as apart_told result) }
 {
     let geometry = asked.options.geometry;
     let blocks = compact_blocks(geometry, blocks);

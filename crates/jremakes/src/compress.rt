@@ -3,26 +3,25 @@ ghost use Rattle.std.specs.Prelude.{◌≡◌, None, string_bytes};
 ghost use Rattle.flashbase.specs.Sinks.{change_of};
 ghost use Rattle.jconvert.specs.Converting.{convert_fault};
 ghost use Rattle.jedge.specs.Acts.{DoesFrom, seen_as};
-ghost use Rattle.jedge.specs.Told.{found_told};
 ghost use Rattle.jmakes.specs.Making.{wanted_file};
 ghost use Rattle.jremakes.specs.Asked.{remaking_of};
 ghost use Rattle.jremakes.specs.Commands.{compress_act, packs};
+ghost use Rattle.jremakes.specs.Leaving.{remade_told};
 ghost use Rattle.jremakes.specs.Putting.{PutsCompressed, PutsInto, remakes};
 
 use crate::asked::Remaking;
 use crate::judging::judge_packed;
-use crate::line::{print_packed, remade_told};
+use crate::line::print_packed;
 use crate::original::take;
 use crate::remaking::{Unput, remade, take_memory, unput_of};
 use flashbase::Sink;
 use jconvert::{Converted, write_packed};
 use jedge::fault::Fault;
-use jedge::found::Found;
 use jedge::host::Host;
 use jmakes::host::FileHost;
 use jmakes::wanted::Wanted;
 use jnode::Order;
-use jreport::found_in;
+use jreport::{Found, found_in};
 use jscan::Geometry;
 use std::alloc::Global;
 
@@ -67,16 +66,17 @@ fn make_image<E: Order, H: FileHost>(
     remade(name, put, closed)
 }
 
-/// Makes a file of an image that was read, and prints the line on it.
+/// Makes a file of an image that was read, and prints the line on it. Answers what is found in the
+/// image.
 fn pack<E: Order, H: FileHost>(
     host: &mut H,
     file: Wanted<'_>,
     image: &[u8],
     geometry: Geometry,
-) -> Result<Found<'static>, Fault>
+) -> Result<Found, Fault>
     ensures { DoesFrom (H.history host.old) (H.history host.new)
         (packs E.order geometry.block (wanted_file file.entry) image.now)
-        (seen_as found_told result) }
+        (seen_as remade_told result) }
 {
     let nodes = match judge_packed::<E>(host.alloc(), image, geometry) {
         Ok(nodes) => nodes,
@@ -96,19 +96,16 @@ fn pack<E: Order, H: FileHost>(
         bytes,
     };
     match print_packed(host, out, told) {
-        Ok(()) => Ok(remade_told(found_in::<E>(image, geometry).noted)),
+        Ok(()) => Ok(found_in::<E>(image, geometry)),
         Err(fault) => Err(fault),
     }
 }
 
 /// `compress`. The image is held in memory before the file is made, so the two may be one.
-pub fn compress<E: Order, H: FileHost>(
-    host: &mut H,
-    asked: Remaking<'_>,
-) -> Result<Found<'static>, Fault>
+pub fn compress<E: Order, H: FileHost>(host: &mut H, asked: Remaking<'_>) -> Result<Found, Fault>
     requires { asked.options.endian ≡ E.order }
     ensures { DoesFrom (H.history host.old) (H.history host.new)
-        (compress_act (remaking_of asked.entry)) (seen_as found_told result) }
+        (compress_act (remaking_of asked.entry)) (seen_as remade_told result) }
 {
     match take::<E, H>(host, asked) {
         Ok(image) => pack::<E, H>(host, asked.output, image.as_slice(), asked.options.geometry),

@@ -4,26 +4,25 @@ ghost use Rattle.flashbase.specs.Sinks.{change_of};
 ghost use Rattle.jconvert.specs.Converting.{convert_fault, converted_image};
 ghost use Rattle.jconvert.specs.Holding.{IsHeldOf};
 ghost use Rattle.jedge.specs.Acts.{DoesFrom, seen_as};
-ghost use Rattle.jedge.specs.Told.{found_told};
 ghost use Rattle.jmakes.specs.Making.{wanted_file};
 ghost use Rattle.jremakes.specs.Asked.{remaking_of};
 ghost use Rattle.jremakes.specs.Commands.{converts, decompress_act};
+ghost use Rattle.jremakes.specs.Leaving.{remade_told};
 ghost use Rattle.jremakes.specs.Putting.{PutsAll, PutsInto, remakes};
 
 use crate::asked::Remaking;
 use crate::judging::judge_converted;
-use crate::line::{print_converted, remade_told};
+use crate::line::print_converted;
 use crate::original::take;
 use crate::remaking::{Unput, remade, take_memory, unput_of};
 use flashbase::Sink;
 use jconvert::{HELD_MOST, write_converted};
 use jedge::fault::Fault;
-use jedge::found::Found;
 use jedge::host::Host;
 use jmakes::host::FileHost;
 use jmakes::wanted::Wanted;
 use jnode::Order;
-use jreport::found_in;
+use jreport::{Found, found_in};
 use jscan::Geometry;
 use std::alloc::Global;
 
@@ -71,16 +70,17 @@ fn make_image<E: Order, H: FileHost>(
     remade(name, put, closed)
 }
 
-/// Makes a file of an image that was read, and prints the line on it.
+/// Makes a file of an image that was read, and prints the line on it. Answers what is found in the
+/// image.
 fn convert<E: Order, H: FileHost>(
     host: &mut H,
     file: Wanted<'_>,
     image: &[u8],
     geometry: Geometry,
-) -> Result<Found<'static>, Fault>
+) -> Result<Found, Fault>
     ensures { DoesFrom (H.history host.old) (H.history host.new)
         (converts E.order geometry.block (wanted_file file.entry) image.now)
-        (seen_as found_told result) }
+        (seen_as remade_told result) }
 {
     let judged = match judge_converted::<E>(host.alloc(), image, geometry, HELD_MOST) {
         Ok(judged) => judged,
@@ -95,19 +95,16 @@ fn convert<E: Order, H: FileHost>(
         Err(fault) => return Err(fault),
     }
     match print_converted(host, out, judged.told) {
-        Ok(()) => Ok(remade_told(found_in::<E>(image, geometry).noted)),
+        Ok(()) => Ok(found_in::<E>(image, geometry)),
         Err(fault) => Err(fault),
     }
 }
 
 /// `decompress`. The image is held in memory before the file is made, so the two may be one.
-pub fn decompress<E: Order, H: FileHost>(
-    host: &mut H,
-    asked: Remaking<'_>,
-) -> Result<Found<'static>, Fault>
+pub fn decompress<E: Order, H: FileHost>(host: &mut H, asked: Remaking<'_>) -> Result<Found, Fault>
     requires { asked.options.endian ≡ E.order }
     ensures { DoesFrom (H.history host.old) (H.history host.new)
-        (decompress_act (remaking_of asked.entry)) (seen_as found_told result) }
+        (decompress_act (remaking_of asked.entry)) (seen_as remade_told result) }
 {
     match take::<E, H>(host, asked) {
         Ok(image) => {

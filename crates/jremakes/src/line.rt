@@ -1,32 +1,20 @@
-//! The line on an image that was made, and what the command comes to.
+//! The line on an image that was made.
 ghost use Rattle.std.specs.Prelude.{◌≡◌, [], IfSome, Some};
 ghost use Rattle.flashbase.specs.Sinks.{PutsTo, change_of};
 ghost use Rattle.jreport.specs.ConvertedLine.{compression_line, decompressed_line};
 ghost use Rattle.jedge.specs.Acts.{DoesFrom, PutsBy, prints_put, seen_as};
-ghost use Rattle.jedge.specs.Told.{Told, found_told};
-ghost use Rattle.jremakes.specs.Commands.{remade_told};
+ghost use Rattle.jedge.specs.Told.{Told};
 ghost use Rattle.jremakes.specs.Compacting.{compacted_line};
 ghost use Rattle.jremakes.specs.Putting.{TellsLine};
 
 use flashbase::{DeviceFault, Sink};
 use jcollect::Collected;
 use jconvert::Converted;
-use jedge::damage::findings_noted;
 use jedge::fault::Fault;
-use jedge::found::{Found, finished};
+use jedge::found::finished;
 use jedge::host::Host;
 use jline::{LineBuffer, put_text};
 use jreport::{put_compressed, put_decompressed};
-
-/// What a command comes to that made an image of one with so many findings.
-pub(crate) fn remade_told(findings: u64) -> Found<'static>
-    ensures { found_told result ≡ remade_told findings }
-{
-    Found {
-        counted: findings,
-        note: findings_noted(findings),
-    }
-}
 
 /// Puts the line on an image that was decompressed.
 fn put_converted<T: Sink>(told: Converted, sink: &mut T) -> Result<(), Fault>

@@ -43,7 +43,7 @@ pub(crate) fn judge_replaced<E: Order>(
     match refuse_findings::<E>(image, geometry, asked.image) {
         Ok(()) => Ok(()),
         Err(_) => {
-            let findings = found_in::<E>(image, geometry).noted;
+            let findings = found_in::<E>(image, geometry).count();
             Err(findings_of(alloc, asked.image, findings))
         }
     }

@@ -1,4 +1,5 @@
--- What is told after an image was extracted, beside what was left out.
+-- What is told after an image was extracted, or another one was made of it, beside what was left
+-- out by its name or address.
 use Rattle.std.specs.Prelude.{ℕ, ◌==◌, Bool, true, false, List, [], ◌++◌, codes, count_by, decimal, if◌then◌else◌}
 use Rattle.jmount.specs.Mount.{Mount}
 use Rattle.jscan.specs.declared.finding.FindingKind.{FindingKind}
@@ -21,6 +22,12 @@ lost_bits_line_of n = codes
 unfoldable pub attributes_line_of : ℕ → List ℕ
 attributes_line_of n = codes
     "jffs2_image: note: nodes of extended attributes, which are not extracted: "
+    ++ (decimal n ++ codes "\n")
+
+-- of an image that another one is made of
+unfoldable pub left_attributes_line_of : ℕ → List ℕ
+left_attributes_line_of n = codes
+    "jffs2_image: note: nodes of extended attributes, which are left out: "
     ++ (decimal n ++ codes "\n")
 
 -- a line on so many, if there are any

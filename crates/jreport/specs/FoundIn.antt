@@ -1,5 +1,5 @@
 -- How many findings an image has of which a person is told, also an image that does not mount.
-use Rattle.std.specs.Prelude.{◌≡◌, ◌<◌, ℕ, List, count_by, filter_map}
+use Rattle.std.specs.Prelude.{◌≡◌, ◌==◌, ◌<◌, ℕ, List, count_by, filter_map, if◌then◌else◌}
 use Rattle.jnode.specs.declared.order.Endian.{Endian}
 use Rattle.jscan.specs.Findings.{finding_of}
 use Rattle.jscan.specs.Scans.{IsScannable, image_extents}
@@ -28,15 +28,21 @@ found_among ss =
 abbrev pub found_in : Endian → ℕ → List ℕ → Found
 found_in e size image = found_among (image_extents e size image)
 
+-- how many are counted: those of damage, dirt or the other byte order, or else the nodes of
+-- extended attributes
+abbrev pub found_count : Found → ℕ
+found_count found = if found.noted == 0 then found.attributes else found.noted
+
 -- rule: What is printed: An image with findings is not replaced by an image made of it, unless that
 --   is forced.
 --   definitions: jreport.FoundIn.HasFindings, jreport.FoundIn.IsFindings,
 --   jremakes.Asked.WouldReplace, jcommand.Parsed.is_forced
 --   code: jreport::findings::refuse_findings, jremakes::original::judge_replaced
--- an image that can be read has findings of which a person is told
+-- an image that can be read has damage, dirt or extended attributes, which none has that is made
+-- of it
 pub record HasFindings (e : Endian) (size : ℕ) (image : List ℕ) : Type 0 where
   pub scannable : IsScannable size image
-  pub some : 0 < (found_in e size image).noted
+  pub some : 0 < found_count (found_in e size image)
 
 -- so many of the file of this name
 abbrev pub TellsFindings : List ℕ → ℕ → ImageFault → Type 0
@@ -49,4 +55,4 @@ pub record IsFindings (e : Endian) (size : ℕ) (bytes name : List ℕ) (fault :
   pub has : HasFindings e size bytes
   pub why : ImageFault
   pub is : fault ≡ program.Image why
-  pub told : TellsFindings name (found_in e size bytes).noted why
+  pub told : TellsFindings name (found_count (found_in e size bytes)) why

@@ -1,8 +1,8 @@
-//! The notes after an image was extracted.
+//! The notes after an image was extracted, or another one was made of it.
 
 ghost use Rattle.std.specs.Prelude.{◌≡◌};
 ghost use Rattle.flashbase.specs.Sinks.{PutsTo};
-ghost use Rattle.jreport.specs.ExtractionNotes.{attribute_count, attributes_line_of, extraction_notes_of, is_attribute_node, line_of_count, lost_bits_line_of};
+ghost use Rattle.jreport.specs.ExtractionNotes.{attribute_count, attributes_line_of, extraction_notes_of, is_attribute_node, left_attributes_line_of, line_of_count, lost_bits_line_of};
 ghost use Rattle.jreport.specs.Notes.{note_line_of};
 
 use crate::notes::put_note;
@@ -81,6 +81,29 @@ fn put_attributes<T: Sink>(nodes: u64, sink: &mut T) -> Result<(), DeviceFault>
     }
     let mut line = LineBuffer::new();
     write_attributes(&mut line, nodes);
+    put_text(sink, line.as_slice())
+}
+
+#[tactic(auto, unfolding(crate::specs::ExtractionNotes::left_attributes_line_of))]
+fn write_left_attributes(line: &mut LineBuffer, nodes: u64)
+    ensures { line.new ≡ left_attributes_line_of nodes }
+{
+    line.clear();
+    line.push_text(b"jffs2_image: note: nodes of extended attributes, which are left out: ");
+    line.push_decimal(nodes);
+    line.push_text(b"\n");
+}
+
+/// Puts the note on so many nodes of extended attributes that are left out of the image that is
+/// made; none on none.
+pub fn put_left_attributes<T: Sink>(nodes: u64, sink: &mut T) -> Result<(), DeviceFault>
+    ensures { PutsTo T.Sink sink.old sink.new (line_of_count left_attributes_line_of nodes) result }
+{
+    if nodes == 0 {
+        return Ok(());
+    }
+    let mut line = LineBuffer::new();
+    write_left_attributes(&mut line, nodes);
     put_text(sink, line.as_slice())
 }
 

@@ -3,7 +3,7 @@
 ghost use Rattle.std.specs.Prelude.{◌≡◌, ◌%◌, ◌^◌, ◌+◌, ◌<◌, ◌≤◌, IfErr, OnOk, length};
 ghost use Rattle.jscan.specs.Extents.{extents};
 ghost use Rattle.jscan.specs.Scans.{IsScannable};
-ghost use Rattle.jreport.specs.FoundIn.{HasFindings, IsFindings, found_among, found_in};
+ghost use Rattle.jreport.specs.FoundIn.{HasFindings, IsFindings, found_among, found_count, found_in};
 
 use crate::extraction_notes::is_attribute;
 use crate::faults::ProgramFault;
@@ -20,6 +20,19 @@ pub struct Found {
     pub noted: u64,
     /// Nodes of extended attributes.
     pub attributes: u64,
+}
+
+impl Found {
+    /// How many are counted: of damage, dirt or the other byte order, or else of extended
+    /// attributes.
+    pub fn count(self) -> u64
+        ensures { result ≡ found_count self }
+    {
+        match self.noted {
+            0 => self.attributes,
+            noted => noted,
+        }
+    }
 }
 
 /// Those of a block, which begins at the address `start`.
@@ -62,7 +75,8 @@ pub fn found_in<E: Order>(image: &[u8], geometry: Geometry) -> Found
     all
 }
 
-/// Refuses an image with findings of which a person is told; it is the file of this name.
+/// Refuses an image with damage, dirt or extended attributes, which one that is made of it would
+/// not have; it is the file of this name.
 pub fn refuse_findings<'a, E: Order>(
     image: &[u8],
     geometry: Geometry,
@@ -78,7 +92,7 @@ pub fn refuse_findings<'a, E: Order>(
     if GREATEST_IMAGE < image.len() {
         return Ok(());
     }
-    let findings = found_in::<E>(image, geometry).noted;
+    let findings = found_in::<E>(image, geometry).count();
     if findings == 0 {
         return Ok(());
     }

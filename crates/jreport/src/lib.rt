@@ -50,7 +50,7 @@ mod whole_image;
 pub use crate::advice::put_fault_and_note;
 pub use crate::cause::{Cause, Limit, Plan, Refused, cause_of};
 pub use crate::converted::{put_compressed, put_decompressed};
-pub use crate::extraction_notes::{attribute_count, put_notes};
+pub use crate::extraction_notes::{attribute_count, put_left_attributes, put_notes};
 pub use crate::faults::{ProgramFault, fault_text};
 pub use crate::files::content;
 pub use crate::findings::{Found, found_in, refuse_findings};

@@ -9,6 +9,7 @@ use jedge::fault::{FailedFile, Fault};
 use jedge::host::{Host, Input};
 use jreport::Reason;
 use jscan::GREATEST_IMAGE;
+use jspare::{PageLayout, PageSource};
 use std::alloc::Global;
 use std::fs::File;
 use std::io::{ErrorKind, Stderr, Stdout};
@@ -30,12 +31,32 @@ impl Input for OpenedFile {
 /// The name of standard input.
 const STANDARD_INPUT: &str = "-";
 
+/// The names of files that are dumps of one layout.
+#[derive(Drop)]
+pub(crate) struct Dumps {
+    pub(crate) layout: PageLayout,
+    pub(crate) names: Vec<String>,
+}
+
+impl Dumps {
+    /// Whether this is one of the names.
+    fn has(&self, name: &str) -> bool {
+        for dump in &self.names {
+            if dump.as_str() == name {
+                return true;
+            }
+        }
+        false
+    }
+}
+
 /// The system's files, streams and folders.
 #[derive(Drop)]
 pub struct SystemHost<'r> {
     pub(crate) rt: &'r HostRuntime,
     /// Standard input was opened: it can be read once.
     input_taken: bool,
+    pub(crate) dumps: Option<Dumps>,
 }
 
 impl<'r> SystemHost<'r> {
@@ -45,6 +66,15 @@ impl<'r> SystemHost<'r> {
         SystemHost {
             rt,
             input_taken: false,
+            dumps: None,
+        }
+    }
+
+    /// The layout of the file of a name, if that is a dump with spare bytes.
+    pub(crate) fn layout_of(&self, name: &str) -> Option<PageLayout> {
+        match &self.dumps {
+            Some(dumps) if dumps.has(name) => Some(dumps.layout),
+            _ => None,
         }
     }
 
@@ -96,10 +126,11 @@ impl<'r> Host for SystemHost<'r> {
 
     fn read(&mut self, input: OpenedFile) -> Result<Vec<u8>, Fault> {
         let OpenedFile { name, file } = input;
-        let mut source = FileSource::new(file);
+        let layout = self.layout_of(name.as_str());
+        let mut source = PageSource::new(FileSource::new(file), layout);
         match load(self.rt.alloc(), &mut source, GREATEST_IMAGE) {
             Ok(bytes) => Ok(bytes),
-            Err(why) => Err(unread(name, source.reason(), why)),
+            Err(why) => Err(unread(name, source.source().reason(), why)),
         }
     }
 

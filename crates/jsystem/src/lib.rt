@@ -19,4 +19,5 @@ pub mod opener;
 pub mod output;
 mod replacing;
 pub mod source;
+mod spare_host;
 pub mod stream_host;

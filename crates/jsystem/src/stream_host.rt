@@ -3,6 +3,7 @@ use crate::host::{OpenedFile, SystemHost};
 use crate::source::FileSource;
 use jedge::fault::{FailedFile, Fault};
 use jreads::stream_host::{StreamHost, Streamed};
+use jspare::PageSource;
 use std::fs::File;
 
 /// The name of a file that is read as a stream.
@@ -23,18 +24,21 @@ impl Streamed for StreamedFile {
 impl<'r> StreamHost for SystemHost<'r> {
     type Streamed = StreamedFile;
 
-    type Source = FileSource<File>;
+    type Source = PageSource<FileSource<File>>;
 
-    fn stream(&mut self, input: OpenedFile) -> (StreamedFile, FileSource<File>) {
+    fn stream(&mut self, input: OpenedFile) -> (StreamedFile, PageSource<FileSource<File>>) {
         let OpenedFile { name, file } = input;
-        (StreamedFile { name }, FileSource::new(file))
+        let layout = self.layout_of(name.as_str());
+        let source = PageSource::new(FileSource::new(file), layout);
+        (StreamedFile { name }, source)
     }
 
     fn close_stream(
         &mut self,
         streamed: StreamedFile,
-        source: FileSource<File>,
+        source: PageSource<FileSource<File>>,
     ) -> Result<(), Fault> {
+        let source = source.source();
         if source.failures() == 0 {
             return Ok(());
         }

@@ -1,4 +1,6 @@
 use Rattle.jcommand.proofs.commands.make_info.Goals as goal
 
 pub returns : goal.returns
-returns c = c.add_arg.ensures _ _ c.make_named-command.ensures c.make_word-image.ensures
+returns c =
+    let sparing = c.add_spare.ensures _ c.make_named-command.ensures in
+    c.add_arg.ensures _ _ sparing c.make_word-image.ensures

@@ -7,7 +7,7 @@ found_in-requires g c = c.in-Ok.ensures.scannable
 
 pub returns-in-Ok : goal.returns-in-Ok
 returns-in-Ok g c =
-    ((c.in-Ok.ensures.ok, ap (λ (f : Found). Some f.noted) c.found_in.ensures), c.requires)
+    ((c.in-Ok.ensures.ok, ap (λ (f : Found). Some f) c.found_in.ensures), c.requires)
 
 pub returns-in-Err : goal.returns-in-Err
 returns-in-Err g c = (refl, (c.in-Err.fault, c.conversion_refusal.ensures, c.in-Err.ensures.err))

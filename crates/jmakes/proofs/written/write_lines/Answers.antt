@@ -1,6 +1,7 @@
-use Rattle.std.proofs.Common.{List, Option, ℕ}
+use Rattle.std.proofs.Common.{List, ℕ}
 use Rattle.jbuild.specs.HostFiles.{part_contents}
 use Rattle.jedge.specs.Images.{MountsOrRefuses}
+use Rattle.jedge.specs.Told.{Told}
 use Rattle.jedge.proofs.Steps.{answered, answered_at, does_at, then_err, then_ok}
 use Rattle.jmakes.specs.Seen.{image_to_write, numbered_seen}
 use Rattle.jmakes.specs.Writing.{writes_on}
@@ -22,7 +23,7 @@ returns-in-Ok-mounted g c =
     let image = c.args.image in
     then_ok (answered c.in-Ok.ensures)
     (then_ok (answered_at (λ (bytes : List ℕ). MountsOrRefuses e image.flash.geometry.block bytes) c.base_image-bytes.ensures c.in-Ok-mounted.ensures)
-    (does_at (λ (note : Option (List ℕ)). writes_on (image_to_write e image) note c.in-Ok-mounted.mounted (numbered_seen c.in-Ok.of)) c.note_on-note.ensures c.write_on.ensures))
+    (does_at (λ (base : Told). writes_on (image_to_write e image) base c.in-Ok-mounted.mounted (numbered_seen c.in-Ok.of)) c.note_on-note.ensures c.write_on.ensures))
 
 pub returns : goal.returns
 returns g c =

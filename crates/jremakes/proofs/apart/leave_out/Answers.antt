@@ -1,6 +1,5 @@
 use Rattle.std.proofs.Common.{◌≡◌, ℕ, ap, length, refl, rules}
 use Rattle.jreport.specs.ConvertedLine.{decompressed_line}
-use Rattle.jreport.specs.declared.findings.Found.{Found}
 use Rattle.jreport.specs.FoundIn.{found_in}
 use Rattle.jedge.specs.Acts.{prints_put}
 use Rattle.jedge.specs.Told.{Told}
@@ -32,16 +31,16 @@ returns-in-Ok-print_converted g c =
     let left = c.in-Ok-parted.parted.left.items in
     let stay = c.in-Ok-parted.parted.stay.items in
     let many : c.len.result ≡ length stay = search rules in
-    let told = left_out_told left c.found_in.result.noted in
+    let told = left_out_told left c.found_in.result in
     then_ok (answered c.in-Ok.ensures.judged) (then_ok (answered c.in-Ok-parted.ensures)
     (then_ok (nothing_done c.take_memory.ensures.same (refl, tt))
     (then_ok c.in-Ok-make_image.ensures
     (does_at (λ (n : ℕ). prints_put (TellsLine (decompressed_line c.in-Ok.judged.told.changed n
     c.in-Ok-make_image.bytes)
-    (left_out_told left (found_in g.E.Order.order c.args.geometry.block c.args.image.now).noted)))
+    (left_out_told left (found_in g.E.Order.order c.args.geometry.block c.args.image.now))))
     many (does_at (λ (t : Told). prints_put (TellsLine (decompressed_line
     c.in-Ok.judged.told.changed c.len.result c.in-Ok-make_image.bytes) t))
-    (ap (λ (f : Found). left_out_told left f.noted) c.found_in.ensures)
+    (ap (left_out_told left) c.found_in.ensures)
     (c.in-Ok-print_converted.ensures told))))))
 
 pub returns : goal.returns
@@ -50,7 +49,7 @@ returns g c =
     let found = found_in g.E.Order.order c.args.geometry.block c.args.image.now in
     let stay = c.in-Ok-parted.parted.stay.items in
     let many : c.len.result ≡ length stay = search rules in
-    let told = left_out_told left found.noted in
+    let told = left_out_told left found in
     then_ok (answered c.in-Ok.ensures.judged) (then_ok (answered c.in-Ok-parted.ensures)
     (then_ok (nothing_done c.take_memory.ensures.same (refl, tt))
     (then_ok c.in-Ok-make_image.ensures

@@ -2,4 +2,4 @@ use Rattle.jedge.proofs.Steps.{then_reported}
 use Rattle.jremakes.proofs.commands.run_compact.Goals as goal
 
 pub returns : goal.returns
-returns g c = then_reported c.compact-answer.ensures c.report_compacted.ensures
+returns g c = then_reported c.compact-answer.ensures c.report_remade.ensures

@@ -6,7 +6,7 @@ use Rattle.jedge.specs.Told.{Told}
 use Rattle.jedge.proofs.Steps.{answered, does_at, nothing_done, then_err, then_ok}
 use Rattle.jmakes.specs.Making.{wanted_file}
 use Rattle.jremakes.specs.Compacting.{compacted_line}
-use Rattle.jremakes.specs.Leaving.{compacted_told}
+use Rattle.jremakes.specs.Leaving.{remade_told}
 use Rattle.jremakes.specs.Putting.{PutsAll, TellsLine, remakes}
 use Rattle.jremakes.proofs.compact.collect.Goals as goal
 
@@ -41,11 +41,11 @@ returns-in-Ok-print_compacted g c =
     remakes (wanted_file c.args.file) (PutsAll (copied_image e size image l) (tt {0})))
     c.as_slice.ensures.value c.in-Ok-make_image.ensures)
     (does_at (λ (n : ℕ). prints_put (TellsLine (compacted_line n plan.nodes plan.bytes)
-    (compacted_told (found_in e size image))))
+    (remade_told (found_in e size image))))
     many (does_at (λ (t : Told).
     prints_put (TellsLine (compacted_line c.len.result plan.nodes plan.bytes) t))
-    (ap compacted_told c.found_in.ensures)
-    (c.in-Ok-print_compacted.ensures (compacted_told c.found_in.result))))))
+    (ap remade_told c.found_in.ensures)
+    (c.in-Ok-print_compacted.ensures (remade_told c.found_in.result))))))
 
 pub returns : goal.returns
 returns g c =
@@ -53,7 +53,7 @@ returns g c =
     let size = c.args.geometry.block in
     let image = c.args.image.now in
     let plan = c.in-Ok.planned in
-    let told = compacted_told (found_in e size image) in
+    let told = remade_told (found_in e size image) in
     let many : c.len.result ≡ length plan.addresses.items = search rules in
     then_ok (answered c.in-Ok.ensures.planned)
     (then_ok (nothing_done c.take_memory.ensures.same (refl, tt))

@@ -6,7 +6,7 @@ use Rattle.jedge.specs.Told.{Told}
 use Rattle.jedge.proofs.Steps.{answered, does_at, nothing_done, then_err, then_ok}
 use Rattle.jmakes.specs.Making.{wanted_file}
 use Rattle.jremakes.specs.Compacting.{compacted_line}
-use Rattle.jremakes.specs.CompactingApart.{compacted_apart_told}
+use Rattle.jremakes.specs.Leaving.{left_out_told}
 use Rattle.jremakes.specs.Putting.{PutsAll, TellsLine, remakes}
 use Rattle.jremakes.proofs.compact_apart.collect.Goals as goal
 
@@ -42,11 +42,11 @@ returns-in-Ok-print_compacted g c =
     remakes (wanted_file c.args.file) (PutsAll (copied_image e size image l) (tt {0})))
     c.as_slice-addresses.ensures.value c.in-Ok-make_image.ensures)
     (does_at (λ (n : ℕ). prints_put (TellsLine (compacted_line n plan.nodes plan.bytes)
-    (compacted_apart_told left (found_in e size image))))
+    (left_out_told left (found_in e size image))))
     many (does_at (λ (t : Told).
     prints_put (TellsLine (compacted_line c.len.result plan.nodes plan.bytes) t))
-    (ap (compacted_apart_told left) c.found_in.ensures)
-    (c.in-Ok-print_compacted.ensures (compacted_apart_told left c.found_in.result))))))
+    (ap (left_out_told left) c.found_in.ensures)
+    (c.in-Ok-print_compacted.ensures (left_out_told left c.found_in.result))))))
 
 pub returns-in-Err-print_compacted : goal.returns-in-Err-print_compacted
 returns-in-Err-print_compacted g c =
@@ -54,7 +54,7 @@ returns-in-Err-print_compacted g c =
     let size = c.args.geometry.block in
     let image = c.args.image.now in
     let plan = c.in-Ok.planned.plan in
-    let told = compacted_apart_told c.in-Ok.planned.left.items (found_in e size image) in
+    let told = left_out_told c.in-Ok.planned.left.items (found_in e size image) in
     let many : c.len.result ≡ length plan.addresses.items = search rules in
     then_ok (answered c.in-Ok.ensures.planned)
     (then_ok (nothing_done c.take_memory.ensures.same (refl, tt))

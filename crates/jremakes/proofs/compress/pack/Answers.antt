@@ -1,11 +1,10 @@
-use Rattle.std.proofs.Common.{◌∙◌, ap, refl}
+use Rattle.std.proofs.Common.{ap, refl}
 use Rattle.jreport.specs.ConvertedLine.{compression_line}
-use Rattle.jreport.specs.declared.findings.Found.{Found}
 use Rattle.jreport.specs.FoundIn.{found_in}
 use Rattle.jedge.specs.Acts.{prints_put}
-use Rattle.jedge.specs.Told.{Told, found_told}
+use Rattle.jedge.specs.Told.{Told}
 use Rattle.jedge.proofs.Steps.{answered, does_at, nothing_done, then_err, then_ok}
-use Rattle.jremakes.specs.Commands.{remade_told}
+use Rattle.jremakes.specs.Leaving.{remade_told}
 use Rattle.jremakes.specs.Putting.{TellsLine}
 use Rattle.jremakes.proofs.compress.pack.Goals as goal
 
@@ -29,8 +28,8 @@ returns-in-Ok-print_packed g c =
     (then_ok (nothing_done c.take_memory.ensures.same (refl, tt))
     (then_ok c.in-Ok-make_image.ensures
     (does_at (λ (t : Told). prints_put (TellsLine (compression_line done.0 c.in-Ok.nodes done.1) t))
-    (c.remade_told.ensures ∙ ap (λ (f : Found). remade_told f.noted) c.found_in.ensures)
-    (c.in-Ok-print_packed.ensures (found_told c.remade_told.result)))))
+    (ap remade_told c.found_in.ensures)
+    (c.in-Ok-print_packed.ensures (remade_told c.found_in.result)))))
 
 pub returns-in-Err-print_packed : goal.returns-in-Err-print_packed
 returns-in-Err-print_packed g c =
@@ -38,4 +37,4 @@ returns-in-Err-print_packed g c =
     then_ok (answered c.in-Ok.ensures.judged)
     (then_ok (nothing_done c.take_memory.ensures.same (refl, tt))
     (then_ok c.in-Ok-make_image.ensures
-    (c.in-Err-print_packed.ensures (remade_told found.noted))))
+    (c.in-Err-print_packed.ensures (remade_told found))))

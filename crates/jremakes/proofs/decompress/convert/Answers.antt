@@ -1,11 +1,10 @@
-use Rattle.std.proofs.Common.{◌∙◌, ap, refl}
+use Rattle.std.proofs.Common.{ap, refl}
 use Rattle.jreport.specs.ConvertedLine.{decompressed_line}
-use Rattle.jreport.specs.declared.findings.Found.{Found}
 use Rattle.jreport.specs.FoundIn.{found_in}
 use Rattle.jedge.specs.Acts.{prints_put}
-use Rattle.jedge.specs.Told.{Told, found_told}
+use Rattle.jedge.specs.Told.{Told}
 use Rattle.jedge.proofs.Steps.{answered, does_at, nothing_done, then_err, then_ok}
-use Rattle.jremakes.specs.Commands.{remade_told}
+use Rattle.jremakes.specs.Leaving.{remade_told}
 use Rattle.jremakes.specs.Putting.{TellsLine}
 use Rattle.jremakes.proofs.decompress.convert.Goals as goal
 
@@ -30,8 +29,8 @@ returns-in-Ok-print_converted g c =
     (then_ok c.in-Ok-make_image.ensures
     (does_at (λ (t : Told).
     prints_put (TellsLine (decompressed_line told.changed told.nodes told.bytes) t))
-    (c.remade_told.ensures ∙ ap (λ (f : Found). remade_told f.noted) c.found_in.ensures)
-    (c.in-Ok-print_converted.ensures (found_told c.remade_told.result)))))
+    (ap remade_told c.found_in.ensures)
+    (c.in-Ok-print_converted.ensures (remade_told c.found_in.result)))))
 
 pub returns : goal.returns
 returns g c =
@@ -39,4 +38,4 @@ returns g c =
     then_ok (answered c.in-Ok.ensures.judged)
     (then_ok (nothing_done c.take_memory.ensures.same (refl, tt))
     (then_ok c.in-Ok-make_image.ensures
-    (c.in-Err-print_converted.ensures (remade_told found.noted))))
+    (c.in-Err-print_converted.ensures (remade_told found))))

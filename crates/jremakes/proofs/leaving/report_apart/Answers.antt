@@ -1,4 +1,4 @@
-use Rattle.std.proofs.Common.{◌∙◌, ℕ, List, Ok, ap, length, refl, sym}
+use Rattle.std.proofs.Common.{◌∙◌, ℕ, List, Ok, ap, ap₂, length, refl, sym}
 use Rattle.std.specs.Prelude.{Result}
 use Rattle.jclash.specs.declared.parting.LeftOut.{LeftOut}
 use Rattle.jcommand.specs.Status.{outcome_of}
@@ -15,16 +15,15 @@ use Rattle.jremakes.proofs.leaving.report_apart.Goals as goal
 pub returns-in-Ok : goal.returns-in-Ok
 returns-in-Ok g c =
     let done = c.in-Ok.done in
-    let n = done.findings in
     let left = c.as_slice-left.ensures.value in
     does_at (λ (answer : Result ApartDone Fault). ends (seen_as apart_told answer)) (sym c.in-Ok.is)
     (mapped (λ events said. record {
-      text = left_out_noted done.left.items n;
+      text = left_out_noted done.left.items done.found;
       tells = refl;
       said = said;
       is = ap (λ (o : Outcome). Ok o) (c.of.ensures ∙ ap outcome_of (c.either.ensures
-          ∙ ap (λ (k : ℕ). either k n) (ap length left)));
-    }) (does_at (λ (l : List LeftOut). says (left_out_noted l n)) left c.say_apart.ensures))
+          ∙ ap₂ (λ (k n : ℕ). either k n) (ap length left) c.count.ensures));
+    }) (does_at (λ (l : List LeftOut). says (left_out_noted l done.found)) left c.say_apart.ensures))
 
 pub returns-in-Err : goal.returns-in-Err
 returns-in-Err g c = does_at (λ (answer : Result ApartDone Fault). ends (seen_as apart_told answer))

@@ -2,7 +2,7 @@ use Rattle.std.proofs.Common.{◌∙◌, sym}
 use Rattle.jedge.specs.Acts.{says}
 use Rattle.jedge.proofs.Steps.{does_at}
 use Rattle.jremakes.proofs.LeavingLemmas.{none_found, some_found}
-use Rattle.jremakes.proofs.leaving.say_compacted.Goals as goal
+use Rattle.jremakes.proofs.leaving.say_remade.Goals as goal
 
 pub returns-then-leaves_none : goal.returns-then-leaves_none
 returns-then-leaves_none g c = does_at says
