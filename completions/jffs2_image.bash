@@ -3,7 +3,7 @@
 
 # The options of a command, or of the program if there is no command.
 _jffs2_image_options() {
-    local plain='-e --block --endian -l --little-endian -b --big-endian' auto='-a --auto' write='--blocks --page' place='-p --pad --atomic' out='-o --output' help='-h --help'
+    local plain='-e --block --endian -l --little-endian -b --big-endian' spare='--oob' auto='-a --auto --oob' write='--blocks --page' place='-p --pad --atomic' out='-o --output' help='-h --help'
     case $1 in
         check) echo "$plain $auto --scan --shape --decompress $help" ;;
         ls | cat) echo "$plain $auto --decompress $help" ;;
@@ -15,7 +15,7 @@ _jffs2_image_options() {
         compact) echo "$plain $auto --blocks --clashes $place --force $out $help" ;;
         extract) echo "$plain $auto --decompress --owners --quiet $help" ;;
         listing) echo "--owner --time --quiet $help" ;;
-        info) echo "$help" ;;
+        info) echo "$spare $help" ;;
         cuts) echo "$plain $auto $write --on --compress --decompress --update --plain --tail $help" ;;
         diff) echo "$plain $auto --decompress --times $help" ;;
         damage) echo "$plain $auto --decompress $help" ;;
@@ -31,7 +31,7 @@ _jffs2_image_options() {
 _jffs2_image_count() {
     case $1 in
         --owner) echo 2 ;;
-        -e | --block | --eraseblock | --endian | --blocks | --page | --time | --on | --clashes | -o | --output) echo 1 ;;
+        -e | --block | --eraseblock | --endian | --blocks | --page | --time | --on | --clashes | --oob | -o | --output) echo 1 ;;
         *) echo 0 ;;
     esac
 }
@@ -43,6 +43,7 @@ _jffs2_image_values() {
         --endian) echo 'little big' ;;
         --page) echo '4096 8192 16384' ;;
         --clashes) echo 'higher' ;;
+        --oob) echo '512+16 2048+64 4096+128 4096+224' ;;
     esac
 }
 

@@ -45,6 +45,8 @@ complete -c jffs2_image -n '__jffs2_image_in check ls cat build append update de
     -s b -l big-endian -d 'The same as --endian big'
 complete -c jffs2_image -n '__jffs2_image_in check ls cat append update decompress compress compact extract cuts diff damage map history verify' \
     -s a -l auto -d 'Find both in the image'
+complete -c jffs2_image -n '__jffs2_image_in check ls cat append update decompress compress compact extract info cuts diff damage map history verify' \
+    -l oob -x -a '512+16 2048+64 4096+128 4096+224' -d 'Leave out spare bytes behind each page'
 complete -c jffs2_image -n '__jffs2_image_in build append update compact cuts pack' -l blocks -x -d 'Number of blocks'
 complete -c jffs2_image -n '__jffs2_image_in build append update cuts pack' -l page -x \
     -a '4096 8192 16384' -d 'Largest piece of a file in one node'

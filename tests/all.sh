@@ -69,6 +69,7 @@ tests/cuts_update.py $program
 tests/damage.py $program
 tests/retry.py $program
 tests/diff.py $program
+tests/spare.py $program
 tests/verify.py $program
 tests/placing.sh $program
 tests/listings.py $program

@@ -49,7 +49,7 @@ def options_in(body, bodies):
     for name, letter in re.findall(made, body):
         options |= {f"--{name}", f"-{letter}"} if letter else {f"--{name}"}
     options |= {f"-{letter}" for letter in re.findall(r"\.short\('(\w)'\)", body)}
-    makers = ("make_plain|make_block|make_reader|make_writer|make_noting|add_auto|add_atomic"
+    makers = ("make_plain|make_block|make_reader|make_writer|make_noting|add_spare|add_auto|add_atomic"
               "|add_compressing|add_replacing|add_placing|add_updating|add_settings|add_output")
     for below in re.findall(rf"\b({makers})\(", body):
         options |= options_in(bodies[below], bodies)

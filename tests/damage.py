@@ -5,7 +5,7 @@ Usage: tests/damage.py [PROGRAM]. Three images, in both orders, and with --decom
 another method, to which nodes are added that cover others. Of each byte that is flipped: a node of damaged data hides exactly
 the paths at which `diff` of the two images has a line, or nothing where it has none; a damaged name is told by its fields, as the
 report of the sound image has them; any other damaged node is unknown; what is no part of a node, or was its header, is not told.
-The names without objects are as many as `check` has. Then images with many damaged nodes of few files, with many names of one, and
+The names without objects are as many as `check` has. The gaps are those that a model finds byte by byte. Then images with many damaged nodes of few files, with many names of one, and
 with directories that lie in one another: what is told is what a model has that tries each place of each node. Then images in which
 directories have several names, at random: each path that `ls` lists is told, and a model that walks as it does has the same. The
 last line is 'N passed, M failed'.
@@ -89,9 +89,41 @@ def wanted_of(place, nodes):
     return None
 
 
+def gap_lines(nodes):
+    """The lines of gaps, by the nodes of an image: each byte of each file is looked for in each node."""
+    objects, names = hostile_model.tree(nodes)
+    entries = {parent: dict(held) for parent, held in names.items()}
+    folders = entered_paths(entries, {ino for ino, held in objects.items() if held[2] >> 12 == 4})
+    ranges = [(held[0], held[9], held[9] + held[10]) for _, what, held in nodes if what == "inode"]
+    lines = []
+    for ino, held in sorted(objects.items()):
+        size = held[5] if held[2] >> 12 == 8 else 0
+        bare = [i for i in range(size) if not any(own == ino and start <= i < end for own, start, end in ranges)]
+        paths = ["/"] if ino == 1 else []
+        named = ((p, n) for p in sorted(entries) if p in folders for n, i in sorted(entries[p].items()) if i == ino)
+        paths += [f"{folders[p]}/{hostile_model.escaped(n)}" for p, n in named]
+        for start in (i for i in bare if i - 1 not in bare):
+            end = next(i for i in range(start, size + 1) if i not in bare)
+            front = f"gap ino {ino} bytes {start} to {end}"
+            lines += [f"{front} in {path}" for path in paths[:16]]
+            lines += [f"{front} and {len(paths) - 16} more paths"] if len(paths) > 16 else []
+    return lines
+
+
+def has_gaps(told, nodes):
+    """Whether the lines of gaps are those of the model, and come behind all others but the last."""
+    lines = gap_lines(nodes)
+    return [line for line in told if line.startswith("gap ")] == lines == told[len(told) - 1 - len(lines) : -1]
+
+
+def beside_gaps(told):
+    """The lines that are not of gaps."""
+    return [line for line in told if not line.startswith("gap ")]
+
+
 def is_right(place, nodes, told, changed):
     wanted = wanted_of(place, nodes)
-    lines = [line for line in told if not line.startswith(("missing ", "total "))]
+    lines = [line for line in told if not line.startswith(("missing ", "gap ", "total "))]
     if wanted is None:
         return not lines
     addr, check, fields = wanted
@@ -133,6 +165,8 @@ def flips(number, order):
         report = run("check", *options, "flipped.img").stdout.decode().splitlines()
         dangling = sum(line.startswith("dangling ") for line in report)
         right = is_right(place, nodes, told, changed_paths("sound.img", "flipped.img", options))
+        with open("flipped.img", "rb") as file:
+            right = right and has_gaps(told, hostile_model.report(file.read(), 8192, "<" if order == "little" else ">")[1])
         counted = len(missing) == dangling and told[-1:] == [total_of(told)]
         found = int(next(line for line in report if line.startswith("total ")).split()[-1])
         status = done.returncode == (3 if found or len(told) > 1 else 0) and noted(done.stderr) == found
@@ -146,7 +180,7 @@ def is_counted(told, flipped, order, done):
     dangling = sum(ino not in objects for held in names.values() for _, ino in held)
     missing = [line for line in told if line.startswith("missing ")]
     found = hostile_model.report(flipped, 8192, order)[3]
-    counted = not fault and len(missing) == dangling and told[-1:] == [total_of(told)]
+    counted = not fault and len(missing) == dangling and told[-1:] == [total_of(told)] and has_gaps(told, nodes)
     return counted and done.returncode == (3 if found or len(told) > 1 else 0) and noted(done.stderr) == found
 
 
@@ -182,11 +216,12 @@ def packed_flips(method, order, number):
 
 
 def total_of(told):
-    damaged = {line[:8] for line in told if not line.startswith(("missing ", "total "))}
-    more = (re.fullmatch(r".* and (\d+) more paths", line) for line in told)
+    gaps = {re.match(r"gap ino \d+ bytes \d+ to \d+", line)[0] for line in told if line.startswith("gap ")}
+    damaged = {line[:8] for line in told if not line.startswith(("missing ", "gap ", "total "))}
+    more = (re.fullmatch(r"[^g].* and (\d+) more paths", line) for line in told)
     paths = sum(" hides /" in line for line in told) + sum(int(found[1]) for found in more if found)
     missing = sum(line.startswith("missing ") for line in told)
-    return f"total damaged {len(damaged)} paths {paths} missing {missing}"
+    return f"total damaged {len(damaged)} paths {paths} missing {missing} gaps {len(gaps)}"
 
 
 def little_images():
@@ -215,9 +250,12 @@ def told_of(name, order, nodes):
     for node in nodes:
         places.append(front)
         front += -len(node) // 4 * -4
-    write(name, b"".join(node + b"\xff" * (-len(node) % 4) for node in nodes).ljust(65536, b"\xff"))
-    done = run("damage", "--block", "65536", "--endian", order, name)
-    return done.stdout.decode().splitlines(), places
+    image = b"".join(node + b"\xff" * (-len(node) % 4) for node in nodes).ljust(65536, b"\xff")
+    write(name, image)
+    told = run("damage", "--block", "65536", "--endian", order, name).stdout.decode().splitlines()
+    seen = hostile_model.report(image, 65536, "<" if order == "little" else ">")[1]
+    verdict(f"{name}, {order}, gaps: {told}", has_gaps(told, seen))
+    return told, places
 
 
 def is_missed(lost, sound):
@@ -258,7 +296,7 @@ def crowded(seed, order):
             wanted.append(f"{front} has no path")
     held = {node[0] for node in sound}
     wanted += [f"missing {path} ino {ino}" for ino in (2, 3) if ino not in held for path in names[ino]]
-    verdict(f"crowded image {seed}, {order}: {told}", told[:-1] == wanted and told[-1:] == [total_of(told)])
+    verdict(f"crowded image {seed}, {order}: {told}", beside_gaps(told)[:-1] == wanted and told[-1:] == [total_of(told)])
 
 
 def crowded_images():
@@ -283,7 +321,7 @@ def many_names(count, order):
             wanted.append(f"{start} and {len(paths) - 16} more paths")
         elif not paths:
             wanted.append(f"{start} has no path")
-    total = f"total damaged 3 paths {2 * count + 1} missing 0"
+    total = f"total damaged 3 paths {2 * count + 1} missing 0 gaps 0"
     verdict(f"file of {count} names, {order}: {told}", told == [*wanted, total] and total == total_of(told))
 
 
@@ -308,7 +346,7 @@ def rings(length, order):
         wanted.append((len(nodes) - 1, file, f"hides /d{place}/f" if parent == 1 else "has no path"))
     told, places = told_of("ring.img", order, nodes)
     lines = [f"{places[index]:08x} data-crc ino {file} version 2 bytes 0 to 1 {end}" for index, file, end in wanted]
-    verdict(f"ring of {length}, {order}: {told}", told[:-1] == lines and told[-1:] == [total_of(told)])
+    verdict(f"ring of {length}, {order}: {told}", beside_gaps(told)[:-1] == lines and told[-1:] == [total_of(told)])
 
 
 def ring_images():
@@ -323,7 +361,7 @@ def entered_paths(entries, folders):
     while left:
         parent, (name, ino) = left.pop()
         if ino in folders and ino not in paths:
-            paths[ino] = f"{paths[parent]}/{name.decode()}"
+            paths[ino] = f"{paths[parent]}/{hostile_model.escaped(name)}"
             left += [(ino, entry) for entry in sorted(entries.get(ino, {}).items(), reverse=True)]
     return paths
 
@@ -364,7 +402,7 @@ def tangled(seed, order):
     rows = [line.removesuffix(" (again)").split(" ") for line in listed]
     seen = sorted((row[6], row[7]) for row in rows if int(row[6]) in (1, *folders, 100, 101, 102))
     shown = sorted((line.split()[3], line.split(" hides ")[1]) for line in told if " hides /" in line)
-    verdict(f"tangled image {seed}, {order}: {told}", told[:-1] == lines and told[-1:] == [total_of(told)])
+    verdict(f"tangled image {seed}, {order}: {told}", beside_gaps(told)[:-1] == lines and told[-1:] == [total_of(told)])
     verdict(f"tangled image {seed}, {order}, as ls: {listed}", shown == seen)
 
 

@@ -362,7 +362,7 @@ unmade_of "S2 Full needed 246098596 free 268386304" bomb
 # What no image can be made of is shown all the same.
 for words in "--block 4096 good" "--block 8188 good" read_only; do
     run ls --decompress $words; want 0 "$root*/a" "*"
-    run damage --decompress $words; want 0 "total damaged 0 paths 0 missing 0" ""
+    run damage --decompress $words; want 0 "total damaged 0 paths 0 missing 0 gaps 0" ""
 done
 # Of two faults the first in this order
 refused "${unopened_none#jffs2_image: }" --block 4097 none
@@ -492,7 +492,7 @@ run diff --endian big blank good
 want 1 "" $'jffs2_image: I1 NoNodes good\njffs2_image: note: the other byte order has [1-9]* nodes, see --endian and info'
 for name in blank empty marked; do
     run diff $name /dev/null; want 0 "" ""
-    run damage $name; want 0 "total damaged 0 paths 0 missing 0" ""
+    run damage $name; want 0 "total damaged 0 paths 0 missing 0 gaps 0" ""
     run extract $name made; want 0 "" ""; rm -rf made
 done
 # One with findings is not written over without --force, whatever its names are.
@@ -517,6 +517,26 @@ run compress --force --atomic dirty.img out.img; want 3 "compressed 1 nodes 2 by
 run compress --force image image; want 3 "compressed 1 nodes 2 bytes *" "$(noted 1)"; same image out.img
 run ls --force image; want 2 "" "error: unexpected argument '--force' found*"
 rm -f image hard soft
+# Extended attributes are left out, which is told, and an image with some is not written over either.
+attribute() { bytes 85 19 08 e0 0c 00 00 00 a9 a8 cc 67; }
+left="jffs2_image: note: nodes of extended attributes, which are left out: 2"
+run decompress good plain.img
+{ cat good; attribute; attribute; } > attributed
+{ cat plain.img; attribute; attribute; } > attributed_plain
+run compress plain.img packed.img
+for row in "decompress|attributed|plain.img" "decompress --clashes higher|attributed|plain.img" \
+    "compress|attributed_plain|packed.img"; do
+    IFS='|' read -r words image made <<< "$row"
+    cp $image whole
+    run $words $image out.img; want 3 "*ompressed 1 nodes 2 bytes *" "$left"; same out.img $made
+    run $words whole whole; want 1 "" "$(spared whole | sed 's/1 finding/2 findings/')"; same whole $image
+    run $words --force --atomic whole whole; want 3 "*ompressed 1 nodes 2 bytes *" "$left"; same whole $made
+done
+run append --decompress --blocks 4 attributed create out.img; want 3 "accepted 1 nodes 2 bytes *" "$left"
+run append --decompress --blocks 4 plain.img create again.img; same out.img again.img
+run append --blocks 4 attributed_plain create out.img; want 0 "accepted 1 nodes 2 bytes *" ""
+run extract --decompress attributed made; rm -rf made
+want 3 "" "jffs2_image: note: nodes of extended attributes, which are not extracted: 2"
 # OUT that cannot be made
 run compress plain_little nowhere/out.img; want 1 "" "$(unopened nowhere/out.img)"
 run decompress good nowhere/out.img; want 1 "" "$(unopened nowhere/out.img)"

@@ -581,6 +581,11 @@ def findings_note(count):
     return NOTE % (count, b"finding" if count == 1 else b"findings") if count else b""
 
 
+def left_note(count):
+    """The note on so many nodes of extended attributes that are left out."""
+    return b"jffs2_image: note: nodes of extended attributes, which are left out: %d\n" % count if count else b""
+
+
 def notes_on(image, count, size=65536, order="<"):
     """The notes of `append` on an image with so many findings."""
     bare = opened.has_no_node(image, size, order)
@@ -739,8 +744,9 @@ def on_converted(about, image, size, order):
     words = ["--block", str(size), "--endian", order]
     result, _ = opened.decompress(image, size, sign)
     made_of, why = opened.command(image, size, sign)
-    _, found, _, count = model.report(image, size, sign)
-    note = notes_on(image, count, size, sign)
+    report, found, _, count = model.report(image, size, sign)
+    left = left_note(sum(line.split(" ")[1] == "attribute" for line in report))
+    note = notes_on(image, count, size, sign) + left
     done, made = tried(["decompress", *words, "any.img", "out.img"])
     if why == "I1 NoNodes":
         wanted = Done(1, b"", f"jffs2_image: {why}\n{opened.others_note(image, size, sign)}".encode())
@@ -748,7 +754,7 @@ def on_converted(about, image, size, order):
     elif why:
         verdict(f"decompress of {about}", (done, made) == (fault(why), None), done)
     else:
-        wanted = Done(3 if count else 0, text([opened.line_of(made_of)]), note)
+        wanted = Done(3 if count or left else 0, text([opened.line_of(made_of)]), note)
         verdict(f"decompress of {about}", (done, made) == (wanted, made_of.image), done)
     plain = model.refusal(found)
     done = run(["ls", *words, "any.img"])
@@ -765,12 +771,12 @@ def on_converted(about, image, size, order):
             wanted = fault(refused) if refused else Done(0, content, shown)
             verdict(f"cat --decompress of /{name} in {about}", done == wanted, done)
     lines, why = opened.converted(image, size, sign)
-    converted_goes_on(about, words, (lines, why, note), (result, size, sign))
+    converted_goes_on(about, words, (lines, why, Done(3 if left else 0, b"accepted 1 nodes 2 bytes 124\n", note)), (result, size, sign))
 
 
 def converted_goes_on(about, words, listed, converted):
     """A file is made behind what was decompressed: that stays, byte for byte, and in the tree."""
-    lines, why, note = listed
+    lines, why, wanted = listed
     result, size, sign = converted
     write("one.txt", "create 0644 /new\n")
     named = ["any.img", "one.txt", "out.img"]
@@ -781,7 +787,6 @@ def converted_goes_on(about, words, listed, converted):
     after, _, _ = model.ls(made or b"", size, sign)
     is_right = [line for line in after if not line.endswith(" /new")] == lines
     is_right = is_right and len(after) == len(lines) + 1 and made.startswith(result.image)
-    wanted = (0, b"accepted 1 nodes 2 bytes 124\n", note)
     verdict(f"append --decompress to {about}", is_right and done == wanted, done)
 
 

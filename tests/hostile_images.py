@@ -88,7 +88,7 @@ def deep_damage(depth, count):
             at += BLOCK - at % BLOCK
         lines.append(b"%08x data-crc ino %d version %d bytes 0 to 4 hides %s/f\n" % (at, file, k + 2, path))
         at += 72
-    lines.append(b"total damaged %d paths %d missing 0\n" % (count, count))
+    lines.append(b"total damaged %d paths %d missing 0 gaps 0\n" % (count, count))
     return image, lines
 
 

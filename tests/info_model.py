@@ -19,6 +19,7 @@ import sys
 MAGIC, ACCURATE = 0x1985, 0x2000
 DIRENT, INODE, MARKER = 0xE001, 0xE002, 0x2003
 SIZES = range(4096, 4194305, 4)
+LAYOUTS = [(512, 16), (2048, 64), (4096, 128), (4096, 224)]
 BEGINNINGS = [(b'\x1f\x8b', 'gzip'), (b'\xfd7zXZ\0', 'xz'), (b'UBI#', 'UBI'), (b'hsqs', 'squashfs'),
               (b'HDR0', 'a TRX header'), (b'\x27\x05\x19\x56', 'a uImage header')]
 
@@ -114,12 +115,33 @@ def hint(image, size, order):
     return f'jffs2_image: note: this looks like --endian {name} --block {greatest} (or --auto)\n'
 
 
-def lines(image):
+def own_nodes(image):
+    """The order that more nodes have, they, and those in the other one."""
     little, big = list(walk(image, '<')), list(walk(image, '>'))
-    nodes, other = (big, little) if len(big) > len(little) else (little, big)
+    return ('big', big, little) if len(big) > len(little) else ('little', little, big)
+
+
+def sound(image):
+    return sum(node[2] in ('entry', 'inode') for node in own_nodes(image)[1])
+
+
+def spare(image):
+    """The layout by which most nodes are sound, if these are more than without one."""
+    best, most = None, sound(image)
+    for page, behind in LAYOUTS:
+        stride = page + behind
+        count = sound(b''.join(image[at:at + page] for at in range(0, len(image), stride)))
+        if count > most:
+            best, most = (page, behind), count
+    return best
+
+
+def lines(image):
+    name, nodes, other = own_nodes(image)
+    layout = spare(image) if any(node[2] == 'damaged' for node in nodes) else None
     kinds = [node[2] for node in nodes]
     ways = [node[5] for node in nodes if node[2] == 'inode']
-    order = f"order {'big' if nodes is big else 'little'} nodes {len(nodes)} other {len(other)}"
+    order = f"order {name} nodes {len(nodes)} other {len(other)}"
     counted = [kinds.count(kind) for kind in ('entry', 'inode', 'obsolete', 'damaged')]
     packed = [ways.count(way) for way in (0, 1, 2, 6, 7, 8)]
     return [
@@ -129,6 +151,7 @@ def lines(image):
         'nodes entries {} inodes {} obsolete {} damaged {} other {}'.format(*counted, len(nodes) - sum(counted)),
         'data none {} zero {} rtime {} zlib {} lzo {} lzma {} other {}'.format(*packed, len(ways) - sum(packed)),
         f'highest inode {max([n[3] for n in nodes], default=0)} version {max([n[4] for n in nodes], default=0)}',
+        *([f'spare {layout[1]} after each {layout[0]}'] if layout else []),
     ]
 
 

@@ -289,7 +289,7 @@ done
 line="what an image of 256 MiB is in 64 MiB of memory"
 (ulimit -v 65536; "$program" info greatest > out 2> err); got=$?; want 1 "" "jffs2_image: L3 OutOfMemory"
 for words in "info --help" "info -h" "help info"; do
-    run $words; want 0 "*Usage: jffs2_image info <IMAGE>*order little nodes N other N*Exit status:*" ""
+    run $words; want 0 "*Usage: jffs2_image info ?OPTIONS? <IMAGE>*--oob <P+S>*order little nodes N other N*Exit status:*" ""
 done
 # Two blocks of 8 KiB; a node over the end of the first 4096 bytes, and the marker of the third such block.
 { marker; entry; hello_flash 68; erased 7984; marker; } > two_blocks
@@ -344,10 +344,10 @@ run diff --block 4097 "$tree" "$tree"; want 1 "" "jffs2_image: M1 BlockSize$bloc
 run diff --block 8192 "$tree" "$top/tests/data/default.img"; want 1 "" "jffs2_image: M4 Compressed at *"
 run damage; want 2 "" "error: *<IMAGE>*Usage: *"
 run damage --scan "$tree"; want 2 "" "error: unexpected argument '--scan' found*Usage: *"
-run damage --decompress "$tree"; want 0 "total damaged 0 paths 0 missing 0" ""
+run damage --decompress "$tree"; want 0 "total damaged 0 paths 0 missing 0 gaps 0" ""
 run damage none; want 1 "" "$(unopened none)"
 run damage --block 4097 "$tree"; want 1 "" "jffs2_image: M1 BlockSize$block_note"
-run damage "$tree"; want 0 "total damaged 0 paths 0 missing 0" ""
+run damage "$tree"; want 0 "total damaged 0 paths 0 missing 0 gaps 0" ""
 for words in "damage --help" "damage -h" "help damage"; do
     run $words; want 0 "*Usage: jffs2_image damage *<IMAGE>*hides PATH*Exit status:*" ""
 done
@@ -398,7 +398,7 @@ run diff flipped flipped; want 3 "" "$(named flipped 1)"$'\n'"$(named flipped 1)
 run diff one.img flipped; want 3 "*- d 0755 0 0 0 /d*" "$(named flipped 1)"
 run diff flipped one.img; want 3 "*+ d 0755 0 0 0 /d*" "$(named flipped 1)"
 cp flipped $'a\nb'; run diff one.img $'a\nb'; want 3 "*" "$(named 'a\\\\x0ab' 1)"
-run damage one.img; want 0 "total damaged 0 paths 0 missing 0" ""
+run damage one.img; want 0 "total damaged 0 paths 0 missing 0 gaps 0" ""
 run damage flipped; want 3 "*total damaged 1 *" "$(noted 1)"
 run map one.img; want 0 $'# live *\nblock *\n    0 00000000 *\ntotal *' ""
 run map flipped; want 0 $'# live *\n    0 00000000 *\ntotal *' "$(noted 1)"

@@ -106,7 +106,7 @@ def verb_faults():
     places = {
         "docs/jffs2_image.5": r"^\.It Li {} Ar",
         "docs/FORMAT.md": r"`{}[` ]",
-        "crates/jcommand/src/help.rt": r"^ *{} [A-Z]",
+        "crates/jcommand/src/epilogues.rt": r"^ *{} [A-Z]",
     }
     faults = [] if verbs else ["crates/jlisting/src/forms.rt reads no line"]
     right = 0

@@ -36,7 +36,7 @@ PATTERNS = {
 # pages that are to be read at once: how many lines they may have
 LENGTHS = {"README.md": 150, "docs/PROOFS.md": 250}
 # the help of the program, and the words on it in a Debian package
-HELP = "crates/jcommand/src/help.rt"
+HELP = ["crates/jcommand/src/help.rt", "crates/jcommand/src/epilogues.rt"]
 CONTROL = "release/debian/control"
 # the page on the calls that a programmer in C reads
 HEADER = "bindings/c/jffs2.h"
@@ -58,7 +58,7 @@ def documents():
     pages += glob.glob("docs/**/*.[157]", recursive=True)
     for folder in ("bench", "tests", "bindings"):
         pages += glob.glob(f"{folder}/**/README.md", recursive=True)
-    return sorted(pages) + [HEADER, HELP, "release/LICENCE.txt", CONTROL]
+    return sorted(pages) + [HEADER, *HELP, "release/LICENCE.txt", CONTROL]
 
 
 def markdown_paragraphs(text):
@@ -167,7 +167,7 @@ def paragraphs(path):
     """Each paragraph of a page as plain words, with its line."""
     with open(path, encoding="utf-8") as file:
         text = file.read()
-    if path == HELP:
+    if path in HELP:
         return list(help_paragraphs(text))
     if path == HEADER:
         return list(header_paragraphs(text))

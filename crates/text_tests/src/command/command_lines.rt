@@ -636,7 +636,7 @@ const HELP: [(&str, &str); 24] = [
     ("t help check", "Usage: t check [OPTIONS] <IMAGE>"),
     ("t ls --help", "Usage: t ls [OPTIONS] <IMAGE>"),
     ("t help ls", "KIND MODE UID GID SIZE MTIME INO PATH"),
-    ("t info --help", "Usage: t info <IMAGE>"),
+    ("t info --help", "Usage: t info [OPTIONS] <IMAGE>"),
     ("t diff --help", "Usage: t diff [OPTIONS] <A> <B>"),
     ("t damage --help", "Usage: t damage [OPTIONS] <IMAGE>"),
     ("t help damage", "'hides nothing' means that the"),
