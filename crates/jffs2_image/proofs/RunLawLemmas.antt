@@ -35,7 +35,7 @@ use Rattle.jupdates.proofs.UpdateLaws.{build_compressed_leaves_files, update_lea
 use Rattle.jremakes.specs.Laws.{Apart, Compact, CompactApart, Compress, Decompress}
 use Rattle.jremakes.proofs.LeftLemmas.{remade_is_left}
 use Rattle.jffs2_image.specs.RunLaws.{AtomicCommandsLeaveFiles, AutoDoesAsGiven, IsAtomic, IsPrintedOnly, PrintingMakesNothing, Product, product_of}
-use Rattle.jffs2_image.specs.Running.{command_act, found_act, image_looked, refused_act, remaking_asked, spare_act}
+use Rattle.jffs2_image.specs.Running.{command_act, found_act, image_left, image_looked, refused_act, remaking_asked, spare_act}
 
 -- ---- nothing is made
 
@@ -116,8 +116,8 @@ leaving_looks None None asked = looking.answers_looks _
 
 pub printing_makes_nothing : PrintingMakesNothing
 printing_makes_nothing = (
-  λ asked is. looking.step_looks (spare_act asked.spare (image_looked asked) asked.command) (λ _. found_act (image_looked asked) asked.command)
-      (leaving_looks asked.spare (image_looked asked) asked.command) (λ _. found_looks (image_looked asked) asked.command is),
+  λ asked is. looking.step_looks (spare_act asked.spare (image_left asked) asked.command) (λ _. found_act (image_looked asked) asked.command)
+      (leaving_looks asked.spare (image_left asked) asked.command) (λ _. found_looks (image_looked asked) asked.command is),
   refused_looks,
 )
 
@@ -178,10 +178,10 @@ image_leaves (Some image) asked events f atomic other did = found_leaves image a
 -- before that the spare bytes of its images are left out
 pub atomic_commands_leave_files : AtomicCommandsLeaveFiles
 atomic_commands_leave_files asked events f atomic other (Ends g did is) =
-    let looks = leaving_looks asked.spare (image_looked asked) asked.command events (Err g) did in
+    let looks = leaving_looks asked.spare (image_left asked) asked.command events (Err g) did in
     let quiet = looks_quiet [] events looks in record { others = quiet.others; removed = quiet.removed }
 atomic_commands_leave_files asked events f atomic other (GoesOn done before after did more is) =
     let rest = image_leaves (image_looked asked) asked.command after f atomic other more in
-    let looked = looks_quiet [] before (leaving_looks asked.spare (image_looked asked) asked.command before (Ok done) did) in
+    let looked = looks_quiet [] before (leaving_looks asked.spare (image_left asked) asked.command before (Ok done) did) in
     let quiet = quiet_then [] before after looked (record { others = rest.others; removed = rest.removed }) in
     subst (λ (l : List Event). LeavesFiles l) (sym is) (record { others = quiet.others; removed = quiet.removed })

@@ -101,7 +101,7 @@ found_act (Some image) asked = auto_act (writes_image asked) image
 
 -- With `--oob` the images that the command reads are dumps of which each page has spare bytes
 -- behind it: of them the pages alone are read. With `--auto` and no layout that is found, if the
--- image that options are found in shows one.
+-- image shows one and none is written.
 abbrev pub spare_act : Option PageLayout → Option Text → Command Text → Act Unit
 spare_act (Some layout) looked asked = leaves_spare layout (images_read asked)
 spare_act None (Some image) asked = leaving_act image
@@ -113,9 +113,13 @@ spare_act None None asked = answers (λ result. result ≡ Ok (tt {0}))
 abbrev pub image_looked : Request Text → Option Text
 image_looked request = if request.auto then image_read request.command else None
 
+-- the image whose spare bytes are looked for, unless one is written, which may be the same file
+abbrev pub image_left : Request Text → Option Text
+image_left request = if writes_image request.command then None else image_looked request
+
 abbrev pub request_act : Request Text → Act Told
 request_act request =
-    Then (spare_act request.spare (image_looked request) request.command) (λ _.
+    Then (spare_act request.spare (image_left request) request.command) (λ _.
     found_act (image_looked request) request.command)
 
 -- ---- the words

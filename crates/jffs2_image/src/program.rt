@@ -6,7 +6,7 @@ ghost use Rattle.jcommand.specs.Requests.{images_read, request_view, with_option
 ghost use Rattle.jedge.specs.Acts.{DoesFrom};
 ghost use Rattle.jedge.specs.Commands.{reported};
 ghost use Rattle.jedge.specs.Sparing.{leaves_spare};
-ghost use Rattle.jffs2_image.specs.Running.{command_act, found_act, image_looked, request_act, run_act, spare_act};
+ghost use Rattle.jffs2_image.specs.Running.{command_act, found_act, image_left, image_looked, request_act, run_act, spare_act};
 
 use crate::commands::run_command;
 use crate::words::answer_refused;
@@ -96,15 +96,27 @@ fn leave_given<H: SpareHost>(
     }
 }
 
+/// The image whose spare bytes are looked for, with `--auto`. None if an image is written: that may
+/// be the same file, and what is left out would be lost.
+fn image_left<'a>(request: &Request<&'a str>) -> Option<&'a str>
+    ensures { option_map (λ n. n.now) result ≡ image_left (request_view request.now) }
+{
+    if request.command.writes_image() {
+        None
+    } else {
+        image_looked(request)
+    }
+}
+
 /// Leaves out the spare bytes that are given, or that are found with `--auto`.
 fn leave_spare<H: SpareHost>(host: &mut H, request: &Request<&str>) -> Result<(), Fault>
     ensures { DoesFrom (H.history host.old) (H.history host.new)
-        (spare_act request.now.spare (image_looked (request_view request.now))
+        (spare_act request.now.spare (image_left (request_view request.now))
         (command_view request.now.command)) result }
 {
     match request.spare {
         Some(layout) => leave_given(host, layout, &request.command),
-        None => match image_looked(request) {
+        None => match image_left(request) {
             Some(image) => leave_found(host, image),
             None => Ok(()),
         },

@@ -9,5 +9,6 @@ mod growth;
 mod outputs;
 mod packing;
 mod sizes;
+mod sparing;
 mod updating;
 mod verifying;
