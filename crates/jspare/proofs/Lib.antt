@@ -1,3 +1,4 @@
 mod PageLemmas
 mod PagingLemmas
+mod PartLemmas
 mod FindingLemmas

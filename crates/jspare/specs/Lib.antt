@@ -3,3 +3,5 @@ pub mod Paging
 pub mod Finding
 pub mod Laws
 pub mod Showing
+pub mod Regions
+pub mod Parts

@@ -7,6 +7,9 @@
 //! - `PageLayout` is the size of a page and of its spare bytes; `LAYOUTS` are the usual ones.
 //! - `drop_spare` makes the image of a dump, in the dump's own memory.
 //! - `PageSource` gives the same of a source, page by page.
+//! - `Region` is the part of a file that is the image: an offset and a length, which do not count the
+//!   spare bytes. `RegionSource` gives this part of a source, and refuses one that the file does not
+//!   have.
 //! - `spare_of` finds the layout of a dump by its whole nodes, `spare_shown` only if a node is
 //!   damaged; `put_spare` puts the line on it.
 #![tactic(auto)]
@@ -17,6 +20,8 @@ mod finding;
 pub mod laws;
 mod layout;
 mod line;
+mod part;
+mod region;
 mod showing;
 mod source;
 
@@ -24,5 +29,7 @@ pub use crate::dropping::drop_spare;
 pub use crate::finding::spare_of;
 pub use crate::layout::{LAYOUTS, PageLayout};
 pub use crate::line::put_spare;
+pub use crate::part::RegionSource;
+pub use crate::region::Region;
 pub use crate::showing::spare_shown;
 pub use crate::source::PageSource;
