@@ -1,0 +1,3 @@
+pub mod LawLemmas
+pub mod MountLemmas
+pub mod TakingLemmas

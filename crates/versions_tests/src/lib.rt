@@ -1,0 +1,10 @@
+//! Tests of `jversions` through its public call: revisions of worked images, from the rules and not
+//! from the program's output, in both byte orders; and a sink that fails.
+#![tactic(auto)]
+
+#[cfg(test)]
+mod checks;
+#[cfg(test)]
+mod images;
+#[cfg(test)]
+mod revisions;
