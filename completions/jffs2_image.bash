@@ -3,10 +3,11 @@
 
 # The options of a command, or of the program if there is no command.
 _jffs2_image_options() {
-    local plain='-e --block --endian -l --little-endian -b --big-endian' spare='--oob' auto='-a --auto --oob' write='--blocks --page' place='-p --pad --atomic' out='-o --output' help='-h --help'
+    local plain='-e --block --endian -l --little-endian -b --big-endian' region='--oob --offset --length' auto='-a --auto --oob --offset --length' write='--blocks --page' place='-p --pad --atomic' out='-o --output' help='-h --help'
     case $1 in
-        check) echo "$plain $auto --scan --shape --decompress $help" ;;
-        ls | cat) echo "$plain $auto --decompress $help" ;;
+        check) echo "$plain $auto --scan --shape --decompress --json $help" ;;
+        ls) echo "$plain $auto --decompress --json $help" ;;
+        cat) echo "$plain $auto --decompress --ino --upto $help" ;;
         build) echo "$plain $write --weak --compress $place $out $help" ;;
         append) echo "$plain $auto $write --weak $place --decompress $out $help" ;;
         update) echo "$plain $auto $write --plain --tail $place $out $help" ;;
@@ -15,14 +16,14 @@ _jffs2_image_options() {
         compact) echo "$plain $auto --blocks --clashes $place --force $out $help" ;;
         extract) echo "$plain $auto --decompress --owners --quiet $help" ;;
         listing) echo "--owner --time --quiet $help" ;;
-        info) echo "$spare $help" ;;
-        cuts) echo "$plain $auto $write --on --compress --decompress --update --plain --tail $help" ;;
-        diff) echo "$plain $auto --decompress --times $help" ;;
-        damage) echo "$plain $auto --decompress $help" ;;
-        map) echo "$plain $auto --svg $help" ;;
-        history) echo "$plain $auto $help" ;;
+        info) echo "$region --json $help" ;;
+        cuts) echo "$plain $auto $write --on --compress --decompress --update --plain --tail --json $help" ;;
+        diff) echo "$plain $auto --decompress --times --json $help" ;;
+        damage) echo "$plain $auto --decompress --json $help" ;;
+        map) echo "$plain $auto --svg --json $help" ;;
+        history) echo "$plain $auto --json $help" ;;
         pack) echo "$plain $write --weak --compress $place $out --owner --time --quiet $help" ;;
-        verify) echo "$plain $auto --times --owner --time --quiet $help" ;;
+        verify) echo "$plain $auto --times --owner --time --quiet --json $help" ;;
         '') echo "$help -V --version" ;;
     esac
 }
@@ -31,7 +32,7 @@ _jffs2_image_options() {
 _jffs2_image_count() {
     case $1 in
         --owner) echo 2 ;;
-        -e | --block | --eraseblock | --endian | --blocks | --page | --time | --on | --clashes | --oob | -o | --output) echo 1 ;;
+        -e | --block | --eraseblock | --endian | --blocks | --page | --time | --on | --clashes | --oob | --offset | --length | --ino | --upto | -o | --output) echo 1 ;;
         *) echo 0 ;;
     esac
 }

@@ -47,6 +47,12 @@ complete -c jffs2_image -n '__jffs2_image_in check ls cat append update decompre
     -s a -l auto -d 'Find both in the image'
 complete -c jffs2_image -n '__jffs2_image_in check ls cat append update decompress compress compact extract info cuts diff damage map history verify' \
     -l oob -x -a '512+16 2048+64 4096+128 4096+224' -d 'Leave out spare bytes behind each page'
+complete -c jffs2_image -n '__jffs2_image_in check ls cat append update decompress compress compact extract info cuts diff damage map history verify' \
+    -l offset -x -d 'Where the image begins in the file'
+complete -c jffs2_image -n '__jffs2_image_in check ls cat append update decompress compress compact extract info cuts diff damage map history verify' \
+    -l length -x -d 'How many bytes the image has'
+complete -c jffs2_image -n '__jffs2_image_in check ls info cuts diff damage map history verify' -l json \
+    -d 'A JSON object for each line'
 complete -c jffs2_image -n '__jffs2_image_in build append update compact cuts pack' -l blocks -x -d 'Number of blocks'
 complete -c jffs2_image -n '__jffs2_image_in build append update cuts pack' -l page -x \
     -a '4096 8192 16384' -d 'Largest piece of a file in one node'
@@ -70,6 +76,8 @@ complete -c jffs2_image -n '__jffs2_image_in check' -l scan -d 'Report alone, no
 complete -c jffs2_image -n '__jffs2_image_in check' -l shape -d 'Whether the directories make a tree'
 complete -c jffs2_image -n '__jffs2_image_in update cuts' -l plain -d 'Do not compress new nodes'
 complete -c jffs2_image -n '__jffs2_image_in update cuts' -l tail -d 'Write into begun blocks too'
+complete -c jffs2_image -n '__jffs2_image_in cat' -l ino -x -d 'Inode, in place of a path'
+complete -c jffs2_image -n '__jffs2_image_in cat' -l upto -x -d 'Highest version that counts'
 complete -c jffs2_image -n '__jffs2_image_in map' -l svg -d 'One SVG picture'
 complete -c jffs2_image -n '__jffs2_image_in cuts' -l on -r -d 'Image to go on from'
 complete -c jffs2_image -n '__jffs2_image_in cuts' -l update -d 'What update would write'

@@ -12,10 +12,10 @@ use Rattle.jedge.specs.Commands.{ends, reported}
 use Rattle.jedge.specs.Laws.{Happened, MakesNothing}
 use Rattle.jedge.specs.Told.{Told}
 use Rattle.jedge.specs.declared.fault.Fault.{Fault}
-use Rattle.jedge.proofs.LookingLemmas.{answers_looks, loads_looks, said_looks, spare_looks, step_looks, then_looks}
+use Rattle.jedge.proofs.LookingLemmas.{answers_looks, loads_looks, said_looks, region_looks, step_looks, then_looks}
 use Rattle.jedge.proofs.Steps.{History, does_at, step_reported, then_err, then_reported}
 use Rattle.jauto.specs.AutoLaws.{DoesFound, EndsUnfound, FoundAreTold, LeavingMakesNothing, LookingMakesNothing}
-use Rattle.jauto.specs.Leaving.{leaves_shown}
+use Rattle.jauto.specs.Leaving.{leaves_shown, pages_alone}
 use Rattle.jauto.specs.Looking.{auto_act, options_act, takes_options}
 use Rattle.jauto.specs.Taking.{taking_of}
 use Rattle.jauto.specs.TakingText.{left_line, taken_line, unclear_line}
@@ -34,7 +34,7 @@ looking_makes_nothing writes name = then_looks (loads name) _ (loads_looks name)
 
 leaves_looks : (name : List ℕ) (spare : Option PageLayout) → MakesNothing (leaves_shown name spare)
 leaves_looks name None = answers_looks _
-leaves_looks name (Some layout) = then_looks _ _ (λ events r said. said_looks (Some (left_line layout)) events said) (λ _. spare_looks layout (name ∷ []))
+leaves_looks name (Some layout) = then_looks _ _ (λ events r said. said_looks (Some (left_line layout)) events said) (λ _. region_looks (pages_alone layout) (name ∷ []))
 
 pub leaving_makes_nothing : LeavingMakesNothing
 leaving_makes_nothing name = then_looks (loads name) _ (loads_looks name) (λ (dump : List ℕ).

@@ -55,37 +55,53 @@ plain_command name = with_rule
     (lettered_flag (codes "little-endian") 108))
     (lettered_flag (codes "big-endian") 98)
 
--- a subcommand that reads the pages of an image alone, where their spare bytes are given
-abbrev pub sparing : App → App
-sparing app = with_rule app (option_of (codes "oob"))
+-- a subcommand that reads a part of a file as the image, where that is given: without spare bytes,
+-- from an offset on, and of a length; in the comments below REGION is
+-- `[--oob P+S] [--offset A] [--length N]`
+abbrev pub regional : App → App
+regional app = with_rule
+    (with_rule (with_rule app (option_of (codes "oob"))) (option_of (codes "offset")))
+    (option_of (codes "length"))
 
 -- the same, which finds these options in the image, where `--auto` or `-a` is given
 abbrev pub automatic : App → App
-automatic app = sparing (with_rule app (lettered_flag (codes "auto") 97))
+automatic app = regional (with_rule app (lettered_flag (codes "auto") 97))
 
 abbrev pub reader : Text → App
 reader name = automatic (plain_command name)
+
+-- one that prints its lines as JSON, where that is asked for
+abbrev pub printing : App → App
+printing app = with_rule app (flag (codes "json"))
+
+abbrev pub printer : Text → App
+printer name = printing (reader name)
 
 -- a subcommand that decompresses the images that it reads, where that is asked for
 abbrev pub decompressing : App → App
 decompressing app = with_rule app (flag (codes "decompress"))
 
--- `check [--scan] [--shape] [--decompress] [--auto] [--oob P+S] [--block N] [--endian ORDER] IMAGE`
+-- `check [--scan] [--shape] [--decompress] [--auto] [REGION] [--block N] [--endian ORDER] IMAGE`
 abbrev pub check_app : App
 check_app = with_rule
-    (decompressing (with_rule (with_rule (reader (codes "check")) (flag (codes "scan")))
+    (decompressing (with_rule (with_rule (printer (codes "check")) (flag (codes "scan")))
     (flag (codes "shape"))))
     (word (codes "IMAGE"))
 
--- `ls [--decompress] [--auto] [--oob P+S] [--block N] [--endian ORDER] IMAGE [PATH]`
+-- `ls [--decompress] [--auto] [REGION] [--block N] [--endian ORDER] IMAGE [PATH]`
 abbrev pub ls_app : App
-ls_app = with_rule (with_rule (decompressing (reader (codes "ls"))) (word (codes "IMAGE")))
+ls_app = with_rule (with_rule (decompressing (printer (codes "ls"))) (word (codes "IMAGE")))
     (optional_word (codes "PATH"))
 
--- `cat [--decompress] [--auto] [--oob P+S] [--block N] [--endian ORDER] IMAGE PATH`
+-- `cat [--decompress] [--ino I [--upto V]] [--auto] [REGION] [--block N] [--endian ORDER] IMAGE
+-- [PATH]`
 abbrev pub cat_app : App
-cat_app = with_rule (with_rule (decompressing (reader (codes "cat"))) (word (codes "IMAGE")))
-    (word (codes "PATH"))
+cat_app = with_rule
+    (with_rule
+    (with_rule (with_rule (decompressing (reader (codes "cat"))) (option_of (codes "ino")))
+    (option_of (codes "upto")))
+    (word (codes "IMAGE")))
+    (optional_word (codes "PATH"))
 
 -- a subcommand that writes to flash of so many blocks, by pages
 abbrev pub writer : Text → App
@@ -119,7 +135,7 @@ abbrev pub build_app : App
 build_app =
     writing (with_rule (placing (compressing (noting (codes "build")))) (word (codes "LISTING")))
 
--- `append --blocks N [--page N] [--weak] [--pad] [--atomic] [--decompress] [--auto] [--oob P+S]
+-- `append --blocks N [--page N] [--weak] [--pad] [--atomic] [--decompress] [--auto] [REGION]
 -- [--block N] [--endian ORDER] IMAGE LISTING OUT`
 abbrev pub append_app : App
 append_app = writing
@@ -132,7 +148,7 @@ append_app = writing
 abbrev pub updating : App → App
 updating app = with_rule (with_rule app (flag (codes "plain"))) (flag (codes "tail"))
 
--- `update [--blocks N] [--page N] [--plain] [--tail] [--pad] [--atomic] [--auto] [--oob P+S]
+-- `update [--blocks N] [--page N] [--plain] [--tail] [--pad] [--atomic] [--auto] [REGION]
 -- [--block N] [--endian ORDER] IMAGE LISTING OUT`
 abbrev pub update_app : App
 update_app = writing
@@ -149,7 +165,7 @@ update_app = writing
 abbrev pub replacing : App → App
 replacing app = with_rule (atomic app) (flag (codes "force"))
 
--- `decompress [--clashes RULE] [--atomic] [--force] [--auto] [--oob P+S] [--block N] [--endian
+-- `decompress [--clashes RULE] [--atomic] [--force] [--auto] [REGION] [--block N] [--endian
 -- ORDER] IMAGE OUT`
 abbrev pub decompress_app : App
 decompress_app = writing
@@ -157,12 +173,12 @@ decompress_app = writing
     (replacing (with_rule (reader (codes "decompress")) (option_of (codes "clashes"))))
     (word (codes "IMAGE")))
 
--- `compress [--atomic] [--force] [--auto] [--oob P+S] [--block N] [--endian ORDER] IMAGE OUT`
+-- `compress [--atomic] [--force] [--auto] [REGION] [--block N] [--endian ORDER] IMAGE OUT`
 abbrev pub compress_app : App
 compress_app =
     writing (with_rule (replacing (reader (codes "compress"))) (word (codes "IMAGE")))
 
--- `compact [--blocks N] [--clashes RULE] [--pad] [--atomic] [--force] [--auto] [--oob P+S] [--block
+-- `compact [--blocks N] [--clashes RULE] [--pad] [--atomic] [--force] [--auto] [REGION] [--block
 -- N] [--endian ORDER] IMAGE OUT`
 abbrev pub compact_app : App
 compact_app = writing
@@ -194,7 +210,7 @@ pack_app = writing
     (flag (codes "weak"))))))
     (word (codes "DIR")))
 
--- `extract [--decompress] [--auto] [--oob P+S] [--block N] [--endian ORDER] [--owners] [--quiet]
+-- `extract [--decompress] [--auto] [REGION] [--block N] [--endian ORDER] [--owners] [--quiet]
 -- IMAGE DIR [PATH]`
 abbrev pub extract_app : App
 extract_app = with_rule
@@ -211,12 +227,12 @@ listing_app = with_rule
     (with_rule (with_rule (with_rule (new_app (codes "listing")) (option_of_two (codes "owner")))
     (option_of (codes "time"))) (flag (codes "quiet"))) (word (codes "DIR"))
 
--- `info [--oob P+S] IMAGE`
+-- `info [REGION] IMAGE`
 abbrev pub info_app : App
-info_app = with_rule (sparing (new_app (codes "info"))) (word (codes "IMAGE"))
+info_app = with_rule (printing (regional (new_app (codes "info")))) (word (codes "IMAGE"))
 
 -- `cuts [--blocks N] [--page N] [--on IMAGE] [--compress] [--decompress] [--update [--plain]
--- [--tail]] [--auto] [--oob P+S] [--block N] [--endian ORDER] LISTING`
+-- [--tail]] [--auto] [REGION] [--block N] [--endian ORDER] LISTING`
 abbrev pub cuts_app : App
 cuts_app = with_rule
     (updating
@@ -224,38 +240,38 @@ cuts_app = with_rule
     (decompressing
     (compressing
     (with_rule
-    (with_rule (with_rule (reader (codes "cuts")) (option_of (codes "blocks")))
+    (with_rule (with_rule (printer (codes "cuts")) (option_of (codes "blocks")))
     (option_or (codes "page") (codes "4096")))
     (option_of (codes "on")))))
     (flag (codes "update"))))
     (word (codes "LISTING"))
 
--- `diff [--decompress] [--times] [--auto] [--oob P+S] [--block N] [--endian ORDER] A B`
+-- `diff [--decompress] [--times] [--auto] [REGION] [--block N] [--endian ORDER] A B`
 abbrev pub diff_app : App
 diff_app = with_rule
-    (with_rule (with_rule (decompressing (reader (codes "diff"))) (flag (codes "times")))
+    (with_rule (with_rule (decompressing (printer (codes "diff"))) (flag (codes "times")))
     (word (codes "A")))
     (word (codes "B"))
 
--- `damage [--decompress] [--auto] [--oob P+S] [--block N] [--endian ORDER] IMAGE`
+-- `damage [--decompress] [--auto] [REGION] [--block N] [--endian ORDER] IMAGE`
 abbrev pub damage_app : App
-damage_app = with_rule (decompressing (reader (codes "damage"))) (word (codes "IMAGE"))
+damage_app = with_rule (decompressing (printer (codes "damage"))) (word (codes "IMAGE"))
 
--- `map [--svg] [--auto] [--oob P+S] [--block N] [--endian ORDER] IMAGE`
+-- `map [--svg] [--auto] [REGION] [--block N] [--endian ORDER] IMAGE`
 abbrev pub map_app : App
-map_app = with_rule (with_rule (reader (codes "map")) (flag (codes "svg")))
+map_app = with_rule (with_rule (printer (codes "map")) (flag (codes "svg")))
     (word (codes "IMAGE"))
 
--- `history [--auto] [--oob P+S] [--block N] [--endian ORDER] IMAGE [PATH]`
+-- `history [--auto] [REGION] [--block N] [--endian ORDER] IMAGE [PATH]`
 abbrev pub history_app : App
-history_app = with_rule (with_rule (reader (codes "history")) (word (codes "IMAGE")))
+history_app = with_rule (with_rule (printer (codes "history")) (word (codes "IMAGE")))
     (optional_word (codes "PATH"))
 
--- `verify [--times] [--owner UID GID] [--time T] [--quiet] [--auto] [--oob P+S] [--block N]
+-- `verify [--times] [--owner UID GID] [--time T] [--quiet] [--auto] [REGION] [--block N]
 -- [--endian ORDER] IMAGE DIR`
 abbrev pub verify_app : App
 verify_app = with_rule
-    (with_rule (folder_settings (with_rule (reader (codes "verify")) (flag (codes "times"))))
+    (with_rule (folder_settings (with_rule (printer (codes "verify")) (flag (codes "times"))))
     (word (codes "IMAGE")))
     (word (codes "DIR"))
 

@@ -1,7 +1,7 @@
-pub mod Layouts
 pub mod Parsed
 pub mod Commands
 pub mod Refused
+pub mod Regions
 pub mod Requests
 pub mod Status
 pub mod Worked

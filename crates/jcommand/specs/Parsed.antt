@@ -1,5 +1,5 @@
 -- What a command line asks for, by clap's matches of its words.
-use Rattle.std.specs.Prelude.{◌≡◌, ◌≢◌, ◌⊎◌, ◌+◌, ◌-◌, ◌*◌, ◌^◌, ◌&&◌, ◌||◌, ℕ, Bool, true, false, List, [], ◌∷◌, Option, Some, None, if◌then◌else◌, nat_lt, codes, is_some, option_and_then, option_map}
+use Rattle.std.specs.Prelude.{◌≡◌, ◌≢◌, ◌⊎◌, ◌+◌, ◌-◌, ◌*◌, ◌^◌, ◌&&◌, ◌||◌, ℕ, Bool, true, false, List, [], ◌∷◌, Option, Some, None, if◌then◌else◌, nat_lt, codes, is_none, is_some, not, option_and_then, option_map}
 use Rattle.std.specs.Borrow.{Bor}
 use Rattle.std.specs.Char.{is_ascii_digit}
 use Rattle.std.specs.Str.{bytes_eq}
@@ -26,6 +26,7 @@ use Rattle.jcommand.specs.declared.parsed.Extraction.{Extraction}
 use Rattle.jcommand.specs.declared.parsed.FolderListing.{FolderListing}
 use Rattle.jcommand.specs.declared.parsed.Image.{Image}
 use Rattle.jcommand.specs.declared.parsed.Mapping.{Mapping}
+use Rattle.jcommand.specs.declared.parsed.InodeContent.{InodeContent}
 use Rattle.jcommand.specs.declared.parsed.NodeHistory.{NodeHistory}
 use Rattle.jcommand.specs.declared.parsed.Options.{Options}
 use Rattle.jcommand.specs.declared.parsed.Owner.{Owner}
@@ -153,6 +154,14 @@ updating_view u = record {
 abbrev pub mapping_view : Mapping (Bor Text) → Mapping Text
 mapping_view m = record { options = m.options; svg = m.svg; image = m.image.now }
 
+abbrev pub inode_view : InodeContent (Bor Text) → InodeContent Text
+inode_view c = record {
+  options = c.options;
+  image = c.image.now;
+  ino = c.ino;
+  version = c.version;
+}
+
 abbrev pub history_view : NodeHistory (Bor Text) → NodeHistory Text
 history_view h = record {
   options = h.options;
@@ -218,6 +227,7 @@ command_view (command.Cat c) = command.Cat (record {
   image = c.image.now;
   path = c.path.now;
 })
+command_view (command.CatInode c) = command.CatInode (inode_view c)
 command_view (command.Info image) = command.Info image.now
 command_view (command.Diff d) = command.Diff (comparison_view d)
 command_view (command.Damage x) = command.Damage
@@ -261,6 +271,7 @@ order_asked (command.Check c) = c.options.endian
 order_asked (command.CheckThrough c) = c.options.endian
 order_asked (command.List l) = l.options.endian
 order_asked (command.Cat c) = c.options.endian
+order_asked (command.CatInode c) = c.options.endian
 order_asked (command.Info image) = Little
 order_asked (command.Diff d) = d.options.endian
 order_asked (command.Damage x) = x.options.endian
@@ -366,14 +377,42 @@ ls_in rows = image_in rows >>= λ i. Some (command.List (record {
   path = first_of (codes "PATH") rows;
 }))
 
-abbrev pub cat_in : List Row → Option (Command Text)
-cat_in rows = image_in rows >>= λ i. first_of (codes "PATH") rows >>= λ path.
+abbrev pub path_content_in : List Row → Option (Command Text)
+path_content_in rows = image_in rows >>= λ i. first_of (codes "PATH") rows >>= λ path.
     Some (command.Cat (record {
       options = i.options;
       decompress = is_given (codes "decompress") rows;
       image = i.image;
       path = path;
     }))
+
+-- without `--upto` all versions count
+abbrev pub version_by : Option Text → Option ℕ
+version_by None = Some 4294967295
+version_by (Some text) = decimal_number text
+
+abbrev pub inode_content_in : List Row → Option (Command Text)
+inode_content_in rows = image_in rows >>= λ i. number_option (codes "ino") rows >>= λ ino.
+    version_by (first_of (codes "upto") rows) >>= λ version.
+    Some (command.CatInode (record {
+      options = i.options;
+      image = i.image;
+      ino = ino;
+      version = version;
+    }))
+
+-- the words are on a path alone, or on an inode alone
+abbrev pub is_on_path : List Row → Bool
+is_on_path rows = is_none (first_of (codes "ino") rows) && is_none (first_of (codes "upto") rows)
+
+abbrev pub is_on_inode : List Row → Bool
+is_on_inode rows = is_none (first_of (codes "PATH") rows)
+    && not (is_given (codes "decompress") rows)
+
+abbrev pub cat_in : List Row → Option (Command Text)
+cat_in rows = if is_on_path rows then path_content_in rows
+    else if is_on_inode rows then inode_content_in rows
+    else None
 
 -- neither a block size nor a byte order is given
 abbrev pub info_in : List Row → Option (Command Text)

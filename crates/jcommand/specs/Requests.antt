@@ -1,21 +1,27 @@
 -- What a command line asks for: a command, whether its byte order, its block size and whether it
--- decompresses are found in the image that it reads, and the spare bytes of that image's pages.
-use Rattle.std.specs.Prelude.{◌≡◌, ◌&&◌, ◌||◌, Bool, true, false, List, [], ◌∷◌, Option, Some, None, if◌then◌else◌, codes, is_none, is_some, option_map}
+-- decompresses are found in the image that it reads, which part of a file that image is, and
+-- whether lines are printed as JSON.
+use Rattle.std.specs.Prelude.{◌≡◌, ◌&&◌, ◌||◌, not, Bool, true, false, List, [], ◌∷◌, Option, Some, None, if◌then◌else◌, codes, is_none, is_some, option_map}
 use Rattle.std.specs.Borrow.{Bor}
 use Rattle.std.specs.Str.{bytes_eq}
 use Rattle.clap.specs.Words.{Row, Text, fault_of, first_of, subcommand_of}
 use Rattle.jline.specs.Read.{◌>>=◌}
-use Rattle.jspare.specs.declared.layout.PageLayout.{PageLayout}
+use Rattle.jspare.specs.declared.region.Region.{Region}
 use Rattle.jcommand.specs.Commands.{program}
-use Rattle.jcommand.specs.Layouts.{layout_of}
 use Rattle.jcommand.specs.Parsed.{command_view, is_given, parsed}
+use Rattle.jcommand.specs.Regions.{region_by}
 use Rattle.jcommand.specs.declared.parsed.Command.{Command}
 use Rattle.jcommand.specs.declared.parsed.Command.TheVariants as command
 use Rattle.jcommand.specs.declared.parsed.Options.{Options}
 use Rattle.jcommand.specs.declared.request.Request.{Request}
 
 abbrev pub request_view : Request (Bor Text) → Request Text
-request_view r = record { auto = r.auto; spare = r.spare; command = command_view r.command }
+request_view r = record {
+  auto = r.auto;
+  region = r.region;
+  json = r.json;
+  command = command_view r.command;
+}
 
 abbrev pub as_list : {T : Type 0} → Option T → List T
 as_list None = []
@@ -30,6 +36,7 @@ image_read (command.Check c) = Some c.image
 image_read (command.CheckThrough c) = Some c.image
 image_read (command.List l) = Some l.image
 image_read (command.Cat c) = Some c.image
+image_read (command.CatInode c) = Some c.image
 image_read (command.Info image) = None
 image_read (command.Diff d) = Some d.first
 image_read (command.Damage x) = Some x.image
@@ -70,6 +77,7 @@ writes_image (command.Check c) = false
 writes_image (command.CheckThrough c) = false
 writes_image (command.List l) = false
 writes_image (command.Cat c) = false
+writes_image (command.CatInode c) = false
 writes_image (command.Info image) = false
 writes_image (command.Diff d) = false
 writes_image (command.Damage x) = false
@@ -93,6 +101,21 @@ writes_image (command.Pack p) = true
 writes_image (command.PackCompressed p) = true
 writes_image (command.Verify v) = false
 
+-- the file that it makes
+abbrev pub file_made : {T : Type 0} → Command T → Option T
+file_made (command.Build b) = Some b.target.output
+file_made (command.BuildCompressed b) = Some b.target.output
+file_made (command.Append a) = Some a.target.output
+file_made (command.Update u) = Some u.output
+file_made (command.Decompress c) = Some c.output
+file_made (command.Apart c) = Some c.output
+file_made (command.Compress c) = Some c.output
+file_made (command.Compact c) = Some c.conversion.output
+file_made (command.CompactApart c) = Some c.conversion.output
+file_made (command.Pack p) = Some p.output
+file_made (command.PackCompressed p) = Some p.output
+file_made _ = None
+
 -- The command with these options and with `--decompress`, where it has that word; one that reads no
 -- image stays as it is.
 abbrev pub with_options : {T : Type 0} → Options → Command T → Command T
@@ -101,6 +124,7 @@ with_options o (command.Check c) = command.CheckThrough (record c { options = o 
 with_options o (command.CheckThrough c) = command.CheckThrough (record c { options = o })
 with_options o (command.List l) = command.List (record l { options = o; decompress = true })
 with_options o (command.Cat c) = command.Cat (record c { options = o; decompress = true })
+with_options o (command.CatInode c) = command.CatInode (record c { options = o })
 with_options o (command.Info image) = command.Info image
 with_options o (command.Diff d) = command.Diff (record d { options = o; decompress = true })
 with_options o (command.Damage x) = command.Damage (record x { options = o; decompress = true })
@@ -155,22 +179,39 @@ is_read_once (Some name) = bytes_eq name (codes "-")
 abbrev pub has_no_second_read : Command Text → Bool
 has_no_second_read asked = is_none (image_read asked) || is_read_once (image_read asked)
 
--- of an image, where one is read
-abbrev pub spare_by : Bool → Option Text → Option (Option PageLayout)
-spare_by reads None = Some None
-spare_by reads (Some text) =
-    if reads then option_map (λ layout. Some layout) (layout_of text) else None
+-- a part of a file is given as the image
+abbrev pub is_region_given : List Row → Bool
+is_region_given rows = is_some (first_of (codes "oob") rows)
+    || is_some (first_of (codes "offset") rows) || is_some (first_of (codes "length") rows)
 
--- the spare bytes of the image's pages, where they are given; they say nothing where none is read
-abbrev pub spare_in : List Row → Command Text → Option (Option PageLayout)
-spare_in rows asked = spare_by (reads_image asked) (first_of (codes "oob") rows)
+-- which one
+abbrev pub region_told : List Row → Option Region
+region_told rows = region_by (first_of (codes "oob") rows) (first_of (codes "offset") rows)
+    (first_of (codes "length") rows)
 
--- `--auto` says nothing beside one of these, or where the image is not read twice
+-- the part of its images' files, where one is given; it says nothing where no image is read
+abbrev pub region_in : List Row → Command Text → Option (Option Region)
+region_in rows asked = if not (is_region_given rows) then Some None
+    else if reads_image asked then option_map (λ region. Some region) (region_told rows)
+    else None
+
+-- lines are printed as JSON
+abbrev pub is_json : List Row → Bool
+is_json = is_given (codes "json")
+
+-- `--auto` says nothing beside options, or where the image is not read twice; a picture is no JSON
+abbrev pub is_contrary : List Row → Command Text → Bool
+is_contrary rows asked = (is_auto rows && (are_options_given rows || has_no_second_read asked))
+    || (is_json rows && is_given (codes "svg") rows)
+
 abbrev pub request_of : List Row → Command Text → Option (Request Text)
-request_of rows asked =
-    if is_auto rows && (are_options_given rows || has_no_second_read asked) then None
-    else spare_in rows asked >>= λ spare.
-    Some (record { auto = is_auto rows; spare = spare; command = asked })
+request_of rows asked = if is_contrary rows asked then None else
+    region_in rows asked >>= λ region. Some (record {
+      auto = is_auto rows;
+      region = region;
+      json = is_json rows;
+      command = asked;
+    })
 
 abbrev pub request_by : Option (Text × List Row) → Option (Request Text)
 request_by (Some p) = parsed p.0 p.1 >>= request_of p.1
@@ -180,9 +221,17 @@ abbrev pub auto_by : Option (Text × List Row) → Bool
 auto_by (Some p) = is_auto p.1
 auto_by None = false
 
-abbrev pub spare_text_by : Option (Text × List Row) → Option Text
-spare_text_by (Some p) = first_of (codes "oob") p.1
-spare_text_by None = None
+abbrev pub json_by : Option (Text × List Row) → Bool
+json_by (Some p) = is_json p.1
+json_by None = false
+
+abbrev pub has_region_by : Option (Text × List Row) → Bool
+has_region_by (Some p) = is_region_given p.1
+has_region_by None = false
+
+abbrev pub region_from_rows : Option (Text × List Row) → Option Region
+region_from_rows (Some p) = if is_region_given p.1 then region_told p.1 else None
+region_from_rows None = None
 
 -- ---- by the words
 
@@ -190,16 +239,24 @@ spare_text_by None = None
 unfoldable pub auto_from : List Text → Bool
 auto_from args = auto_by (subcommand_of program args)
 
--- what is given with `--oob` among them
-unfoldable pub spare_text_from : List Text → Option Text
-spare_text_from args = spare_text_by (subcommand_of program args)
+-- `--json` is among them
+unfoldable pub json_from : List Text → Bool
+json_from args = json_by (subcommand_of program args)
+
+-- `--oob`, `--offset` or `--length` is among them
+unfoldable pub has_region_from : List Text → Bool
+has_region_from args = has_region_by (subcommand_of program args)
+
+-- the part of a file that they give
+unfoldable pub region_from : List Text → Option Region
+region_from args = region_from_rows (subcommand_of program args)
 
 -- rule: What is printed: What the words of a command line ask for.
 --   definitions: jcommand.Parsed.parsed_from, jcommand.Requests.request_from
 --   code: jcommand::command_line::asked
 --   laws: jcommand::laws::known_requests, jcommand::laws::known_placings,
 --   jcommand::laws::known_refusals, jcommand::laws::known_autos,
---   jcommand::laws::known_spares, jcommand::laws::requests_are_parsed
+--   jcommand::laws::known_regions, jcommand::laws::requests_are_parsed
 -- what the words ask for, by clap's matches of them
 unfoldable pub request_from : List Text → Option (Request Text)
 request_from args = request_by (subcommand_of program args)

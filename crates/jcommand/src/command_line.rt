@@ -8,12 +8,13 @@ ghost use Rattle.jcommand.specs.Refused.{IsHelp, IsUsage};
 ghost use Rattle.jcommand.specs.declared.command_line.RequestFault.TheVariants.{OutOfMemory};
 
 use crate::commands::make_program;
-use crate::layout::layout;
 use crate::matching::{
-    apart, are_options_given, endian, is_given, number, order_at, owner_number, page, parsed_of,
-    request_at, size_at, text_at, texts_at,
+    apart, are_options_given, endian, is_given, is_on_path, is_region_given, number, order_at,
+    owner_number, page, parsed_of, request_at, size_at, text_at, texts_at,
 };
+use crate::region::{layout, length};
 use crate::request::Request;
+use crate::sizes::size;
 use clap::error::ErrorKind;
 use clap::{ArgMatches, Error};
 use std::alloc::{AllocError, Global};
@@ -253,18 +254,78 @@ fn image_named<'a>(name: &str, found: &ArgMatches<'a>) -> Option<&'a str> {
     }
 }
 
-/// Spare bytes that can't be read, or that there is no image for.
-fn spare_objection<'a>(name: &str, found: &ArgMatches<'a>) -> Option<Objection<'a>> {
-    match text_at(found, "oob") {
-        Some(value) if layout(value).is_none() => Some(Objection::Value {
+/// What is wrong with the words of `cat`, if anything is.
+fn content_objection<'a>(found: &ArgMatches<'a>) -> Option<Objection<'a>> {
+    if is_on_path(found) {
+        return match text_at(found, "PATH") {
+            Some(_) => None,
+            None => Some(Objection::Missing("<PATH>")),
+        };
+    }
+    if text_at(found, "PATH").is_some() {
+        return Some(Objection::Conflict("--ino <I>", "<PATH>"));
+    }
+    if is_given(found, "decompress") {
+        return Some(Objection::Conflict("--ino <I>", "--decompress"));
+    }
+    let Some(ino) = text_at(found, "ino") else {
+        return Some(Objection::Missing("--ino <I>"));
+    };
+    let (value, option) = if number(ino).is_none() {
+        (ino, "--ino <I>")
+    } else {
+        (text_at(found, "upto").unwrap_or("0"), "--upto <V>")
+    };
+    match number(value) {
+        Some(_) => None,
+        None => Some(Objection::Value {
             value,
-            option: "--oob <P+S>",
-            wanted: "bytes of a page and spare ones behind it, up to 65536 of each, as 2048+64",
+            option,
+            wanted: "a number in decimal digits, below 4294967296",
         }),
-        Some(_) if name == "cuts" && text_at(found, "on").is_none() => {
+    }
+}
+
+/// What is wrong with the value of an option of the part of a file, if it can't be read.
+fn part_objection<'a>(found: &ArgMatches<'a>) -> Option<Objection<'a>> {
+    match text_at(found, "oob") {
+        Some(value) if layout(value).is_none() => {
+            return Some(Objection::Value {
+                value,
+                option: "--oob <P+S>",
+                wanted: "bytes of a page and spare ones behind it, up to 65536 of each, as 2048+64",
+            });
+        }
+        _ => {}
+    }
+    match text_at(found, "offset") {
+        Some(value) if size(value).is_none() => {
+            return Some(Objection::Value {
+                value,
+                option: "--offset <A>",
+                wanted: "a number of bytes below 4 GiB, as 524288, 0x80000 or 512KiB",
+            });
+        }
+        _ => {}
+    }
+    match text_at(found, "length") {
+        Some(value) if length(value).is_none() => Some(Objection::Value {
+            value,
+            option: "--length <N>",
+            wanted: "a number of bytes above 0 and below 4 GiB, as 4194304, 0x400000 or 4MiB",
+        }),
+        _ => None,
+    }
+}
+
+/// A part of a file that can't be read, or that there is no image for.
+fn region_objection<'a>(name: &str, found: &ArgMatches<'a>) -> Option<Objection<'a>> {
+    match part_objection(found) {
+        Some(objection) => Some(objection),
+        None if is_region_given(found) && name == "cuts" && text_at(found, "on").is_none() => {
             Some(Objection::Missing("--on <IMAGE>"))
         }
-        _ => None,
+        None => None,
     }
 }
 
@@ -287,13 +348,21 @@ fn objection_to<'a>(name: &str, found: &ArgMatches<'a>) -> Objection<'a> {
             return objection;
         }
     }
+    if name == "cat" {
+        if let Some(objection) = content_objection(found) {
+            return objection;
+        }
+    }
     if let Some(objection) = output_objection(name, found) {
         return objection;
     }
     if is_given(found, "compress") && is_given(found, "weak") {
         return Objection::Conflict("--compress", "--weak");
     }
-    match spare_objection(name, found) {
+    if is_given(found, "json") && is_given(found, "svg") {
+        return Objection::Conflict("--json", "--svg");
+    }
+    match region_objection(name, found) {
         Some(objection) => objection,
         None => value_objection(found),
     }

@@ -2,7 +2,7 @@
 //! takes.
 ghost use Rattle.std.specs.Prelude.{◌≡◌, Ok, IfOk};
 ghost use Rattle.clap.specs.Words.{App, Rule, new_app, with_rule, with_subcommand};
-ghost use Rattle.jcommand.specs.Commands.{IsApp, IsRule, MakesApp, word, optional_word, option_or, required_option, option_of, option_of_two, lettered_option, flag, lettered_flag, block_option, plain_command, automatic, reader, writer, noting, check_app, ls_app, cat_app, build_app, append_app, update_app, decompress_app, compress_app, compact_app, extract_app, listing_app, info_app, cuts_app, diff_app, damage_app, map_app, history_app, pack_app, verify_app, atomic, compressing, replacing, placing, sparing, writing, updating, folder_settings, bare, program};
+ghost use Rattle.jcommand.specs.Commands.{IsApp, IsRule, MakesApp, word, optional_word, option_or, required_option, option_of, option_of_two, lettered_option, flag, lettered_flag, block_option, plain_command, automatic, reader, writer, noting, check_app, ls_app, cat_app, build_app, append_app, update_app, decompress_app, compress_app, compact_app, extract_app, listing_app, info_app, cuts_app, diff_app, damage_app, map_app, history_app, pack_app, verify_app, atomic, compressing, replacing, placing, printer, printing, regional, writing, updating, folder_settings, bare, program};
 
 use crate::{epilogues, help};
 use clap::{Arg, ArgAction, Command};
@@ -152,12 +152,14 @@ fn make_plain<'a>(alloc: Global, name: &'a str, about: &'a str, after: &'a str) 
     add_arg(add_arg(command, little), big)
 }
 
-/// The command that reads the pages of an image alone, where their spare bytes are given.
-fn add_spare<'a>(alloc: Global, command: Made<'a>) -> Made<'a>
-    ensures { (app : App) → MakesApp command.entry app → MakesApp result (sparing app) }
+/// The command that reads a part of a file as the image, where that is given.
+fn add_region<'a>(alloc: Global, command: Made<'a>) -> Made<'a>
+    ensures { (app : App) → MakesApp command.entry app → MakesApp result (regional app) }
 {
     let layout = make_optional(alloc, "oob", "P+S", help::SPARE);
-    add_arg(command, layout)
+    let offset = make_optional(alloc, "offset", "A", help::OFFSET);
+    let length = make_optional(alloc, "length", "N", help::LENGTH);
+    add_arg(add_arg(add_arg(command, layout), offset), length)
 }
 
 /// The same, which finds its options in the image, where that is asked for.
@@ -165,7 +167,7 @@ fn add_auto<'a>(alloc: Global, command: Made<'a>) -> Made<'a>
     ensures { (app : App) → MakesApp command.entry app → MakesApp result (automatic app) }
 {
     let flag = make_lettered_flag(alloc, "auto", 'a', help::AUTO);
-    add_spare(alloc, add_arg(command, flag))
+    add_region(alloc, add_arg(command, flag))
 }
 
 /// A subcommand that reads an image.
@@ -175,6 +177,20 @@ fn make_reader<'a>(alloc: Global, name: &'a str, about: &'a str, after: &'a str)
     add_auto(alloc, make_plain(alloc, name, about, after))
 }
 
+/// The command that prints its lines as JSON, where that is asked for.
+fn add_json<'a>(alloc: Global, command: Made<'a>) -> Made<'a>
+    ensures { (app : App) → MakesApp command.entry app → MakesApp result (printing app) }
+{
+    add_arg(command, make_flag(alloc, "json", help::JSON))
+}
+
+/// A subcommand that reads an image, and prints lines of it.
+fn make_printer<'a>(alloc: Global, name: &'a str, about: &'a str, after: &'a str) -> Made<'a>
+    ensures { MakesApp result (printer name.now) }
+{
+    add_json(alloc, make_reader(alloc, name, about, after))
+}
+
 fn make_check<'a>(alloc: Global) -> Made<'a>
     ensures { MakesApp result check_app }
 {
@@ -182,7 +198,7 @@ fn make_check<'a>(alloc: Global) -> Made<'a>
     let shape = make_flag(alloc, "shape", help::SHAPE);
     let decompress = make_flag(alloc, "decompress", help::MOUNTED_DECOMPRESSED);
     let image = make_word(alloc, "IMAGE", help::IMAGE);
-    let command = make_reader(alloc, "check", help::CHECK, epilogues::CHECK);
+    let command = make_printer(alloc, "check", help::CHECK, epilogues::CHECK);
     let command = add_arg(add_arg(command, scan), shape);
     add_arg(add_arg(command, decompress), image)
 }
@@ -193,7 +209,7 @@ fn make_ls<'a>(alloc: Global) -> Made<'a>
     let decompress = make_flag(alloc, "decompress", help::SHOWN_DECOMPRESSED);
     let image = make_word(alloc, "IMAGE", help::IMAGE);
     let path = make_optional_word(alloc, "PATH", help::PART);
-    let command = make_reader(alloc, "ls", help::LIST, epilogues::LIST);
+    let command = make_printer(alloc, "ls", help::LIST, epilogues::LIST);
     add_arg(add_arg(add_arg(command, decompress), image), path)
 }
 
@@ -201,10 +217,13 @@ fn make_cat<'a>(alloc: Global) -> Made<'a>
     ensures { MakesApp result cat_app }
 {
     let decompress = make_flag(alloc, "decompress", help::SHOWN_DECOMPRESSED);
+    let ino = make_optional(alloc, "ino", "I", help::INO);
+    let upto = make_optional(alloc, "upto", "V", help::UPTO);
     let image = make_word(alloc, "IMAGE", help::IMAGE);
-    let path = make_word(alloc, "PATH", help::PATH);
+    let path = make_optional_word(alloc, "PATH", help::PATH);
     let command = make_reader(alloc, "cat", help::CAT, epilogues::CAT);
-    add_arg(add_arg(add_arg(command, decompress), image), path)
+    let command = add_arg(add_arg(add_arg(command, decompress), ino), upto);
+    add_arg(add_arg(command, image), path)
 }
 
 /// A subcommand that writes to flash of so many blocks, by pages.
@@ -377,7 +396,7 @@ fn make_info<'a>(alloc: Global) -> Made<'a>
 {
     let image = make_word(alloc, "IMAGE", help::IMAGE);
     let command = make_named(alloc, "info", help::INFO, epilogues::INFO);
-    add_arg(add_spare(alloc, Ok(command)), image)
+    add_arg(add_json(alloc, add_region(alloc, Ok(command))), image)
 }
 
 fn make_cuts<'a>(alloc: Global) -> Made<'a>
@@ -389,7 +408,7 @@ fn make_cuts<'a>(alloc: Global) -> Made<'a>
     let decompress = make_flag(alloc, "decompress", help::MOUNTED_DECOMPRESSED);
     let update = make_flag(alloc, "update", help::UPDATING);
     let listing = make_word(alloc, "LISTING", help::LISTING);
-    let command = make_reader(alloc, "cuts", help::CUTS, epilogues::CUTS);
+    let command = make_printer(alloc, "cuts", help::CUTS, epilogues::CUTS);
     let command = add_arg(add_arg(add_arg(command, blocks), page), on);
     let command = add_arg(add_compressing(alloc, command), decompress);
     let command = add_updating(alloc, add_arg(command, update));
@@ -403,7 +422,7 @@ fn make_diff<'a>(alloc: Global) -> Made<'a>
     let times = make_flag(alloc, "times", help::TIMES);
     let first = make_word(alloc, "A", help::FIRST);
     let second = make_word(alloc, "B", help::SECOND);
-    let command = make_reader(alloc, "diff", help::DIFF, epilogues::DIFF);
+    let command = make_printer(alloc, "diff", help::DIFF, epilogues::DIFF);
     let command = add_arg(add_arg(command, decompress), times);
     add_arg(add_arg(command, first), second)
 }
@@ -413,7 +432,7 @@ fn make_damage<'a>(alloc: Global) -> Made<'a>
 {
     let decompress = make_flag(alloc, "decompress", help::DECOMPRESSED);
     let image = make_word(alloc, "IMAGE", help::IMAGE);
-    let command = make_reader(alloc, "damage", help::DAMAGE, epilogues::DAMAGE);
+    let command = make_printer(alloc, "damage", help::DAMAGE, epilogues::DAMAGE);
     add_arg(add_arg(command, decompress), image)
 }
 
@@ -422,7 +441,7 @@ fn make_map<'a>(alloc: Global) -> Made<'a>
 {
     let svg = make_flag(alloc, "svg", help::SVG);
     let image = make_word(alloc, "IMAGE", help::IMAGE);
-    let command = make_reader(alloc, "map", help::MAP, epilogues::MAP);
+    let command = make_printer(alloc, "map", help::MAP, epilogues::MAP);
     add_arg(add_arg(command, svg), image)
 }
 
@@ -431,7 +450,7 @@ fn make_history<'a>(alloc: Global) -> Made<'a>
 {
     let image = make_word(alloc, "IMAGE", help::IMAGE);
     let path = make_optional_word(alloc, "PATH", help::FORMER);
-    let command = make_reader(alloc, "history", help::HISTORY, epilogues::HISTORY);
+    let command = make_printer(alloc, "history", help::HISTORY, epilogues::HISTORY);
     add_arg(add_arg(command, image), path)
 }
 
@@ -455,7 +474,7 @@ fn make_verify<'a>(alloc: Global) -> Made<'a>
     let times = make_flag(alloc, "times", help::TIMES);
     let image = make_word(alloc, "IMAGE", help::IMAGE);
     let folder = make_word(alloc, "DIR", help::FOLDER);
-    let command = make_reader(alloc, "verify", help::VERIFY, epilogues::VERIFY);
+    let command = make_printer(alloc, "verify", help::VERIFY, epilogues::VERIFY);
     let command = add_settings(alloc, add_arg(command, times));
     add_arg(add_arg(command, image), folder)
 }

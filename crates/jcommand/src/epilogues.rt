@@ -13,7 +13,9 @@ says what a listing is, 'jffs2_image help check' what check prints, and the same
 for the other commands.
 
 A raw dump of NAND flash has spare bytes behind each page. --oob 2048+64 leaves
-out 64 behind each 2048, for every command that reads an image.
+out 64 behind each 2048, for every command that reads an image. In a dump of a
+whole flash, --offset 0x80000 --length 4MiB reads one partition. Commands that
+print lines print JSON objects with --json.
 
 In an image that Linux or mkfs.jffs2 wrote, data are often compressed. ls, cat,
 append, extract, diff, damage, check and cuts read them with --decompress, and
@@ -128,8 +130,14 @@ pub(crate) const CAT: &str = "\
 The path begins with / and leads from the root by names, through directories
 alone: symlinks are not followed. A path can be given as ls prints it.
 
-Example:
+With --ino I in place of the path it writes the content of inode I by all of its
+nodes, or with --upto V by those of version V and lower alone. The inode may be
+deleted: history prints all inodes. Its data are decompressed. A symlink gives
+where it leads.
+
+Examples:
   jffs2_image cat --endian big flash.img /etc/passwd
+  jffs2_image cat --auto --ino 57 --upto 3 dump.img
 
 Exit status:
   0  done

@@ -63,6 +63,16 @@ pub(crate) const AUTO: &str = "Find both in the image, and decompress its data";
 
 pub(crate) const SPARE: &str = "Leave out S spare bytes behind each P, as 2048+64";
 
+pub(crate) const OFFSET: &str = "Read the image from byte A of the file on, as 0x80000";
+
+pub(crate) const LENGTH: &str = "Read N bytes of the file as the image, as 4MiB";
+
+pub(crate) const INO: &str = "Write the content of inode I, which may be deleted";
+
+pub(crate) const UPTO: &str = "Take its nodes of version V and lower alone";
+
+pub(crate) const JSON: &str = "Print a JSON object for each line";
+
 pub(crate) const BLOCKS: &str = "Blocks of the flash, 268435456 bytes at most";
 
 pub(crate) const PAGE: &str = "Page size: 4096, 8192 or 16384 bytes";

@@ -10,8 +10,8 @@ ghost use Rattle.jcommand.specs.Commands.{program};
 ghost use Rattle.jcommand.specs.Sizes.{size_number};
 ghost use Rattle.jcommand.specs.declared.parsed.Command.TheVariants as command;
 ghost use Rattle.jcommand.specs.declared.request.Request.{Request};
-ghost use Rattle.jcommand.specs.Layouts.{layout_of};
-ghost use Rattle.jcommand.specs.Requests.{auto_from, images_read, request_from, spare_text_from};
+ghost use Rattle.jcommand.specs.Regions.{layout_of, length_of, region_by};
+ghost use Rattle.jcommand.specs.Requests.{auto_from, file_made, has_region_from, images_read, json_from, region_from, request_from};
 
 /// The values of options.
 pub fn known_values()
@@ -92,6 +92,22 @@ pub fn known_requests()
           decompress = false;
           image = codes "a";
           path = codes "/b";
+        })) }
+    ensures revision { parsed_from (codes "jffs2_image" ∷ codes "cat" ∷ codes "a"
+        ∷ codes "--ino=7" ∷ codes "--upto" ∷ codes "3" ∷ [])
+        ≡ Some (command.CatInode (record {
+          options = no_options;
+          image = codes "a";
+          ino = 7;
+          version = 3;
+        })) }
+    ensures newest { parsed_from (codes "jffs2_image" ∷ codes "cat" ∷ codes "a"
+        ∷ codes "--ino=7" ∷ [])
+        ≡ Some (command.CatInode (record {
+          options = no_options;
+          image = codes "a";
+          ino = 7;
+          version = 4294967295;
         })) }
     ensures made { parsed_from (codes "jffs2_image" ∷ codes "build" ∷ codes "--blocks" ∷ codes "2"
         ∷ codes "a" ∷ codes "b" ∷ [])
@@ -398,8 +414,11 @@ pub fn known_refusals()
     ensures not_of_ls { fault_of program
         (codes "jffs2_image" ∷ codes "ls" ∷ codes "--scan" ∷ codes "a" ∷ [])
         ≡ UnknownArgument ∷ [] }
-    ensures no_path { fault_of program (codes "jffs2_image" ∷ codes "cat" ∷ codes "a" ∷ [])
-        ≡ MissingRequiredArgument ∷ [] }
+    ensures no_path { parsed_from (codes "jffs2_image" ∷ codes "cat" ∷ codes "a" ∷ []) ≡ None }
+    ensures path_and_inode { parsed_from (codes "jffs2_image" ∷ codes "cat" ∷ codes "--ino=2"
+        ∷ codes "a" ∷ codes "/b" ∷ []) ≡ None }
+    ensures version_alone { parsed_from (codes "jffs2_image" ∷ codes "cat" ∷ codes "--upto=2"
+        ∷ codes "a" ∷ []) ≡ None }
     ensures no_blocks { fault_of program (codes "jffs2_image" ∷ codes "build" ∷ codes "a"
         ∷ codes "b" ∷ []) ≡ MissingRequiredArgument ∷ [] }
     ensures no_output { parsed_from (codes "jffs2_image" ∷ codes "append" ∷ codes "--blocks"
@@ -482,7 +501,8 @@ pub fn known_autos()
     ensures tree { request_from (codes "jffs2_image" ∷ codes "ls" ∷ codes "-a" ∷ codes "a" ∷ [])
         ≡ Some (record {
           auto = true;
-          spare = None;
+          region = None;
+          json = false;
           command = command.List (record {
             options = no_options;
             decompress = false;
@@ -494,14 +514,16 @@ pub fn known_autos()
         ∷ codes "--auto" ∷ codes "a" ∷ [])
         ≡ Some (record {
           auto = true;
-          spare = None;
+          region = None;
+          json = false;
           command = command.Scan (record { options = no_options; image = codes "a" });
         }) }
     ensures compared { request_from (codes "jffs2_image" ∷ codes "diff" ∷ codes "a"
         ∷ codes "--auto" ∷ codes "b" ∷ [])
         ≡ Some (record {
           auto = true;
-          spare = None;
+          region = None;
+          json = false;
           command = command.Diff (record {
             options = no_options;
             decompress = false;
@@ -514,11 +536,17 @@ pub fn known_autos()
         ∷ codes "--blocks=2" ∷ codes "--on=b" ∷ codes "a" ∷ [])
         ≡ Some (record {
           auto = true;
-          spare = None;
+          region = None;
+          json = false;
           command = command.Cuts (record cuts_of_a { on = Some (codes "b") });
         }) }
     ensures given { request_from (codes "jffs2_image" ∷ codes "info" ∷ codes "a" ∷ [])
-        ≡ Some (record { auto = false; spare = None; command = command.Info (codes "a") }) }
+        ≡ Some (record {
+          auto = false;
+          region = None;
+          json = false;
+          command = command.Info (codes "a");
+        }) }
     ensures size { request_from (codes "jffs2_image" ∷ codes "ls" ∷ codes "--auto"
         ∷ codes "--block=65536" ∷ codes "a" ∷ []) ≡ None }
     ensures letter { request_from (codes "jffs2_image" ∷ codes "ls" ∷ codes "-a" ∷ codes "-l"
@@ -536,8 +564,8 @@ pub fn known_autos()
         ≡ UnknownArgument ∷ [] }
 {}
 
-/// What words with `--oob` ask for.
-pub fn known_spares()
+/// What words with `--oob`, `--offset` and `--length` ask for.
+pub fn known_regions()
     ensures layout { layout_of (codes "2048+64") ≡ Some (record { page = 2048; spare = 64 }) }
     ensures none_spare { layout_of (codes "1+0") ≡ Some (record { page = 1; spare = 0 }) }
     ensures greatest { layout_of (codes "65536+65536")
@@ -547,24 +575,40 @@ pub fn known_spares()
     ensures page_alone { layout_of (codes "2048") ≡ None }
     ensures no_spare { layout_of (codes "2048+") ≡ None }
     ensures two_signs { layout_of (codes "2048+64+1") ≡ None }
+    ensures units { length_of (codes "0x400000") ≡ length_of (codes "4MiB") }
+    ensures no_length { length_of (codes "0") ≡ None }
+    ensures by_all { region_by (Some (codes "2048+64")) (Some (codes "512K")) (Some (codes "12"))
+        ≡ Some (record {
+          layout = Some (record { page = 2048; spare = 64 });
+          offset = 524288;
+          length = Some 12;
+        }) }
     ensures counted { request_from (codes "jffs2_image" ∷ codes "info" ∷ codes "--oob"
         ∷ codes "512+16" ∷ codes "a" ∷ [])
         ≡ Some (record {
           auto = false;
-          spare = Some (record { page = 512; spare = 16 });
+          region = Some (record {
+            layout = Some (record { page = 512; spare = 16 });
+            offset = 0;
+            length = None;
+          });
+          json = false;
           command = command.Info (codes "a");
         }) }
     ensures found { request_from (codes "jffs2_image" ∷ codes "map" ∷ codes "-a"
-        ∷ codes "--oob=4096+224" ∷ codes "a" ∷ [])
+        ∷ codes "--offset=0x10" ∷ codes "--length=4KiB" ∷ codes "a" ∷ [])
         ≡ Some (record {
           auto = true;
-          spare = Some (record { page = 4096; spare = 224 });
+          region = Some (record { layout = None; offset = 16; length = Some 4096 });
+          json = false;
           command = command.Map
               (record { options = no_options; svg = false; image = codes "a" });
         }) }
     ensures unread { request_from (codes "jffs2_image" ∷ codes "check" ∷ codes "--oob=64"
         ∷ codes "a" ∷ []) ≡ None }
-    ensures cut_alone { request_from (codes "jffs2_image" ∷ codes "cuts" ∷ codes "--oob=512+16"
+    ensures empty { request_from (codes "jffs2_image" ∷ codes "check" ∷ codes "--length=0"
+        ∷ codes "a" ∷ []) ≡ None }
+    ensures cut_alone { request_from (codes "jffs2_image" ∷ codes "cuts" ∷ codes "--offset=16"
         ∷ codes "--blocks=2" ∷ codes "a" ∷ []) ≡ None }
     ensures not_of_build { fault_of program (codes "jffs2_image" ∷ codes "build"
         ∷ codes "--oob=512+16" ∷ codes "--blocks=2" ∷ codes "a" ∷ codes "b" ∷ [])
@@ -578,16 +622,36 @@ pub fn known_spares()
     })) ≡ codes "a" ∷ codes "b" ∷ [] }
 {}
 
-/// What is asked for is the command of the words, and the layout that they have. Without `--auto`
-/// and `--oob` among them it is that command alone, with the options that it is given.
+/// What words with `--json` ask for.
+pub fn known_json()
+    ensures parameters { request_from (codes "jffs2_image" ∷ codes "info" ∷ codes "--json"
+        ∷ codes "a" ∷ [])
+        ≡ Some (record {
+          auto = false;
+          region = None;
+          json = true;
+          command = command.Info (codes "a");
+        }) }
+    ensures drawn { request_from (codes "jffs2_image" ∷ codes "map" ∷ codes "--json"
+        ∷ codes "--svg" ∷ codes "a" ∷ []) ≡ None }
+    ensures not_of_cat { fault_of program (codes "jffs2_image" ∷ codes "cat" ∷ codes "--json"
+        ∷ codes "a" ∷ codes "/b" ∷ []) ≡ UnknownArgument ∷ [] }
+{}
+
+/// What is asked for is the command of the words, the part of a file that they give, and whether
+/// lines are JSON. Without these words and `--auto` among them it is that command alone, with the
+/// options that it is given.
 pub fn requests_are_parsed()
     ensures command { (args : List Text) (asked : Request Text) → request_from args ≡ Some asked
         → parsed_from args ≡ Some asked.command }
     ensures auto { (args : List Text) (asked : Request Text) → request_from args ≡ Some asked
         → asked.auto ≡ auto_from args }
-    ensures spare { (args : List Text) (asked : Request Text) → request_from args ≡ Some asked
-        → asked.spare ≡ option_and_then layout_of (spare_text_from args) }
-    ensures plain { (args : List Text) → auto_from args ≡ false → spare_text_from args ≡ None
-        → request_from args
-        ≡ option_map (λ c. record { auto = false; spare = None; command = c }) (parsed_from args) }
+    ensures region { (args : List Text) (asked : Request Text) → request_from args ≡ Some asked
+        → asked.region ≡ region_from args }
+    ensures json { (args : List Text) (asked : Request Text) → request_from args ≡ Some asked
+        → asked.json ≡ json_from args }
+    ensures plain { (args : List Text) → auto_from args ≡ false → has_region_from args ≡ false
+        → json_from args ≡ false → request_from args
+        ≡ option_map (λ c. record { auto = false; region = None; json = false; command = c })
+        (parsed_from args) }
 {}

@@ -24,10 +24,10 @@ mod commands;
 mod epilogues;
 mod help;
 pub mod laws;
-mod layout;
 mod matching;
 mod outcome;
 mod parsed;
+mod region;
 mod request;
 mod sizes;
 
@@ -36,7 +36,7 @@ pub use crate::command_line::{RequestFault, asked};
 pub use crate::outcome::{Outcome, status};
 pub use crate::parsed::{
     Appending, Building, Check, Command, Compaction, Comparison, Conversion, Cuts, CutsThrough,
-    Examination, Extraction, FileContent, FolderListing, Image, Mapping, NodeHistory, Options,
-    Owner, Packing, Placing, Target, TreeListing, UpdateCuts, Updating, Verification,
+    Examination, Extraction, FileContent, FolderListing, Image, InodeContent, Mapping, NodeHistory,
+    Options, Owner, Packing, Placing, Target, TreeListing, UpdateCuts, Updating, Verification,
 };
 pub use crate::request::Request;

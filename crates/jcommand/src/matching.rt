@@ -1,21 +1,21 @@
 //! What the matches of the program's command line ask for.
 ghost use Rattle.std.specs.Prelude.{◌≡◌, codes, map, option_map};
 ghost use Rattle.clap.specs.Words.{found_of, rows_of, all_of, first_of};
-ghost use Rattle.jcommand.specs.Parsed.{append_in, block_size_in, build_in, cat_in, check_in, command_view, compact_in, conversion_in, conversion_view, cuts_in, damage_in, decimal_number, decompress_in, diff_in, endian_of, extract_in, folder_in, folder_view, history_in, if_given, image_in, image_view, info_in, is_apart, is_given, log_cuts_in, ls_in, map_in, number_option, options_in, order_in, order_named, output_in, owner_number, owner_of, pack_in, page_of, parsed, placing_in, target_in, target_view, update_cuts_in, update_in, verify_in};
-ghost use Rattle.jcommand.specs.Requests.{are_options_given, has_no_second_read, request_of, request_view, spare_in};
+ghost use Rattle.jcommand.specs.Parsed.{append_in, block_size_in, build_in, cat_in, check_in, command_view, compact_in, conversion_in, conversion_view, cuts_in, damage_in, decimal_number, decompress_in, diff_in, endian_of, extract_in, folder_in, folder_view, history_in, if_given, image_in, image_view, info_in, inode_content_in, is_apart, is_given, is_on_inode, is_on_path, log_cuts_in, ls_in, map_in, number_option, options_in, order_in, order_named, output_in, owner_number, owner_of, pack_in, page_of, parsed, path_content_in, placing_in, target_in, target_view, update_cuts_in, update_in, verify_in, version_by};
+ghost use Rattle.jcommand.specs.Requests.{are_options_given, has_no_second_read, is_contrary, is_region_given, region_in, request_of, request_view};
 
-use crate::layout::layout;
 use crate::parsed::{
     Appending, Building, Check, Command, Compaction, Comparison, Conversion, Cuts, CutsThrough,
-    Examination, Extraction, FileContent, FolderListing, Image, Mapping, NodeHistory, Options,
-    Owner, Packing, Placing, Target, TreeListing, UpdateCuts, Updating, Verification,
+    Examination, Extraction, FileContent, FolderListing, Image, InodeContent, Mapping, NodeHistory,
+    Options, Owner, Packing, Placing, Target, TreeListing, UpdateCuts, Updating, Verification,
 };
+use crate::region::region;
 use crate::request::Request;
 use crate::sizes::size;
 use clap::ArgMatches;
 use jnode::Endian;
 use jscan::{Geometry, Page};
-use jspare::PageLayout;
+use jspare::Region;
 
 /// A number below 2^32 in decimal digits.
 pub(crate) fn number(text: &str) -> Option<u32>
@@ -199,8 +199,9 @@ fn ls_at<'a>(found: &ArgMatches<'a>) -> Option<Command<&'a str>>
     }))
 }
 
-fn cat_at<'a>(found: &ArgMatches<'a>) -> Option<Command<&'a str>>
-    ensures { option_map command_view result ≡ cat_in (rows_of (found_of found.now)) }
+/// The content of the file of a path.
+fn path_content_at<'a>(found: &ArgMatches<'a>) -> Option<Command<&'a str>>
+    ensures { option_map command_view result ≡ path_content_in (rows_of (found_of found.now)) }
 {
     let Image { options, image } = image_at(found)?;
     Some(Command::Cat(FileContent {
@@ -209,6 +210,49 @@ fn cat_at<'a>(found: &ArgMatches<'a>) -> Option<Command<&'a str>>
         image,
         path: text_at(found, "PATH")?,
     }))
+}
+
+/// A version, without which all count.
+fn version(text: Option<&str>) -> Option<u32>
+    ensures { result ≡ version_by (option_map (λ t. t.now) text.entry) }
+{
+    match text {
+        None => Some(u32::MAX),
+        Some(text) => number(text),
+    }
+}
+
+/// The content of an inode.
+fn inode_content_at<'a>(found: &ArgMatches<'a>) -> Option<Command<&'a str>>
+    ensures { option_map command_view result ≡ inode_content_in (rows_of (found_of found.now)) }
+{
+    let Image { options, image } = image_at(found)?;
+    Some(Command::CatInode(InodeContent {
+        options,
+        image,
+        ino: number_at(found, "ino")?,
+        version: version(text_at(found, "upto"))?,
+    }))
+}
+
+/// Whether no inode is asked for.
+pub(crate) fn is_on_path(found: &ArgMatches<'_>) -> bool
+    ensures { result ≡ is_on_path (rows_of (found_of found.now)) }
+{
+    text_at(found, "ino").is_none() && text_at(found, "upto").is_none()
+}
+
+fn cat_at<'a>(found: &ArgMatches<'a>) -> Option<Command<&'a str>>
+    ensures { option_map command_view result ≡ cat_in (rows_of (found_of found.now)) }
+{
+    if is_on_path(found) {
+        return path_content_at(found);
+    }
+    if text_at(found, "PATH").is_none() && !is_given(found, "decompress") {
+        inode_content_at(found)
+    } else {
+        None
+    }
 }
 
 fn info_at<'a>(found: &ArgMatches<'a>) -> Option<Command<&'a str>>
@@ -581,15 +625,39 @@ pub(crate) fn has_no_second_read(command: &Command<&str>) -> bool
     }
 }
 
-/// The spare bytes of the image's pages, where they are given; nothing where no image is read.
-fn spare_at(found: &ArgMatches<'_>, command: &Command<&str>) -> Option<Option<PageLayout>>
-    ensures { result ≡ spare_in (rows_of (found_of found.now)) (command_view command.now) }
+/// Whether a part of a file is given as the image.
+pub(crate) fn is_region_given(found: &ArgMatches<'_>) -> bool
+    ensures { result ≡ is_region_given (rows_of (found_of found.now)) }
 {
-    match text_at(found, "oob") {
-        None => Some(None),
-        Some(_) if !command.reads_image() => None,
-        Some(text) => Some(Some(layout(text)?)),
+    text_at(found, "oob").is_some()
+        || text_at(found, "offset").is_some()
+        || text_at(found, "length").is_some()
+}
+
+/// The part of its images' files, where one is given; nothing where no image is read.
+fn region_at(found: &ArgMatches<'_>, command: &Command<&str>) -> Option<Option<Region>>
+    ensures { result ≡ region_in (rows_of (found_of found.now)) (command_view command.now) }
+{
+    if !is_region_given(found) {
+        return Some(None);
     }
+    if !command.reads_image() {
+        return None;
+    }
+    let layout = text_at(found, "oob");
+    let offset = text_at(found, "offset");
+    let length = text_at(found, "length");
+    Some(Some(region(layout, offset, length)?))
+}
+
+/// Whether words are given that do not go together.
+fn is_contrary(command: &Command<&str>, found: &ArgMatches<'_>) -> bool
+    ensures { result ≡ is_contrary (rows_of (found_of found.now)) (command_view command.now) }
+{
+    if is_given(found, "auto") && (are_options_given(found) || has_no_second_read(command)) {
+        return true;
+    }
+    is_given(found, "json") && is_given(found, "svg")
 }
 
 /// What the command is given, and whether its options are found; or nothing where these are given
@@ -601,14 +669,14 @@ pub(crate) fn request_at<'a>(
     ensures { option_map request_view result ≡ request_of (rows_of (found_of found.now))
         (command_view command.entry) }
 {
-    let auto = is_given(found, "auto");
-    if auto && (are_options_given(found) || has_no_second_read(&command)) {
+    if is_contrary(&command, found) {
         return None;
     }
-    let spare = spare_at(found, &command)?;
+    let region = region_at(found, &command)?;
     Some(Request {
-        auto,
-        spare,
+        auto: is_given(found, "auto"),
+        region,
+        json: is_given(found, "json"),
         command,
     })
 }

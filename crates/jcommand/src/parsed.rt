@@ -70,6 +70,15 @@ pub struct FileContent<T> {
     pub path: T,
 }
 
+/// What an object was by its inode nodes up to a version.
+#[derive(Clone, Copy)]
+pub struct InodeContent<T> {
+    pub options: Options,
+    pub image: T,
+    pub ino: u32,
+    pub version: u32,
+}
+
 /// What the trees of two images differ in; with `times`, in times of change too, and with
 /// `decompress` those of what `decompress` makes of the images.
 #[derive(Clone, Copy)]
@@ -260,6 +269,8 @@ pub enum Command<T> {
     List(TreeListing<T>),
     /// `cat`: the bytes of a file.
     Cat(FileContent<T>),
+    /// `cat --ino`: the bytes of an object by its inode nodes.
+    CatInode(InodeContent<T>),
     /// `info`: what an image tells of itself, whose block size and byte order nobody says.
     Info { image: T },
     /// `diff`.
@@ -319,6 +330,7 @@ impl<T> Command<T> {
             Command::CheckThrough(asked) => asked.options.endian,
             Command::List(asked) => asked.options.endian,
             Command::Cat(asked) => asked.options.endian,
+            Command::CatInode(asked) => asked.options.endian,
             Command::Diff(asked) => asked.options.endian,
             Command::Damage(asked) => asked.options.endian,
             Command::Map(asked) => asked.options.endian,

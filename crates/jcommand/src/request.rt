@@ -1,14 +1,14 @@
 //! A command, and the options that are found in the image that it reads.
 ghost use Rattle.std.specs.Prelude.{◌≡◌, true, false, map, IfOk, option_map};
 ghost use Rattle.jcommand.specs.Parsed.{command_view};
-ghost use Rattle.jcommand.specs.Requests.{image_read, images_read, reads_image, with_options, writes_image};
+ghost use Rattle.jcommand.specs.Requests.{file_made, image_read, images_read, reads_image, with_options, writes_image};
 
 use crate::parsed::{
     Appending, Check, Command, Compaction, Comparison, Conversion, Cuts, CutsThrough, Examination,
-    Extraction, FileContent, Image, Mapping, NodeHistory, Options, Target, TreeListing, UpdateCuts,
-    Updating, Verification,
+    Extraction, FileContent, Image, InodeContent, Mapping, NodeHistory, Options, Target,
+    TreeListing, UpdateCuts, Updating, Verification,
 };
-use jspare::PageLayout;
+use jspare::Region;
 use std::alloc::{AllocError, Global};
 
 /// What a command line asks for. Files, folders and paths are named by texts `T`.
@@ -16,8 +16,10 @@ use std::alloc::{AllocError, Global};
 pub struct Request<T> {
     /// The options of the command are those that its image shows, and its data are decompressed.
     pub auto: bool,
-    /// The pages of its images, which have spare bytes behind them.
-    pub spare: Option<PageLayout>,
+    /// The part of its images' files that is read, if that is not all of them.
+    pub region: Option<Region>,
+    /// Its lines are printed as JSON.
+    pub json: bool,
     pub command: Command<T>,
 }
 
@@ -85,6 +87,7 @@ impl<'a> Command<&'a str> {
             Command::Check(asked) | Command::CheckThrough(asked) => Some(asked.image),
             Command::List(asked) => Some(asked.image),
             Command::Cat(asked) => Some(asked.image),
+            Command::CatInode(asked) => Some(asked.image),
             Command::Diff(asked) => Some(asked.first),
             Command::Damage(asked) => Some(asked.image),
             Command::Map(asked) => Some(asked.image),
@@ -163,6 +166,23 @@ impl<'a> Command<&'a str> {
         }
     }
 
+    /// The file that it makes.
+    pub fn file_made(&self) -> Option<&'a str>
+        ensures { option_map (λ n. n.now) result ≡ file_made (command_view self.now) }
+    {
+        match self {
+            Command::Build(asked) | Command::BuildCompressed(asked) => Some(asked.target.output),
+            Command::Append(asked) => Some(asked.target.output),
+            Command::Update(asked) => Some(asked.output),
+            Command::Decompress(asked) | Command::Apart(asked) | Command::Compress(asked) => {
+                Some(asked.output)
+            }
+            Command::Compact(asked) | Command::CompactApart(asked) => Some(asked.conversion.output),
+            Command::Pack(asked) | Command::PackCompressed(asked) => Some(asked.output),
+            _ => None,
+        }
+    }
+
     /// The same with these options and with `--decompress`, where it reads an image.
     pub fn with_options(self, options: Options) -> Command<&'a str>
         ensures { command_view result ≡ with_options options (command_view self.entry) }
@@ -182,6 +202,7 @@ impl<'a> Command<&'a str> {
                 decompress,
                 ..it
             }),
+            Command::CatInode(it) => Command::CatInode(InodeContent { options, ..it }),
             Command::Diff(it) => Command::Diff(Comparison {
                 options,
                 decompress,

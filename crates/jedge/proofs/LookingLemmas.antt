@@ -6,11 +6,13 @@ use Rattle.jcommand.specs.declared.parsed.Options.{Options}
 use Rattle.jedge.specs.Acts.{Act, Then, Ends, GoesOn, IsPrintedInPart, IsSaidBy, Saying, answers, closes, loads, opens, prints, reads_whole}
 use Rattle.jedge.specs.Calls.{Event, Stream, Answers, Errors, Failed, Print, printed}
 use Rattle.jnode.specs.declared.order.Endian.{Endian}
+use Rattle.jjson.specs.declared.lines.Lines.{Lines}
 use Rattle.jspare.specs.declared.layout.PageLayout.{PageLayout}
+use Rattle.jspare.specs.declared.region.Region.{Region}
 use Rattle.jmount.specs.Mount.{Mount}
 use Rattle.jedge.specs.Commands.{Cat, Check, Damage, Diff, Info, Ls, cat_act, check_act, damage_act, diff_act, ends, info_act, list_act, reported}
 use Rattle.jedge.specs.Views.{views}
-use Rattle.jedge.specs.Sparing.{leaves_spare}
+use Rattle.jedge.specs.Streams.{prints_json, reads_region}
 use Rattle.jedge.specs.Told.{Told}
 use Rattle.jedge.specs.Laws.{LooksOnly, MakesNothing, ReadsOnly}
 use Rattle.jedge.specs.declared.fault.Fault.{Fault}
@@ -45,16 +47,20 @@ reads_looks name events (Err (fault.Refused why)) is = same is.1 (tt, tt)
 reads_looks name events (Err fault.Output) is = absurd is
 reads_looks name events (Err fault.OutOfMemory) is = absurd is
 
-pub spare_looks : (layout : PageLayout) (names : List (List ℕ)) → MakesNothing (leaves_spare layout names)
-spare_looks layout names events (Ok done) did = same did (tt, tt)
-spare_looks layout names events (Err (fault.File file)) did = absurd did
-spare_looks layout names events (Err (fault.NotRead file)) did = absurd did
-spare_looks layout names events (Err (fault.NoNodes of others)) did = absurd did
-spare_looks layout names events (Err (fault.NoSpace folder)) did = absurd did
-spare_looks layout names events (Err (fault.Findings of findings)) did = absurd did
-spare_looks layout names events (Err (fault.Refused why)) did = absurd did
-spare_looks layout names events (Err fault.Output) did = absurd did
-spare_looks layout names events (Err fault.OutOfMemory) did = same did tt
+pub region_looks : (region : Region) (names : List (List ℕ)) → MakesNothing (reads_region region names)
+region_looks region names events (Ok done) did = same did (tt, tt)
+region_looks region names events (Err (fault.File file)) did = absurd did
+region_looks region names events (Err (fault.NotRead file)) did = absurd did
+region_looks region names events (Err (fault.NoNodes of others)) did = absurd did
+region_looks region names events (Err (fault.NoSpace folder)) did = absurd did
+region_looks region names events (Err (fault.Findings of findings)) did = absurd did
+region_looks region names events (Err (fault.Refused why)) did = absurd did
+region_looks region names events (Err fault.Output) did = absurd did
+region_looks region names events (Err fault.OutOfMemory) did = same did tt
+
+pub json_looks : (lines : Lines) → MakesNothing (prints_json lines)
+json_looks lines events (Ok done) did = same did (tt, tt)
+json_looks lines events (Err f) did = absurd did
 
 pub then_looks : {A B : Type 0} (first : Act A) (next : A → Act B) → MakesNothing first → ((a : A) → MakesNothing (next a)) → MakesNothing (Then first next)
 then_looks first next one two events r (Ends f did is) = one events (Err f) did

@@ -3,7 +3,8 @@ use Rattle.std.specs.Prelude.{ℕ, Bool, List, [], ◌∷◌, Option}
 use Rattle.jextract.specs.Folders.{Made}
 use Rattle.jfolder.specs.Known.{Known}
 use Rattle.jreport.specs.declared.reason.Reason.{Reason}
-use Rattle.jspare.specs.declared.layout.PageLayout.{PageLayout}
+use Rattle.jjson.specs.declared.lines.Lines.{Lines}
+use Rattle.jspare.specs.declared.region.Region.{Region}
 
 -- a stream that the program prints on: standard output, or standard error
 pub data Stream : Type 0 where
@@ -35,9 +36,10 @@ pub data Call : Type 0 where
   Open : List ℕ → Call
   Read : List ℕ → List ℕ → Call
   ReadPart : List ℕ → List ℕ → Call
-  -- The files of these names are dumps of which each page has spare bytes behind it. From here on
-  -- what is read of them are the pages alone.
-  LeaveSpare : PageLayout → List (List ℕ) → Call
+  -- From here on what is read of the files of these names is this part of each.
+  ReadRegion : Region → List (List ℕ) → Call
+  -- from here on what is printed on standard output goes out as JSON, an object for each line
+  PrintJson : Lines → Call
   -- the host is asked what a name means, and whether two names mean one file
   Find : List ℕ → Meaning → Call
   Compare : List ℕ → List ℕ → Bool → Call

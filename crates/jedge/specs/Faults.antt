@@ -21,6 +21,9 @@ abbrev pub IsNoNodesTold : Option (List ℕ) → ℕ → ImageFault → Type 0
 IsNoNodesTold name others (image.NoNodes told count) =
     (option_map (λ text. text.now) told ≡ name) × (count ≡ others)
 IsNoNodesTold name others (image.Findings told findings) = ⊥
+IsNoNodesTold name others image.Part = ⊥
+IsNoNodesTold name others (image.NoInode ino) = ⊥
+IsNoNodesTold name others (image.NoContent ino) = ⊥
 
 -- a fault as the program tells it, of which the texts are made
 abbrev pub IsToldAs : Fault → ProgramFault → Type 0

@@ -8,7 +8,7 @@ use Rattle.jreport.specs.declared.faults.ProgramFault.{ProgramFault}
 use Rattle.jreport.specs.declared.faults.ProgramFault.TheVariants as program
 use Rattle.jreport.specs.declared.reason.Reason.{Reason}
 use Rattle.jedge.specs.Acts.{Act}
-use Rattle.jedge.specs.Calls.{Call, Event, Did, Failed, Answers, Errors, Open, Read, ReadPart, LeaveSpare, Find, Compare, Print, Create, OpenToWrite, Write, Sync, SyncFolder, Rename, Remove, Close, FillFolder, Fill, ReadFolder, LookThrough, Keep, Measure}
+use Rattle.jedge.specs.Calls.{Call, Event, Did, Failed, Answers, Errors, Open, Read, ReadPart, ReadRegion, PrintJson, Find, Compare, Print, Create, OpenToWrite, Write, Sync, SyncFolder, Rename, Remove, Close, FillFolder, Fill, ReadFolder, LookThrough, Keep, Measure}
 use Rattle.jedge.specs.Commands.{Command, Cat, Check, Damage, Diff, Info, Ls, act_of, reported}
 use Rattle.jedge.specs.declared.fault.Fault.{Fault}
 use Rattle.jedge.specs.declared.fault.Fault.TheVariants as fault
@@ -21,7 +21,8 @@ IsLooking (Measure name n) = Unit {0}
 IsLooking (Open name) = Unit {0}
 IsLooking (Read name bytes) = Unit {0}
 IsLooking (ReadPart name bytes) = Unit {0}
-IsLooking (LeaveSpare layout names) = Unit {0}
+IsLooking (ReadRegion region names) = Unit {0}
+IsLooking (PrintJson lines) = Unit {0}
 IsLooking (Find name meaning) = Unit {0}
 IsLooking (Compare name other same) = Unit {0}
 IsLooking (Print stream text) = Unit {0}
@@ -120,7 +121,8 @@ IsUnprinted (Measure name n) = Unit {0}
 IsUnprinted (Open name) = Unit {0}
 IsUnprinted (Read name bytes) = Unit {0}
 IsUnprinted (ReadPart name bytes) = Unit {0}
-IsUnprinted (LeaveSpare layout names) = Unit {0}
+IsUnprinted (ReadRegion region names) = Unit {0}
+IsUnprinted (PrintJson lines) = Unit {0}
 IsUnprinted (Find name meaning) = Unit {0}
 IsUnprinted (Compare name other same) = Unit {0}
 IsUnprinted (Print Answers text) = ⊥

@@ -8,5 +8,6 @@ pub mod Inflating
 pub mod Laws
 pub mod Showing
 pub mod Sparing
+pub mod Streams
 pub mod Told
 pub mod Views

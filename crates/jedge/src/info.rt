@@ -13,7 +13,7 @@ use crate::fault::Fault;
 use crate::found::{Found, Note, finished};
 use crate::host::Host;
 use crate::reading::load;
-use crate::spare_host::find_spare;
+use crate::spare::find_spare;
 use flashbase::{DeviceFault, Sink};
 use jinfo::{InfoFault, container_of, put_info};
 use jnode::Endian;

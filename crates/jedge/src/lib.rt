@@ -20,5 +20,6 @@ pub mod list;
 pub mod mounting;
 pub mod reading;
 pub mod reporting;
-pub mod spare_host;
+pub mod spare;
+pub mod streams_host;
 pub mod subject;

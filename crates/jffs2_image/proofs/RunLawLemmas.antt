@@ -7,7 +7,8 @@ use Rattle.jcommand.specs.declared.command_line.RequestFault.TheVariants as refu
 use Rattle.jcommand.specs.declared.parsed.Command.{Command}
 use Rattle.jcommand.specs.declared.parsed.Command.TheVariants as command
 use Rattle.jcommand.specs.declared.parsed.Options.{Options}
-use Rattle.jcommand.specs.Requests.{images_read, with_options, writes_image}
+use Rattle.jcommand.specs.declared.request.Request.{Request}
+use Rattle.jcommand.specs.Requests.{file_made, image_read, images_read, with_options, writes_image}
 use Rattle.jauto.proofs.AutoLemmas.{auto_does_as_given, auto_looks, leaving_makes_nothing, looking_makes_nothing}
 use Rattle.jedge.specs.Acts.{Ends, GoesOn}
 use Rattle.jedge.specs.Calls.{Event}
@@ -15,9 +16,10 @@ use Rattle.jedge.specs.declared.fault.Fault.{Fault}
 use Rattle.jedge.specs.declared.fault.Fault.TheVariants as fault
 use Rattle.jedge.specs.Commands.{Cat, Check, Damage, Diff, Info, Ls, reported}
 use Rattle.jedge.specs.Laws.{MakesNothing}
-use Rattle.jspare.specs.declared.layout.PageLayout.{PageLayout}
+use Rattle.jjson.specs.declared.lines.Lines.{Lines}
+use Rattle.jspare.specs.declared.region.Region.{Region}
 use Rattle.jedge.proofs.LookingLemmas as looking
-use Rattle.jinspects.specs.InspectLaws.{CheckThrough, History, MapNodes}
+use Rattle.jinspects.specs.InspectLaws.{CatInode, CheckThrough, History, MapNodes}
 use Rattle.jinspects.proofs.InspectLookLemmas.{inspects_only}
 use Rattle.jreads.proofs.LookLemmas.{cuts_read_only}
 use Rattle.jreads.proofs.ScanLawLemmas.{scan_reads_only}
@@ -33,9 +35,10 @@ use Rattle.jpacks.proofs.PackLaws.{pack_compressed_leaves_files, pack_leaves_fil
 use Rattle.jverifies.proofs.VerifyLaws.{verify_makes_nothing}
 use Rattle.jupdates.proofs.UpdateLaws.{build_compressed_leaves_files, update_leaves_files}
 use Rattle.jremakes.specs.Laws.{Apart, Compact, CompactApart, Compress, Decompress}
+use Rattle.jremakes.proofs.JudgedLemmas.{compares_looks}
 use Rattle.jremakes.proofs.LeftLemmas.{remade_is_left}
 use Rattle.jffs2_image.specs.RunLaws.{AtomicCommandsLeaveFiles, AutoDoesAsGiven, IsAtomic, IsPrintedOnly, PrintingMakesNothing, Product, product_of}
-use Rattle.jffs2_image.specs.Running.{command_act, found_act, image_left, image_looked, refused_act, remaking_asked, spare_act}
+use Rattle.jffs2_image.specs.Running.{command_act, found_act, image_left, image_looked, json_act, lines_asked, keeps_file, read_act, refused_act, region_act, remaking_asked}
 
 -- ---- nothing is made
 
@@ -45,6 +48,7 @@ command_looks (command.Check c) is = looking.reads_only (Check c.options c.shape
 command_looks (command.CheckThrough c) is = inspects_only (CheckThrough c.options c.shape c.image)
 command_looks (command.List l) is = looking.reads_only (Ls l.options l.decompress l.image l.path)
 command_looks (command.Cat c) is = looking.reads_only (Cat c.options c.decompress c.image c.path)
+command_looks (command.CatInode c) is = inspects_only (CatInode c.options (record { ino = c.ino; version = c.version }) c.image)
 command_looks (command.Info image) is = looking.reads_only (Info image)
 command_looks (command.Diff d) is = looking.reads_only (Diff d)
 command_looks (command.Damage x) is = looking.reads_only (Damage x.options x.decompress x.image)
@@ -80,6 +84,7 @@ product_kept o (command.Check x) = refl
 product_kept o (command.CheckThrough x) = refl
 product_kept o (command.List x) = refl
 product_kept o (command.Cat x) = refl
+product_kept o (command.CatInode x) = refl
 product_kept o (command.Info x) = refl
 product_kept o (command.Diff x) = refl
 product_kept o (command.Damage x) = refl
@@ -108,16 +113,26 @@ found_looks None asked is = command_looks asked is
 found_looks (Some image) asked is = auto_looks (writes_image asked) image _ (λ (o : Options).
     command_looks (with_options o asked) (subst (λ (p : Product). IsPrintedOnly p) (product_kept o asked) is))
 
--- what is left out of its images changes no file
-leaving_looks : (spare : Option PageLayout) (looked : Option Text) (asked : Command Text) → MakesNothing (spare_act spare looked asked)
-leaving_looks (Some layout) looked asked = looking.spare_looks layout (images_read asked)
-leaving_looks None (Some image) asked = leaving_makes_nothing image
-leaving_looks None None asked = looking.answers_looks _
+-- which part of its images is read changes no file, nor does the form of its lines
+keeping_looks : (read made : Option Text) → MakesNothing (keeps_file read made)
+keeping_looks (Some read) (Some made) = looking.then_looks _ _ (compares_looks read made) (λ _. looking.answers_looks _)
+keeping_looks (Some read) None = looking.answers_looks _
+keeping_looks None made = looking.answers_looks _
+
+part_looks : (region : Option Region) (looked : Option Text) (asked : Command Text) → MakesNothing (region_act region looked asked)
+part_looks (Some region) looked asked = looking.then_looks _ _ (keeping_looks (image_read asked) (file_made asked)) (λ _. looking.region_looks region (images_read asked))
+part_looks None (Some image) asked = leaving_makes_nothing image
+part_looks None None asked = looking.answers_looks _
+
+form_looks : (lines : Option Lines) → MakesNothing (json_act lines)
+form_looks None = looking.answers_looks _
+form_looks (Some lines) = looking.json_looks lines
 
 pub printing_makes_nothing : PrintingMakesNothing
 printing_makes_nothing = (
-  λ asked is. looking.step_looks (spare_act asked.spare (image_left asked) asked.command) (λ _. found_act (image_looked asked) asked.command)
-      (leaving_looks asked.spare (image_left asked) asked.command) (λ _. found_looks (image_looked asked) asked.command is),
+  λ asked is. looking.step_looks (json_act (lines_asked asked)) (λ _. read_act asked) (form_looks (lines_asked asked)) (λ _.
+      looking.step_looks (region_act asked.region (image_left asked) asked.command) (λ _. found_act (image_looked asked) asked.command)
+      (part_looks asked.region (image_left asked) asked.command) (λ _. found_looks (image_looked asked) asked.command is)),
   refused_looks,
 )
 
@@ -135,6 +150,7 @@ command_leaves (command.Check c) events f atomic other did = absurd atomic
 command_leaves (command.CheckThrough c) events f atomic other did = absurd atomic
 command_leaves (command.List l) events f atomic other did = absurd atomic
 command_leaves (command.Cat c) events f atomic other did = absurd atomic
+command_leaves (command.CatInode c) events f atomic other did = absurd atomic
 command_leaves (command.Info image) events f atomic other did = absurd atomic
 command_leaves (command.Diff d) events f atomic other did = absurd atomic
 command_leaves (command.Damage x) events f atomic other did = absurd atomic
@@ -175,13 +191,24 @@ image_leaves : (image : Option Text) (asked : Command Text) (events : List Event
 image_leaves None asked events f atomic other did = command_leaves asked events f atomic other did
 image_leaves (Some image) asked events f atomic other did = found_leaves image asked events f atomic other did
 
--- before that the spare bytes of its images are left out
+-- before that it is told which part of its images is read
+read_leaves : (asked : Request Text) (events : List Event) (f : Fault) → IsAtomic (product_of asked.command) → (f ≡ fault.Output → ⊥) → read_act asked events (Err f) → LeavesFiles events
+read_leaves asked events f atomic other (Ends g did is) =
+    let looks = part_looks asked.region (image_left asked) asked.command events (Err g) did in
+    let quiet = looks_quiet [] events looks in record { others = quiet.others; removed = quiet.removed }
+read_leaves asked events f atomic other (GoesOn done before after did more is) =
+    let rest = image_leaves (image_looked asked) asked.command after f atomic other more in
+    let looked = looks_quiet [] before (part_looks asked.region (image_left asked) asked.command before (Ok done) did) in
+    let quiet = quiet_then [] before after looked (record { others = rest.others; removed = rest.removed }) in
+    subst (λ (l : List Event). LeavesFiles l) (sym is) (record { others = quiet.others; removed = quiet.removed })
+
+-- and before that, in which form its lines go out
 pub atomic_commands_leave_files : AtomicCommandsLeaveFiles
 atomic_commands_leave_files asked events f atomic other (Ends g did is) =
-    let looks = leaving_looks asked.spare (image_left asked) asked.command events (Err g) did in
+    let looks = form_looks (lines_asked asked) events (Err g) did in
     let quiet = looks_quiet [] events looks in record { others = quiet.others; removed = quiet.removed }
 atomic_commands_leave_files asked events f atomic other (GoesOn done before after did more is) =
-    let rest = image_leaves (image_looked asked) asked.command after f atomic other more in
-    let looked = looks_quiet [] before (leaving_looks asked.spare (image_left asked) asked.command before (Ok done) did) in
+    let rest = read_leaves asked after f atomic other more in
+    let looked = looks_quiet [] before (form_looks (lines_asked asked) before (Ok done) did) in
     let quiet = quiet_then [] before after looked (record { others = rest.others; removed = rest.removed }) in
     subst (λ (l : List Event). LeavesFiles l) (sym is) (record { others = quiet.others; removed = quiet.removed })

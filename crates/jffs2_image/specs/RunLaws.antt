@@ -31,6 +31,7 @@ product_of (command.Check c) = NoProduct
 product_of (command.CheckThrough c) = NoProduct
 product_of (command.List l) = NoProduct
 product_of (command.Cat c) = NoProduct
+product_of (command.CatInode c) = NoProduct
 product_of (command.Info image) = NoProduct
 product_of (command.Diff d) = NoProduct
 product_of (command.Damage x) = NoProduct

@@ -1,9 +1,9 @@
 -- What the program does: its words ask for something, and the host does it. Each command's act is
 -- in the crate that has the command.
-use Rattle.std.specs.Prelude.{◌≡◌, ◌⊎◌, ℕ, if◌then◌else◌, List, Option, Some, None, Result, Ok, Err, string_bytes}
+use Rattle.std.specs.Prelude.{◌≡◌, ◌⊎◌, ℕ, Bool, true, false, if◌then◌else◌, List, Option, Some, None, Result, Ok, Err, string_bytes}
 use Rattle.clap.specs.Words.{Text}
 use Rattle.jcommand.specs.Parsed.{IsFaultless, IsHelpRequested, IsRefusedByClap}
-use Rattle.jcommand.specs.Requests.{IsUnreadable, image_read, images_read, request_from, with_options, writes_image}
+use Rattle.jcommand.specs.Requests.{IsUnreadable, file_made, image_read, images_read, request_from, with_options, writes_image}
 use Rattle.jcommand.specs.declared.command_line.RequestFault.{RequestFault}
 use Rattle.jcommand.specs.declared.command_line.RequestFault.TheVariants as refused
 use Rattle.jcommand.specs.declared.outcome.Outcome.{Outcome}
@@ -17,15 +17,20 @@ use Rattle.jauto.specs.Looking.{auto_act}
 use Rattle.jedge.specs.Acts.{Act, Then, Whole, answers, prints, says}
 use Rattle.jedge.specs.Calls.{Event}
 use Rattle.jedge.specs.Commands.{cat_act, check_act, damage_act, diff_act, info_act, list_act, reported}
-use Rattle.jedge.specs.Sparing.{leaves_spare}
+use Rattle.jedge.specs.Streams.{prints_json, reads_region}
 use Rattle.jedge.specs.Told.{Told}
 use Rattle.jedge.specs.declared.fault.Fault.{Fault}
 use Rattle.jedge.specs.declared.fault.Fault.TheVariants as fault
-use Rattle.jspare.specs.declared.layout.PageLayout.{PageLayout}
-use Rattle.jinspects.specs.Inspecting.{check_through_act, history_act, map_act}
+use Rattle.jjson.specs.declared.lines.Lines.{Lines}
+use Rattle.jjson.specs.declared.lines.Lines.TheVariants as lines
+use Rattle.jreport.specs.declared.faults.ProgramFault.TheVariants as program
+use Rattle.jreport.specs.declared.image_fault.ImageFault.TheVariants as image
+use Rattle.jspare.specs.declared.region.Region.{Region}
+use Rattle.jinspects.specs.Inspecting.{cat_inode_act, check_through_act, history_act, map_act}
 use Rattle.jreads.specs.Cutting.{cuts_act}
 use Rattle.jreads.specs.Scanning.{scan_act}
 use Rattle.jmakes.specs.Commands.{append_act, build_act}
+use Rattle.jmakes.specs.Making.{compares_names}
 use Rattle.jmakes.specs.Writing.{image_asked}
 use Rattle.jremakes.specs.Asked.{AskedRemaking}
 use Rattle.jremakes.specs.Commands.{apart_act, compact_act, compact_apart_act, compress_act, decompress_act}
@@ -59,6 +64,8 @@ command_act (command.Check c) = check_act c.options c.shape c.image
 command_act (command.CheckThrough c) = check_through_act c.options c.shape c.image
 command_act (command.List l) = list_act l.options l.decompress l.image l.path
 command_act (command.Cat c) = cat_act c.options c.decompress c.image c.path
+command_act (command.CatInode c) =
+    cat_inode_act c.options (record { ino = c.ino; version = c.version }) c.image
 command_act (command.Info image) = info_act image
 command_act (command.Diff d) = diff_act d
 command_act (command.Damage x) = damage_act x.options x.decompress x.image
@@ -97,15 +104,59 @@ found_act None asked = command_act asked
 found_act (Some image) asked = auto_act (writes_image asked) image
     (λ options. command_act (with_options options asked))
 
--- ---- spare bytes
+-- ---- a part of a file
 
--- With `--oob` the images that the command reads are dumps of which each page has spare bytes
--- behind it: of them the pages alone are read. With `--auto` and no layout that is found, if the
--- image shows one and none is written.
-abbrev pub spare_act : Option PageLayout → Option Text → Command Text → Act Unit
-spare_act (Some layout) looked asked = leaves_spare layout (images_read asked)
-spare_act None (Some image) asked = leaving_act image
-spare_act None None asked = answers (λ result. result ≡ Ok (tt {0}))
+-- the file that is read in part would be replaced by what is made
+abbrev pub MayReplace : Bool → Result Unit Fault → Type 0
+MayReplace over (Ok _) = over ≡ false
+MayReplace over (Err f) = (over ≡ true) × (f ≡ fault.Refused (program.Image image.Part))
+
+-- the host is asked whether both are one file
+abbrev pub keeps_named : Text → Text → Act Unit
+keeps_named read made = Then (compares_names read made) (λ over. answers (MayReplace over))
+
+-- A file of which only a part is read is not replaced by the one that is made.
+abbrev pub keeps_file : Option Text → Option Text → Act Unit
+keeps_file (Some read) (Some made) = keeps_named read made
+keeps_file (Some read) None = answers (λ result. result ≡ Ok (tt {0}))
+keeps_file None made = answers (λ result. result ≡ Ok (tt {0}))
+
+-- With `--oob`, `--offset` or `--length` a part of each file that the command reads is the image:
+-- of that alone it is read. With `--auto` and none of them the pages of a dump, if the image shows
+-- that it is one and none is written.
+abbrev pub region_act : Option Region → Option Text → Command Text → Act Unit
+region_act (Some region) looked asked =
+    Then (keeps_file (image_read asked) (file_made asked)) (λ _.
+    reads_region region (images_read asked))
+region_act None (Some image) asked = leaving_act image
+region_act None None asked = answers (λ result. result ≡ Ok (tt {0}))
+
+-- ---- lines as JSON
+
+-- what the lines are that a command prints, if they have a form in JSON
+abbrev pub printed_lines : Command Text → Option Lines
+printed_lines (command.Scan i) = Some lines.Report
+printed_lines (command.Check c) = Some lines.Report
+printed_lines (command.CheckThrough c) = Some lines.Report
+printed_lines (command.List l) = Some lines.Tree
+printed_lines (command.Info image) = Some lines.Parameters
+printed_lines (command.Diff d) = Some lines.Differences
+printed_lines (command.Verify v) = Some lines.Differences
+printed_lines (command.Damage x) = Some lines.Damage
+printed_lines (command.Map m) = Some lines.Map
+printed_lines (command.History h) = Some lines.History
+printed_lines (command.Cuts c) = Some lines.Cuts
+printed_lines (command.CutsThrough c) = Some lines.Cuts
+printed_lines (command.CutsUpdate c) = Some lines.Cuts
+printed_lines _ = None
+
+abbrev pub lines_asked : Request Text → Option Lines
+lines_asked request = if request.json then printed_lines request.command else None
+
+-- with `--json` they go out in that form
+abbrev pub json_act : Option Lines → Act Unit
+json_act None = answers (λ result. result ≡ Ok (tt {0}))
+json_act (Some lines) = prints_json lines
 
 -- ---- what is asked for
 
@@ -117,10 +168,14 @@ image_looked request = if request.auto then image_read request.command else None
 abbrev pub image_left : Request Text → Option Text
 image_left request = if writes_image request.command then None else image_looked request
 
-abbrev pub request_act : Request Text → Act Told
-request_act request =
-    Then (spare_act request.spare (image_left request) request.command) (λ _.
+-- a part of its images' files is read, if that is asked for, and the command does what it does
+abbrev pub read_act : Request Text → Act Told
+read_act request =
+    Then (region_act request.region (image_left request) request.command) (λ _.
     found_act (image_looked request) request.command)
+
+abbrev pub request_act : Request Text → Act Told
+request_act request = Then (json_act (lines_asked request)) (λ _. read_act request)
 
 -- ---- the words
 
@@ -156,7 +211,8 @@ AsksFor words (Err refused.OutOfMemory) = Unit {0}
 -- rule: What is printed: What a run of the program does.
 --   definitions: jffs2_image.Running.run_act, jffs2_image.Running.AsksFor,
 --   jffs2_image.Running.asked_act, jffs2_image.Running.request_act,
---   jffs2_image.Running.spare_act,
+--   jffs2_image.Running.region_act,
+--   jffs2_image.Running.json_act,
 --   jffs2_image.Running.command_act
 --   code: jffs2_image::program::run, jffs2_image::commands::run_command
 -- The words ask for something, and the host does it.

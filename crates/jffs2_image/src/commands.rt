@@ -11,7 +11,7 @@ use jedge::commands::{run_cat, run_check, run_damage, run_diff, run_info, run_li
 use jfolders::commands::{run_extract, run_listing};
 use jfolders::host::FolderHost;
 use jforetells::commands::{run_cuts_through, run_cuts_update};
-use jinspects::commands::{run_check_through, run_history, run_map};
+use jinspects::commands::{run_cat_inode, run_check_through, run_history, run_map};
 use jmakes::commands::{run_append, run_build};
 use jmakes::host::FileHost;
 use jnode::Order;
@@ -38,6 +38,7 @@ pub fn run_command<E: Order, H: FileHost + FilesHost + StreamHost + FolderHost>(
         Command::CheckThrough(asked) => run_check_through::<E, H>(host, asked),
         Command::List(asked) => run_list::<E, H>(host, asked),
         Command::Cat(asked) => run_cat::<E, H>(host, asked),
+        Command::CatInode(asked) => run_cat_inode::<E, H>(host, asked),
         Command::Info { image } => run_info(host, image),
         Command::Diff(asked) => run_diff::<E, H>(host, asked),
         Command::Damage(asked) => run_damage::<E, H>(host, asked),

@@ -1,11 +1,12 @@
 -- What makes nothing.
 use Rattle.std.proofs.Common.{ℕ, Bool, List, Option}
 use Rattle.jcommand.specs.declared.parsed.Options.{Options}
+use Rattle.jversions.specs.declared.revision.Revision.{Revision}
 use Rattle.jedge.specs.Acts.{loads, opens, reads_whole}
 use Rattle.jedge.specs.Laws.{MakesNothing}
 use Rattle.jedge.proofs.LookingLemmas.{answers_looks, loads_looks, opens_looks, prints_looks, reads_looks, reported_looks, then_looks}
-use Rattle.jinspects.specs.Inspecting.{check_through_act, history_act, map_act}
-use Rattle.jinspects.specs.InspectLaws.{CheckThrough, History, InspectsOnly, MapNodes}
+use Rattle.jinspects.specs.Inspecting.{cat_inode_act, check_through_act, history_act, map_act}
+use Rattle.jinspects.specs.InspectLaws.{CatInode, CheckThrough, History, InspectsOnly, MapNodes}
 use Rattle.jinspects.specs.Surveying.{Surveyed}
 use Rattle.jinspects.specs.Tracing.{Traced}
 
@@ -21,7 +22,11 @@ history_looks : (options : Options) (name : List ℕ) (word : Option (List ℕ))
 history_looks options name word = then_looks _ _ (answers_looks _) (λ (path : Option (List ℕ)). then_looks (loads name) _ (loads_looks name)
     (λ (image : List ℕ). then_looks _ _ (answers_looks _) (λ (others : Option ℕ). then_looks _ _ (answers_looks _) (λ (t : Traced). prints_looks _))))
 
+inode_looks : (options : Options) (r : Revision) (name : List ℕ) → MakesNothing (cat_inode_act options r name)
+inode_looks options r name = then_looks (loads name) _ (loads_looks name) (λ (image : List ℕ). prints_looks _)
+
 pub inspects_only : InspectsOnly
 inspects_only (CheckThrough options shape name) = reported_looks _ (check_looks options shape name)
 inspects_only (MapNodes options svg name) = reported_looks _ (map_looks options svg name)
 inspects_only (History options name word) = reported_looks _ (history_looks options name word)
+inspects_only (CatInode options r name) = reported_looks _ (inode_looks options r name)

@@ -4,6 +4,7 @@ pub mod InspectJudgeLemmas
 pub mod InspectLookLemmas
 pub mod PlainCheckLemmas
 pub mod PathLemmas
+pub mod RecallLemmas
 pub mod SurveyLemmas
 pub mod ThroughPutLemmas
 pub mod TraceLemmas

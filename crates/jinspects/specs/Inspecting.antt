@@ -7,9 +7,11 @@ use Rattle.jedge.specs.Images.{NotesNone}
 use Rattle.jedge.specs.Told.{Told}
 use Rattle.jedge.specs.Views.{HasBlockSize, NamesPart}
 use Rattle.jhistory.specs.HistoryText.{history_text}
+use Rattle.jversions.specs.declared.revision.Revision.{Revision}
 use Rattle.jmap.specs.MapText.{map_text}
 use Rattle.jmap.specs.Picture.{picture_text}
 use Rattle.jmap.specs.Places.{Paths}
+use Rattle.jinspects.specs.Recalling.{Recalls, recalled_told}
 use Rattle.jinspects.specs.Surveying.{Surveys}
 use Rattle.jinspects.specs.Tracing.{Traces}
 use Rattle.jinspects.specs.ThroughVerdict.{ChecksThrough}
@@ -69,3 +71,13 @@ traces e size name word = Then (answers (NamesPart word)) (λ path.
 
 abbrev pub history_act : Options → List ℕ → Option (List ℕ) → Act Told
 history_act options = traces options.endian options.geometry.block
+
+-- ---- `cat --ino`
+
+-- the file is read, and what an object was is printed, by its nodes up to a version
+abbrev pub recalls : Endian → ℕ → Revision → List ℕ → Act Told
+recalls e size r name = Then (loads name) (λ image.
+    prints (Recalls r e size (recalled_told e size image) image))
+
+abbrev pub cat_inode_act : Options → Revision → List ℕ → Act Told
+cat_inode_act options = recalls options.endian options.geometry.block

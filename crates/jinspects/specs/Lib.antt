@@ -5,5 +5,6 @@ pub mod ThroughVerdict
 pub mod Surveying
 pub mod Former
 pub mod Tracing
+pub mod Recalling
 pub mod Inspecting
 pub mod InspectLaws

@@ -8,7 +8,7 @@ pub fn inspects_only()
 {}
 
 /// A fault that names a file comes with that file's failed call, and that of the output with a
-/// print that failed.
+/// print that failed. An inode that is not there names none.
 pub fn inspected_blames_failed()
     ensures { InspectedBlamesFailed }
 {}

@@ -3,7 +3,7 @@ use Rattle.std.proofs.Common.{◌≡◌, ℕ, Bool, true, false, List, [], ◌�
 use Rattle.jreport.specs.declared.reason.Reason.{Reason}
 use Rattle.jreport.specs.declared.reason.Reason.TheVariants as because
 use Rattle.jedge.specs.Acts.{Act, Then, Ends, GoesOn}
-use Rattle.jedge.specs.Calls.{Call, Event, Did, Failed, Kind, Meaning, Nothing, Regular, Special, Measure, Open, Read, ReadPart, LeaveSpare, Find, Compare, Print, Create, OpenToWrite, Write, Sync, SyncFolder, Rename, Remove, Close, FillFolder, Fill, ReadFolder, LookThrough, Keep}
+use Rattle.jedge.specs.Calls.{Call, Event, Did, Failed, Kind, Meaning, Nothing, Regular, Special, Measure, Open, Read, ReadPart, ReadRegion, PrintJson, Find, Compare, Print, Create, OpenToWrite, Write, Sync, SyncFolder, Rename, Remove, Close, FillFolder, Fill, ReadFolder, LookThrough, Keep}
 use Rattle.jedge.specs.Laws.{Happened, IsLooking, LooksOnly}
 use Rattle.jedge.specs.declared.fault.Fault.{Fault}
 use Rattle.jmakes.specs.Leaving.{AllRemoved, EndsUnnamed, IsOnOwn, IsOwn, IsRemovedIn, IsTriedOnOwn, HasNoName, LeavesFiles, LeavesOthers, own_at, own_of}
@@ -31,7 +31,8 @@ on_more own other (Measure name n) part is = tt
 on_more own other (Open name) part is = tt
 on_more own other (Read name bytes) part is = tt
 on_more own other (ReadPart name bytes) part is = tt
-on_more own other (LeaveSpare layout names) part is = tt
+on_more own other (ReadRegion region names) part is = tt
+on_more own other (PrintJson lines) part is = tt
 on_more own other (Find name meaning) part is = tt
 on_more own other (Compare name second same) part is = tt
 on_more own other (Print stream text) part is = tt
@@ -54,7 +55,8 @@ tried_more own other (Measure name n) part is = tt
 tried_more own other (Open name) part is = tt
 tried_more own other (Read name bytes) part is = tt
 tried_more own other (ReadPart name bytes) part is = tt
-tried_more own other (LeaveSpare layout names) part is = tt
+tried_more own other (ReadRegion region names) part is = tt
+tried_more own other (PrintJson lines) part is = tt
 tried_more own other (Find name meaning) part is = tt
 tried_more own other (Compare name second same) part is = tt
 tried_more own other (Print stream text) part is = tt
@@ -138,7 +140,8 @@ all_removed_both (Did (Measure name n) ∷ xs) ys one two = all_removed_both xs 
 all_removed_both (Did (Open name) ∷ xs) ys one two = all_removed_both xs ys one two
 all_removed_both (Did (Read name bytes) ∷ xs) ys one two = all_removed_both xs ys one two
 all_removed_both (Did (ReadPart name bytes) ∷ xs) ys one two = all_removed_both xs ys one two
-all_removed_both (Did (LeaveSpare layout names) ∷ xs) ys one two = all_removed_both xs ys one two
+all_removed_both (Did (ReadRegion region names) ∷ xs) ys one two = all_removed_both xs ys one two
+all_removed_both (Did (PrintJson lines) ∷ xs) ys one two = all_removed_both xs ys one two
 all_removed_both (Did (Find name meaning) ∷ xs) ys one two = all_removed_both xs ys one two
 all_removed_both (Did (Compare name second same) ∷ xs) ys one two = all_removed_both xs ys one two
 all_removed_both (Did (Print stream text) ∷ xs) ys one two = all_removed_both xs ys one two
@@ -175,7 +178,8 @@ looked_on own (Measure name n) is = tt
 looked_on own (Open name) is = tt
 looked_on own (Read name bytes) is = tt
 looked_on own (ReadPart name bytes) is = tt
-looked_on own (LeaveSpare layout names) is = tt
+looked_on own (ReadRegion region names) is = tt
+looked_on own (PrintJson lines) is = tt
 looked_on own (Find name meaning) is = tt
 looked_on own (Compare name other same) is = tt
 looked_on own (Print stream text) is = tt
@@ -198,7 +202,8 @@ did_quiet own (Measure name n) events is quiet = record { others = (tt, quiet.ot
 did_quiet own (Open name) events is quiet = record { others = (tt, quiet.others); removed = quiet.removed }
 did_quiet own (Read name bytes) events is quiet = record { others = (tt, quiet.others); removed = quiet.removed }
 did_quiet own (ReadPart name bytes) events is quiet = record { others = (tt, quiet.others); removed = quiet.removed }
-did_quiet own (LeaveSpare layout names) events is quiet = record { others = (tt, quiet.others); removed = quiet.removed }
+did_quiet own (ReadRegion region names) events is quiet = record { others = (tt, quiet.others); removed = quiet.removed }
+did_quiet own (PrintJson lines) events is quiet = record { others = (tt, quiet.others); removed = quiet.removed }
 did_quiet own (Find name meaning) events is quiet = record { others = (tt, quiet.others); removed = quiet.removed }
 did_quiet own (Compare name other same) events is quiet = record { others = (tt, quiet.others); removed = quiet.removed }
 did_quiet own (Print stream text) events is quiet = record { others = (tt, quiet.others); removed = quiet.removed }

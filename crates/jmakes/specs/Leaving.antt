@@ -1,7 +1,7 @@
 -- What is left of a file that does not take its name.
 use Rattle.std.specs.Prelude.{◌≡◌, ◌⊎◌, ◌++◌, ℕ, Bool, true, false, List, [], ◌∷◌, Result, Ok, Err}
 use Rattle.jreport.specs.declared.reason.Reason.{Reason}
-use Rattle.jedge.specs.Calls.{Call, Event, Did, Failed, Special, Nothing, Regular, Kind, Measure, Open, Read, ReadPart, LeaveSpare, Find, Compare, Print, Create, OpenToWrite, Write, Sync, SyncFolder, Rename, Remove, Close, FillFolder, Fill, ReadFolder, LookThrough, Keep}
+use Rattle.jedge.specs.Calls.{Call, Event, Did, Failed, Special, Nothing, Regular, Kind, Measure, Open, Read, ReadPart, ReadRegion, PrintJson, Find, Compare, Print, Create, OpenToWrite, Write, Sync, SyncFolder, Rename, Remove, Close, FillFolder, Fill, ReadFolder, LookThrough, Keep}
 use Rattle.jedge.specs.Laws.{Happened}
 use Rattle.jedge.specs.declared.fault.Fault.{Fault}
 use Rattle.jmakes.specs.Making.{FileMade}
@@ -31,7 +31,8 @@ IsOnOwn own (Measure name n) = Unit {0}
 IsOnOwn own (Open name) = Unit {0}
 IsOnOwn own (Read name bytes) = Unit {0}
 IsOnOwn own (ReadPart name bytes) = Unit {0}
-IsOnOwn own (LeaveSpare layout names) = Unit {0}
+IsOnOwn own (ReadRegion region names) = Unit {0}
+IsOnOwn own (PrintJson lines) = Unit {0}
 IsOnOwn own (Find name meaning) = Unit {0}
 IsOnOwn own (Compare name other same) = Unit {0}
 IsOnOwn own (Print stream text) = Unit {0}

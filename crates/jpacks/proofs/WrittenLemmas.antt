@@ -5,7 +5,7 @@ use Rattle.std.specs.List.{flat_map}
 use Rattle.std.proofs.lemmas.Grind.{flat_map-append}
 use Rattle.std.proofs.lemmas.List.{append-nil}
 use Rattle.jedge.specs.Acts.{Act, Then, answers}
-use Rattle.jedge.specs.Calls.{Call, Close, Compare, Create, Did, Event, Failed, Fill, FillFolder, Find, Keep, Kind, LookThrough, Meaning, Measure, Nothing, Open, OpenToWrite, Print, Read, ReadFolder, ReadPart, LeaveSpare, Regular, Remove, Rename, Special, Sync, SyncFolder, Write}
+use Rattle.jedge.specs.Calls.{Call, Close, Compare, Create, Did, Event, Failed, Fill, FillFolder, Find, Keep, Kind, LookThrough, Meaning, Measure, Nothing, Open, OpenToWrite, Print, Read, ReadFolder, ReadPart, ReadRegion, PrintJson, Regular, Remove, Rename, Special, Sync, SyncFolder, Write}
 use Rattle.jedge.specs.Laws.{IsLooking, Looks, LooksOnly}
 use Rattle.jedge.specs.declared.fault.Fault.{Fault}
 use Rattle.jreads.proofs.KeptLemmas.{both_done}
@@ -20,7 +20,8 @@ looking_puts (Measure name n) is = refl
 looking_puts (Open name) is = refl
 looking_puts (Read name bytes) is = refl
 looking_puts (ReadPart name bytes) is = refl
-looking_puts (LeaveSpare layout names) is = refl
+looking_puts (ReadRegion region names) is = refl
+looking_puts (PrintJson lines) is = refl
 looking_puts (Find name meaning) is = refl
 looking_puts (Compare name other same) is = refl
 looking_puts (Print stream text) is = refl

@@ -19,7 +19,7 @@ use Rattle.jremakes.specs.Laws.{Apart, Compact, CompactApart, Compress, Decompre
 
 -- ---- the image is taken
 
-compares_looks : (first second : List ℕ) → MakesNothing (compares_names first second)
+pub compares_looks : (first second : List ℕ) → MakesNothing (compares_names first second)
 compares_looks first second events (Ok is) did = same did (tt, tt)
 compares_looks first second events (Err f) did = absurd did
 

@@ -48,6 +48,9 @@ pub record HasFindings (e : Endian) (size : ℕ) (image : List ℕ) : Type 0 whe
 abbrev pub TellsFindings : List ℕ → ℕ → ImageFault → Type 0
 TellsFindings name n (image.Findings told findings) = (told.now ≡ name) × (findings ≡ n)
 TellsFindings name n (image.NoNodes told others) = ⊥
+TellsFindings name n image.Part = ⊥
+TellsFindings name n (image.NoInode ino) = ⊥
+TellsFindings name n (image.NoContent ino) = ⊥
 
 -- That is the fault.
 pub record IsFindings (e : Endian) (size : ℕ) (bytes name : List ℕ) (fault : ProgramFault) : Type

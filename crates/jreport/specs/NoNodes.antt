@@ -40,6 +40,9 @@ abbrev pub TellsOthers : Option (List ℕ) → ℕ → ImageFault → Type 0
 TellsOthers name n (image.NoNodes told others) =
     (option_map (λ text. text.now) told ≡ name) × (others ≡ n)
 TellsOthers name n (image.Findings told findings) = ⊥
+TellsOthers name n image.Part = ⊥
+TellsOthers name n (image.NoInode ino) = ⊥
+TellsOthers name n (image.NoContent ino) = ⊥
 
 -- That is the fault, with the number of nodes in the other byte order.
 pub record IsNoNodes (e : Endian) (size : ℕ) (bytes : List ℕ) (name : Option (List ℕ))

@@ -35,6 +35,7 @@ host_text reason.TooLarge = codes "the file grows too large"
 host_text reason.TooManyLinks = codes "too many symbolic links"
 host_text reason.BadName = codes "no file can have this name"
 host_text reason.Busy = codes "in use"
+host_text reason.EndsEarly = codes "is shorter than --offset and --length say"
 host_text reason.Other = []
 
 -- the same behind the name of the file

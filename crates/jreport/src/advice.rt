@@ -221,6 +221,7 @@ fn host_text(reason: Reason) -> &'static [u8]
         Reason::TooManyLinks => b"too many symbolic links",
         Reason::BadName => b"no file can have this name",
         Reason::Busy => b"in use",
+        Reason::EndsEarly => b"is shorter than --offset and --length say",
         Reason::Other => b"",
     }
 }

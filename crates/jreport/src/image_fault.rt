@@ -13,6 +13,12 @@ pub enum ImageFault<'a> {
     NoNodes { name: Option<&'a str>, others: u64 },
     /// It has so many findings, and is the file of this name, which the command would write over.
     Findings { name: &'a str, findings: u64 },
+    /// A part of it was read, and the command would write over the whole file.
+    Part,
+    /// It has no sound node of this inode, or none of the versions that are asked for.
+    NoInode { ino: u32 },
+    /// By these nodes the inode is neither a regular file nor a symlink.
+    NoContent { ino: u32 },
 }
 
 /// What comes before the name in the fault's text, and the name.
@@ -35,6 +41,18 @@ pub(crate) fn push_image_fault<'a>(line: &mut LineBuffer, fault: ImageFault<'a>)
         }
         ImageFault::Findings { .. } => {
             line.push_text(b"I2 Findings");
+            ""
+        }
+        ImageFault::Part => {
+            line.push_text(b"I3 Part");
+            ""
+        }
+        ImageFault::NoInode { .. } => {
+            line.push_text(b"I4 NoInode");
+            ""
+        }
+        ImageFault::NoContent { .. } => {
+            line.push_text(b"I5 NoContent");
             ""
         }
     }
@@ -68,7 +86,10 @@ pub(crate) fn image_named<'a>(fault: ImageFault<'a>) -> &'a str
     ensures { result.now ≡ image_named fault.entry }
 {
     match fault {
-        ImageFault::NoNodes { .. } => "",
+        ImageFault::NoNodes { .. }
+        | ImageFault::Part
+        | ImageFault::NoInode { .. }
+        | ImageFault::NoContent { .. } => "",
         ImageFault::Findings { name, .. } => name,
     }
 }
@@ -93,6 +114,20 @@ pub(crate) fn push_image_note(line: &mut LineBuffer, fault: ImageFault<'_>)
             line.push_text(b" would be replaced, and has ");
             line.push_decimal(findings);
             line.push_text(replaced_text(findings));
+        }
+        ImageFault::Part => {
+            line.push_text(
+                b"IMAGE and OUT are one file, and a part of it is read; give another OUT",
+            );
+        }
+        ImageFault::NoInode { ino } => {
+            line.push_text(b"no sound node of these versions is of inode ");
+            line.push_decimal(u64::from(ino));
+            line.push_text(b"; history prints all");
+        }
+        ImageFault::NoContent { ino } => {
+            line.push_text(b"by these nodes neither a file nor a symlink: inode ");
+            line.push_decimal(u64::from(ino));
         }
     }
 }

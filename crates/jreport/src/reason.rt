@@ -20,6 +20,8 @@ pub enum Reason {
     TooManyLinks,
     BadName,
     Busy,
+    /// It ends before the part of it that is asked for.
+    EndsEarly,
     /// None of these, of which nothing is said.
     Other,
 }

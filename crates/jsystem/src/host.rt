@@ -3,13 +3,14 @@ ghost use Rattle.std.specs.Prelude.{◌≡◌, None};
 
 use crate::faults::unread;
 use crate::output::BufferedOutput;
-use crate::source::FileSource;
+use crate::source::{FileSource, reason_of};
 use flashbase::{FromWriter, load};
 use jedge::fault::{FailedFile, Fault};
 use jedge::host::{Host, Input};
+use jjson::{JsonSink, Lines};
 use jreport::Reason;
 use jscan::GREATEST_IMAGE;
-use jspare::{PageLayout, PageSource};
+use jspare::{Region, RegionSource};
 use std::alloc::Global;
 use std::fs::File;
 use std::io::{ErrorKind, Stderr, Stdout};
@@ -31,18 +32,18 @@ impl Input for OpenedFile {
 /// The name of standard input.
 const STANDARD_INPUT: &str = "-";
 
-/// The names of files that are dumps of one layout.
+/// The names of files of which this part is read.
 #[derive(Drop)]
-pub(crate) struct Dumps {
-    pub(crate) layout: PageLayout,
+pub(crate) struct Parts {
+    pub(crate) region: Region,
     pub(crate) names: Vec<String>,
 }
 
-impl Dumps {
+impl Parts {
     /// Whether this is one of the names.
     fn has(&self, name: &str) -> bool {
-        for dump in &self.names {
-            if dump.as_str() == name {
+        for named in &self.names {
+            if named.as_str() == name {
                 return true;
             }
         }
@@ -50,13 +51,22 @@ impl Dumps {
     }
 }
 
+/// All of a file.
+const WHOLE: Region = Region {
+    layout: None,
+    offset: 0,
+    length: None,
+};
+
 /// The system's files, streams and folders.
 #[derive(Drop)]
 pub struct SystemHost<'r> {
     pub(crate) rt: &'r HostRuntime,
     /// Standard input was opened: it can be read once.
     input_taken: bool,
-    pub(crate) dumps: Option<Dumps>,
+    pub(crate) parts: Option<Parts>,
+    /// What the lines are that standard output gets, if they go out as JSON.
+    pub(crate) json: Option<Lines>,
 }
 
 impl<'r> SystemHost<'r> {
@@ -66,15 +76,16 @@ impl<'r> SystemHost<'r> {
         SystemHost {
             rt,
             input_taken: false,
-            dumps: None,
+            parts: None,
+            json: None,
         }
     }
 
-    /// The layout of the file of a name, if that is a dump with spare bytes.
-    pub(crate) fn layout_of(&self, name: &str) -> Option<PageLayout> {
-        match &self.dumps {
-            Some(dumps) if dumps.has(name) => Some(dumps.layout),
-            _ => None,
+    /// Which part of the file of a name is read.
+    pub(crate) fn region_of(&self, name: &str) -> Region {
+        match &self.parts {
+            Some(parts) if parts.has(name) => parts.region,
+            _ => WHOLE,
         }
     }
 
@@ -103,7 +114,7 @@ impl<'r> Host for SystemHost<'r> {
 
     type Input = OpenedFile;
 
-    type Output = BufferedOutput<Stdout>;
+    type Output = JsonSink<BufferedOutput<Stdout>>;
 
     type Errors = FromWriter<Stderr>;
 
@@ -126,25 +137,27 @@ impl<'r> Host for SystemHost<'r> {
 
     fn read(&mut self, input: OpenedFile) -> Result<Vec<u8>, Fault> {
         let OpenedFile { name, file } = input;
-        let layout = self.layout_of(name.as_str());
-        let mut source = PageSource::new(FileSource::new(file), layout);
+        let region = self.region_of(name.as_str());
+        let mut source = RegionSource::new(FileSource::new(file), region);
         match load(self.rt.alloc(), &mut source, GREATEST_IMAGE) {
             Ok(bytes) => Ok(bytes),
-            Err(why) => Err(unread(name, source.source().reason(), why)),
+            Err(why) => Err(unread(name, reason_of(&source), why)),
         }
     }
 
-    fn output(&mut self) -> Result<BufferedOutput<Stdout>, Fault> {
+    fn output(&mut self) -> Result<JsonSink<BufferedOutput<Stdout>>, Fault> {
         match BufferedOutput::new(self.rt.alloc(), self.rt.stdout()) {
-            Ok(out) => Ok(out),
+            Ok(out) => Ok(JsonSink::new(self.rt.alloc(), out, self.json)),
             Err(_) => Err(Fault::OutOfMemory),
         }
     }
 
-    fn close(&mut self, mut out: BufferedOutput<Stdout>) -> Result<(), Fault> {
-        match out.finish(None) {
-            Ok(()) => Ok(()),
-            Err(_) => Err(Fault::Output),
+    fn close(&mut self, out: JsonSink<BufferedOutput<Stdout>>) -> Result<(), Fault> {
+        let failures = out.own_failures();
+        let mut below = out.into_below();
+        match below.finish(None) {
+            Ok(()) if failures == 0 => Ok(()),
+            _ => Err(Fault::Output),
         }
     }
 

@@ -19,5 +19,5 @@ pub mod opener;
 pub mod output;
 mod replacing;
 pub mod source;
-mod spare_host;
 pub mod stream_host;
+mod streams_host;

@@ -4,6 +4,8 @@ ghost use Rattle.jsystem.specs.Reasons.{source_reason};
 
 use flashbase::{DeviceFault, Source};
 use jreport::Reason;
+use jspare::RegionSource;
+use std::fs::File;
 use std::io::Read;
 
 /// A source over a reader, which notes why it failed. A call that was interrupted is a failure.
@@ -56,5 +58,14 @@ impl<R: Read + Drop> Source for FileSource<R> {
                 Err(DeviceFault)
             }
         }
+    }
+}
+
+/// Why a part of a file of the system was not read.
+pub(crate) fn reason_of(source: &RegionSource<FileSource<File>>) -> Reason {
+    if source.ends_early() {
+        Reason::EndsEarly
+    } else {
+        source.source().reason()
     }
 }

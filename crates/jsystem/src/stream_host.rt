@@ -1,9 +1,9 @@
 //! Files of the system that are read as streams.
 use crate::host::{OpenedFile, SystemHost};
-use crate::source::FileSource;
+use crate::source::{FileSource, reason_of};
 use jedge::fault::{FailedFile, Fault};
 use jreads::stream_host::{StreamHost, Streamed};
-use jspare::PageSource;
+use jspare::RegionSource;
 use std::fs::File;
 
 /// The name of a file that is read as a stream.
@@ -24,28 +24,27 @@ impl Streamed for StreamedFile {
 impl<'r> StreamHost for SystemHost<'r> {
     type Streamed = StreamedFile;
 
-    type Source = PageSource<FileSource<File>>;
+    type Source = RegionSource<FileSource<File>>;
 
-    fn stream(&mut self, input: OpenedFile) -> (StreamedFile, PageSource<FileSource<File>>) {
+    fn stream(&mut self, input: OpenedFile) -> (StreamedFile, RegionSource<FileSource<File>>) {
         let OpenedFile { name, file } = input;
-        let layout = self.layout_of(name.as_str());
-        let source = PageSource::new(FileSource::new(file), layout);
+        let region = self.region_of(name.as_str());
+        let source = RegionSource::new(FileSource::new(file), region);
         (StreamedFile { name }, source)
     }
 
     fn close_stream(
         &mut self,
         streamed: StreamedFile,
-        source: PageSource<FileSource<File>>,
+        source: RegionSource<FileSource<File>>,
     ) -> Result<(), Fault> {
-        let source = source.source();
         if source.failures() == 0 {
             return Ok(());
         }
         let StreamedFile { name } = streamed;
         Err(Fault::NotRead(FailedFile {
             name,
-            reason: source.reason(),
+            reason: reason_of(&source),
         }))
     }
 }

@@ -2,6 +2,7 @@
 //! and the first is the program's own name.
 
 use crate::checks::{equal, equal_at, expect, expect_at};
+use crate::command::inodes::shown_inode;
 use crate::command::outputs::shown_history;
 use crate::command::packing::shown_packing;
 use crate::command::updating::{shown_mapping, shown_update_cuts, shown_updating};
@@ -250,6 +251,7 @@ pub(crate) fn shown(alloc: Global, command: Command<&str>) -> Result<String, All
         Command::CheckThrough(asked) => shown_check(alloc, asked, true),
         Command::List(asked) => shown_tree(alloc, asked),
         Command::Cat(asked) => shown_content(alloc, asked),
+        Command::CatInode(asked) => shown_inode(alloc, asked),
         Command::Info { image } => format!(in alloc; "info {image}"),
         Command::Diff(asked) => shown_comparison(alloc, asked),
         Command::Damage(asked) => shown_examination(alloc, asked),
@@ -641,7 +643,7 @@ const HELP: [(&str, &str); 24] = [
     ("t damage --help", "Usage: t damage [OPTIONS] <IMAGE>"),
     ("t help damage", "'hides nothing' means that the"),
     ("t help diff", "only the bytes differ, from this offset on"),
-    ("t cat --help", "Usage: t cat [OPTIONS] <IMAGE> <PATH>"),
+    ("t cat --help", "Usage: t cat [OPTIONS] <IMAGE> [PATH]"),
     (
         "t build --help",
         "Usage: t build [OPTIONS] --blocks <N> <LISTING> [OUT]",

@@ -91,6 +91,7 @@ fn name_of(command: &Command<&str>) -> &'static str {
         Command::CheckThrough(_) => "through",
         Command::List(_) => "ls",
         Command::Cat(_) => "cat",
+        Command::CatInode(_) => "cat of an inode",
         Command::Info { .. } => "info",
         Command::Diff(_) => "diff",
         Command::Damage(_) => "damage",

@@ -2,7 +2,7 @@ use Rattle.jcommand.proofs.commands.make_cuts.Goals as goal
 
 pub returns : goal.returns
 returns c =
-    let first = c.add_arg.ensures _ _ c.make_reader-command.ensures c.make_optional-blocks.ensures in
+    let first = c.add_arg.ensures _ _ c.make_printer-command.ensures c.make_optional-blocks.ensures in
     let second = c.add_arg-2.ensures _ _ first c.make_option-page.ensures in
     let third = c.add_arg-command.ensures _ _ second c.make_optional-on.ensures in
     let packed = c.add_compressing.ensures _ third in

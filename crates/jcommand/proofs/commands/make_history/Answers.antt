@@ -2,5 +2,5 @@ use Rattle.jcommand.proofs.commands.make_history.Goals as goal
 
 pub returns : goal.returns
 returns c =
-    let first = c.add_arg.ensures _ _ c.make_reader-command.ensures c.make_word-image.ensures in
+    let first = c.add_arg.ensures _ _ c.make_printer-command.ensures c.make_word-image.ensures in
     c.add_arg-2.ensures _ _ first c.make_optional_word-path.ensures

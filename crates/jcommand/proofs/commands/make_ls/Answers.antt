@@ -2,6 +2,6 @@ use Rattle.jcommand.proofs.commands.make_ls.Goals as goal
 
 pub returns : goal.returns
 returns c =
-    let first = c.add_arg.ensures _ _ c.make_reader-command.ensures c.make_flag-decompress.ensures in
+    let first = c.add_arg.ensures _ _ c.make_printer-command.ensures c.make_flag-decompress.ensures in
     let second = c.add_arg-2.ensures _ _ first c.make_word-image.ensures in
     c.add_arg-3.ensures _ _ second c.make_optional_word-path.ensures

@@ -28,6 +28,14 @@ pub returns-clause-no_path : goal.returns-clause-no_path
 unfolding clap_on_literals program parsed parsed_from
 returns-clause-no_path c = refl
 
+pub returns-clause-path_and_inode : goal.returns-clause-path_and_inode
+unfolding clap_on_literals program parsed parsed_from
+returns-clause-path_and_inode c = refl
+
+pub returns-clause-version_alone : goal.returns-clause-version_alone
+unfolding clap_on_literals program parsed parsed_from
+returns-clause-version_alone c = refl
+
 pub returns-clause-unreadable : goal.returns-clause-unreadable
 unfolding clap_on_literals program parsed parsed_from
 returns-clause-unreadable c = refl

@@ -20,6 +20,14 @@ pub returns-clause-content : goal.returns-clause-content
 unfolding clap_on_literals program parsed parsed_from
 returns-clause-content c = refl
 
+pub returns-clause-revision : goal.returns-clause-revision
+unfolding clap_on_literals program parsed parsed_from
+returns-clause-revision c = refl
+
+pub returns-clause-newest : goal.returns-clause-newest
+unfolding clap_on_literals program parsed parsed_from
+returns-clause-newest c = refl
+
 pub returns-clause-made : goal.returns-clause-made
 unfolding clap_on_literals program parsed parsed_from
 returns-clause-made c = refl

@@ -1,39 +1,38 @@
 use Rattle.std.proofs.Common.{◌≡◌, Bool, true, false, List, Option, None, Some, refl, ap, sym}
-use Rattle.std.specs.Prelude.{◌&&◌, ◌||◌, codes, if◌then◌else◌, option_map}
-use Rattle.clap.specs.Words.{Row, Text, first_of, subcommand_of}
+use Rattle.std.specs.Prelude.{◌&&◌, ◌||◌, codes, if◌then◌else◌, not, option_map}
+use Rattle.clap.specs.Words.{Row, Text, subcommand_of}
 use Rattle.jline.specs.Read.{◌>>=◌}
-use Rattle.jspare.specs.declared.layout.PageLayout.{PageLayout}
+use Rattle.jspare.specs.declared.region.Region.{Region}
 use Rattle.jcommand.specs.Commands.{program}
-use Rattle.jcommand.specs.Layouts.{layout_of}
-use Rattle.jcommand.specs.Parsed.{parsed, parsed_by, parsed_from}
-use Rattle.jcommand.specs.Requests.{are_options_given, auto_by, auto_from, has_no_second_read, is_auto, reads_image, request_by, request_from, request_of, spare_by, spare_in, spare_text_by, spare_text_from}
+use Rattle.jcommand.specs.Parsed.{is_given, parsed, parsed_by, parsed_from}
+use Rattle.jcommand.specs.Requests.{are_options_given, auto_by, auto_from, has_no_second_read, has_region_by, has_region_from, is_auto, is_contrary, is_json, is_region_given, json_by, json_from, reads_image, region_from, region_from_rows, region_in, region_told, request_by, request_from, request_of}
 use Rattle.jcommand.specs.declared.parsed.Command.{Command}
 use Rattle.jcommand.specs.declared.request.Request.{Request}
 use Rattle.jcommand.proofs.laws.requests_are_parsed.Goals as goal
 
-abbrev made : Bool → Option PageLayout → Command Text → Request Text
-made auto spare c = record { auto = auto; spare = spare; command = c }
+abbrev made : Bool → Option Region → Bool → Command Text → Request Text
+made auto region json c = record { auto = auto; region = region; json = json; command = c }
 
-abbrev made_by : Bool → Bool → Option (Option PageLayout) → Command Text → Option (Request Text)
-made_by auto refused spare c = if auto && refused then None else spare >>= λ s. Some (made auto s c)
+abbrev made_by : Bool → Bool → Bool → Option (Option Region) → Command Text → Option (Request Text)
+made_by refused auto json region c = if refused then None else region >>= λ r. Some (made auto r json c)
 
-record IsMade (given : Bool) (layout : Option (Option PageLayout)) (c : Command Text) (r : Request Text) : Type 0 where
-  pub auto : r.auto ≡ given
-  pub spare : layout ≡ Some r.spare
+record IsMade (auto json : Bool) (region : Option (Option Region)) (c : Command Text) (r : Request Text) : Type 0 where
+  pub is_auto : r.auto ≡ auto
+  pub is_json : r.json ≡ json
+  pub part : region ≡ Some r.region
   pub command : r.command ≡ c
 
-with_spare : (auto : Bool) (spare : Option (Option PageLayout)) (c : Command Text) (r : Request Text) → (spare >>= λ s. Some (made auto s c)) ≡ Some r → IsMade auto spare c r
-with_spare auto None c r is = cc
-with_spare auto (Some s) c r is = record { auto = cc; spare = cc; command = cc }
+with_region : (auto json : Bool) (region : Option (Option Region)) (c : Command Text) (r : Request Text) → (region >>= λ x. Some (made auto x json c)) ≡ Some r → IsMade auto json region c r
+with_region auto json None c r is = cc
+with_region auto json (Some s) c r is = record { is_auto = cc; is_json = cc; part = cc; command = cc }
 
--- by whether `--auto` is given, and whether it says nothing there
-by_auto : (auto refused : Bool) (spare : Option (Option PageLayout)) (c : Command Text) (r : Request Text) → made_by auto refused spare c ≡ Some r → IsMade auto spare c r
-by_auto true true spare c r is = cc
-by_auto true false spare c r is = with_spare true spare c r is
-by_auto false refused spare c r is = with_spare false spare c r is
+-- by whether words are given that do not go together
+made_of : (refused auto json : Bool) (region : Option (Option Region)) (c : Command Text) (r : Request Text) → made_by refused auto json region c ≡ Some r → IsMade auto json region c r
+made_of true auto json region c r is = cc
+made_of false auto json region c r is = with_region auto json region c r is
 
-of_rows : (rows : List Row) (c : Command Text) (r : Request Text) → request_of rows c ≡ Some r → IsMade (is_auto rows) (spare_in rows c) c r
-of_rows rows c r is = by_auto (is_auto rows) (are_options_given rows || has_no_second_read c) (spare_in rows c) c r is
+of_rows : (rows : List Row) (c : Command Text) (r : Request Text) → request_of rows c ≡ Some r → IsMade (is_auto rows) (is_json rows) (region_in rows c) c r
+of_rows rows c r is = made_of (is_contrary rows c) (is_auto rows) (is_json rows) (region_in rows c) c r is
 
 of_command : (read : Option (Command Text)) (rows : List Row) (r : Request Text) → (read >>= request_of rows) ≡ Some r → read ≡ Some r.command
 of_command None rows r is = cc
@@ -41,34 +40,28 @@ of_command (Some c) rows r is = ap (λ (x : Command Text). Some x) (sym (of_rows
 
 auto_of : (read : Option (Command Text)) (rows : List Row) (r : Request Text) → (read >>= request_of rows) ≡ Some r → r.auto ≡ is_auto rows
 auto_of None rows r is = cc
-auto_of (Some c) rows r is = (of_rows rows c r is).auto
+auto_of (Some c) rows r is = (of_rows rows c r is).is_auto
 
--- by the layout, where one is given
-by_layout : (layout s : Option PageLayout) → option_map (λ l. Some l) layout ≡ Some s → s ≡ layout
-by_layout None s is = cc
-by_layout (Some l) s is = cc
+json_of : (read : Option (Command Text)) (rows : List Row) (r : Request Text) → (read >>= request_of rows) ≡ Some r → r.json ≡ is_json rows
+json_of None rows r is = cc
+json_of (Some c) rows r is = (of_rows rows c r is).is_json
 
-by_text : (reads : Bool) (text : Option Text) (s : Option PageLayout) → spare_by reads text ≡ Some s → s ≡ (text >>= layout_of)
-by_text reads None s is = cc
-by_text true (Some text) s is = by_layout (layout_of text) s is
-by_text false (Some text) s is = cc
+-- by whether a part is given, and an image is read
+given_by : (given reads : Bool) (told r : Option Region) → (if not given then Some None else if reads then option_map (λ (x : Region). Some x) told else None) ≡ Some r
+    → r ≡ (if given then told else None)
+given_by false reads told r is = cc
+given_by true true None r is = cc
+given_by true true (Some x) r is = cc
+given_by true false told r is = cc
 
-spare_of : (read : Option (Command Text)) (rows : List Row) (r : Request Text) → (read >>= request_of rows) ≡ Some r → r.spare ≡ (first_of (codes "oob") rows >>= layout_of)
-spare_of None rows r is = cc
-spare_of (Some c) rows r is = by_text (reads_image c) (first_of (codes "oob") rows) r.spare (of_rows rows c r is).spare
+region_of : (read : Option (Command Text)) (rows : List Row) (r : Request Text) → (read >>= request_of rows) ≡ Some r
+    → r.region ≡ (if is_region_given rows then region_told rows else None)
+region_of None rows r is = cc
+region_of (Some c) rows r is = given_by (is_region_given rows) (reads_image c) (region_told rows) r.region (of_rows rows c r is).part
 
-plain_by : (auto refused : Bool) (spare : Option (Option PageLayout)) (c : Command Text) → auto ≡ false → spare ≡ Some None → made_by auto refused spare c ≡ Some (made false None c)
-plain_by true refused spare c is none = cc
-plain_by false refused None c is none = cc
-plain_by false refused (Some s) c is none = cc
-
-none_spare : (reads : Bool) (text : Option Text) → text ≡ None → spare_by reads text ≡ Some None
-none_spare reads None is = refl
-none_spare reads (Some text) is = cc
-
-plain_of : (read : Option (Command Text)) (rows : List Row) → is_auto rows ≡ false → first_of (codes "oob") rows ≡ None → (read >>= request_of rows) ≡ option_map (made false None) read
-plain_of None rows is none = refl
-plain_of (Some c) rows is none = plain_by (is_auto rows) (are_options_given rows || has_no_second_read c) (spare_in rows c) c is (none_spare (reads_image c) (first_of (codes "oob") rows) none)
+none_given : (given reads : Bool) (told : Option Region) → given ≡ false → (if not given then Some None else if reads then option_map (λ (x : Region). Some x) told else None) ≡ Some None
+none_given false reads told is = refl
+none_given true reads told is = cc
 
 -- by clap's matches
 found_command : (found : Option (Text × List Row)) (r : Request Text) → request_by found ≡ Some r → parsed_by found ≡ Some r.command
@@ -79,13 +72,32 @@ found_auto : (found : Option (Text × List Row)) (r : Request Text) → request_
 found_auto None r is = cc
 found_auto (Some p) r is = auto_of (parsed p.0 p.1) p.1 r is
 
-found_spare : (found : Option (Text × List Row)) (r : Request Text) → request_by found ≡ Some r → r.spare ≡ (spare_text_by found >>= layout_of)
-found_spare None r is = cc
-found_spare (Some p) r is = spare_of (parsed p.0 p.1) p.1 r is
+found_json : (found : Option (Text × List Row)) (r : Request Text) → request_by found ≡ Some r → r.json ≡ json_by found
+found_json None r is = cc
+found_json (Some p) r is = json_of (parsed p.0 p.1) p.1 r is
 
-found_plain : (found : Option (Text × List Row)) → auto_by found ≡ false → spare_text_by found ≡ None → request_by found ≡ option_map (made false None) (parsed_by found)
-found_plain None is none = refl
-found_plain (Some p) is none = plain_of (parsed p.0 p.1) p.1 is none
+found_region : (found : Option (Text × List Row)) (r : Request Text) → request_by found ≡ Some r → r.region ≡ region_from_rows found
+found_region None r is = cc
+found_region (Some p) r is = region_of (parsed p.0 p.1) p.1 r is
+
+-- nothing of it is given
+plain_by : (auto json svg options : Bool) (region : Option (Option Region)) (c : Command Text) → auto ≡ false → json ≡ false → region ≡ Some None
+    → made_by ((auto && options) || (json && svg)) auto json region c ≡ Some (made false None false c)
+plain_by true json svg options region c auto json_is none = cc
+plain_by false true svg options region c auto json_is none = cc
+plain_by false false svg options None c auto json_is none = cc
+plain_by false false svg options (Some s) c auto json_is none = cc
+
+plain_of : (read : Option (Command Text)) (rows : List Row) → is_auto rows ≡ false → is_region_given rows ≡ false → is_json rows ≡ false
+    → (read >>= request_of rows) ≡ option_map (made false None false) read
+plain_of None rows auto part json = refl
+plain_of (Some c) rows auto part json = plain_by (is_auto rows) (is_json rows) (is_given (codes "svg") rows) (are_options_given rows || has_no_second_read c) (region_in rows c) c auto json
+    (none_given (is_region_given rows) (reads_image c) (region_told rows) part)
+
+found_plain : (found : Option (Text × List Row)) → auto_by found ≡ false → has_region_by found ≡ false → json_by found ≡ false
+    → request_by found ≡ option_map (made false None false) (parsed_by found)
+found_plain None auto part json = refl
+found_plain (Some p) auto part json = plain_of (parsed p.0 p.1) p.1 auto part json
 
 pub returns-clause-command : goal.returns-clause-command
 unfolding request_from parsed_from
@@ -95,10 +107,14 @@ pub returns-clause-auto : goal.returns-clause-auto
 unfolding request_from auto_from
 returns-clause-auto c = λ args asked is. found_auto (subcommand_of program args) asked is
 
-pub returns-clause-spare : goal.returns-clause-spare
-unfolding request_from spare_text_from
-returns-clause-spare c = λ args asked is. found_spare (subcommand_of program args) asked is
+pub returns-clause-region : goal.returns-clause-region
+unfolding request_from region_from
+returns-clause-region c = λ args asked is. found_region (subcommand_of program args) asked is
+
+pub returns-clause-json : goal.returns-clause-json
+unfolding request_from json_from
+returns-clause-json c = λ args asked is. found_json (subcommand_of program args) asked is
 
 pub returns-clause-plain : goal.returns-clause-plain
-unfolding request_from parsed_from auto_from spare_text_from
-returns-clause-plain c = λ args is none. found_plain (subcommand_of program args) is none
+unfolding request_from parsed_from auto_from has_region_from json_from
+returns-clause-plain c = λ args auto part json. found_plain (subcommand_of program args) auto part json

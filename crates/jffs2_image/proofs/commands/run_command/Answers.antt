@@ -40,6 +40,11 @@ returns-in-Cat g c =
     does_at (λ (k : Command (Bor (List ℕ))). reported (command_act (command_view k))) (sym c.in-Cat.is)
     c.run_cat.ensures
 
+pub returns-in-CatInode : goal.returns-in-CatInode
+returns-in-CatInode g c =
+    does_at (λ (k : Command (Bor (List ℕ))). reported (command_act (command_view k))) (sym c.in-CatInode.is)
+    c.run_cat_inode.ensures
+
 pub returns-in-Info : goal.returns-in-Info
 returns-in-Info g c =
     does_at (λ (k : Command (Bor (List ℕ))). reported (command_act (command_view k))) (sym c.in-Info.is)

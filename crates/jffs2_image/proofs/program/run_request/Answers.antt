@@ -1,8 +1,8 @@
-use Rattle.jedge.proofs.Steps.{step_reported, then_err, then_reported}
+use Rattle.std.proofs.Common.{Option, sym}
+use Rattle.jjson.specs.declared.lines.Lines.{Lines}
+use Rattle.jedge.proofs.Steps.{does_at, step_reported}
+use Rattle.jffs2_image.specs.Running.{json_act}
 use Rattle.jffs2_image.proofs.program.run_request.Goals as goal
 
-pub returns-in-Ok : goal.returns-in-Ok
-returns-in-Ok g c = step_reported c.in-Ok.ensures c.run_looked.ensures
-
-pub returns-in-Err : goal.returns-in-Err
-returns-in-Err g c = then_reported (then_err c.in-Err.ensures) c.report.ensures
+pub returns : goal.returns
+returns g c = step_reported (does_at (λ (lines : Option Lines). json_act lines) c.lines_asked.ensures c.print_json.ensures) c.run_read.ensures

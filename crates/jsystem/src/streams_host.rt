@@ -1,10 +1,11 @@
-//! Files of the system that are dumps with spare bytes.
+//! Files of the system of which a part is read, and standard output as JSON.
 ghost use Rattle.std.specs.Prelude.{IfOk};
 
-use crate::host::{Dumps, SystemHost};
+use crate::host::{Parts, SystemHost};
 use jedge::fault::Fault;
-use jedge::spare_host::SpareHost;
-use jspare::PageLayout;
+use jedge::streams_host::StreamsHost;
+use jjson::Lines;
+use jspare::Region;
 use std::alloc::{AllocError, Global};
 
 /// Their names, to be held.
@@ -16,14 +17,18 @@ fn copied(alloc: Global, names: &[&str]) -> Result<Vec<String>, AllocError> {
     Ok(copies)
 }
 
-impl<'r> SpareHost for SystemHost<'r> {
-    fn leave_spare(&mut self, layout: PageLayout, names: &[&str]) -> Result<(), Fault> {
+impl<'r> StreamsHost for SystemHost<'r> {
+    fn read_region(&mut self, region: Region, names: &[&str]) -> Result<(), Fault> {
         match copied(self.rt.alloc(), names) {
             Ok(names) => {
-                self.dumps = Some(Dumps { layout, names });
+                self.parts = Some(Parts { region, names });
                 Ok(())
             }
             Err(AllocError) => Err(Fault::OutOfMemory),
         }
+    }
+
+    fn print_json(&mut self, lines: Lines) {
+        self.json = Some(lines);
     }
 }

@@ -3,7 +3,7 @@ use Rattle.clap.proofs.OnLiterals.{clap_on_literals}
 use Rattle.jcommand.specs.Parsed.{parsed}
 use Rattle.jcommand.specs.Requests.{request_from}
 use Rattle.jcommand.specs.Commands.{program}
-use Rattle.jcommand.proofs.laws.known_spares.Goals as goal
+use Rattle.jcommand.proofs.laws.known_regions.Goals as goal
 
 pub returns-clause-counted : goal.returns-clause-counted
 unfolding clap_on_literals program parsed request_from
@@ -16,6 +16,10 @@ returns-clause-found c = refl
 pub returns-clause-unread : goal.returns-clause-unread
 unfolding clap_on_literals program parsed request_from
 returns-clause-unread c = refl
+
+pub returns-clause-empty : goal.returns-clause-empty
+unfolding clap_on_literals program parsed request_from
+returns-clause-empty c = refl
 
 pub returns-clause-cut_alone : goal.returns-clause-cut_alone
 unfolding clap_on_literals program parsed request_from

@@ -1,4 +1,0 @@
-use Rattle.jcommand.proofs.commands.add_spare.Goals as goal
-
-pub returns : goal.returns
-returns c = λ app made. c.add_arg.ensures _ _ made c.make_optional-layout.ensures
