@@ -70,6 +70,9 @@ tests/damage.py $program
 tests/retry.py $program
 tests/diff.py $program
 tests/spare.py $program
+tests/offset.py $program
+tests/json_lines.py $program
+tests/upto.py $program
 tests/verify.py $program
 tests/placing.sh $program
 tests/listings.py $program

@@ -32,7 +32,7 @@ def commands_of_the_program():
     bodies = dict(re.findall(r"^(?:pub\(crate\) )?fn (\w+)(.*?)^}", text, re.M | re.S))
     found = {}
     for body in bodies.values():
-        named = re.search(r'\bmake_(?:plain|reader|writer|noting|named)\(\s*alloc,\s*"(\w+)"', body)
+        named = re.search(r'\bmake_(?:plain|reader|printer|writer|noting|named)\(\s*alloc,\s*"(\w+)"', body)
         if named:
             name = "" if ".version(" in body else named[1]
             found[name] = Command(options_in(body, bodies) | HELP, words_in(body, bodies))
@@ -49,7 +49,7 @@ def options_in(body, bodies):
     for name, letter in re.findall(made, body):
         options |= {f"--{name}", f"-{letter}"} if letter else {f"--{name}"}
     options |= {f"-{letter}" for letter in re.findall(r"\.short\('(\w)'\)", body)}
-    makers = ("make_plain|make_block|make_reader|make_writer|make_noting|add_spare|add_auto|add_atomic"
+    makers = ("make_plain|make_block|make_reader|make_printer|make_writer|make_noting|add_region|add_json|add_auto|add_atomic"
               "|add_compressing|add_replacing|add_placing|add_updating|add_settings|add_output")
     for below in re.findall(rf"\b({makers})\(", body):
         options |= options_in(bodies[below], bodies)

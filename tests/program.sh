@@ -163,7 +163,7 @@ run check none; want 1 "" "$(unopened none)"
 run check folder; want 1 "" "$(unread folder)"
 
 # Files
-run cat block; want 2 "" "error: *<PATH>*Usage: *"
+run cat block; want 2 "" "error: *<PATH>*"
 run cat block /; want 1 "" "jffs2_image: P4 NotRegular"
 run cat block a; want 1 "" "jffs2_image: P3 Path BadPath"
 run cat block /a; want 1 "" "jffs2_image: P3 Path NotFound"
@@ -182,7 +182,7 @@ for path in '' '\x61' '/\x00\xfF'; do
     run cat block "$path"; want 1 "" "jffs2_image: P3 Path BadPath"
 done
 for words in "cat --help" "cat -h" "help cat"; do
-    run $words; want 0 "*Usage: jffs2_image cat *<IMAGE> <PATH>*--block <N>*65536*Exit status:*" ""
+    run $words; want 0 "*Usage: jffs2_image cat *<IMAGE> ?PATH?*--block <N>*65536*Exit status:*" ""
 done
 
 # The sample image with a tree, which mkfs.jffs2 made
