@@ -69,16 +69,10 @@ def random_images():
     verdict(f"most random images have a history: {count}", count > 100)
 
 
-def soups():
-    """Nodes of few numbers, compressed in each method, some of them wrong; and torn ends."""
-    for about, image, order in images.soups_of_both(20, 20):
-        try_image(about, image, order)
-
-
 def by_others():
-    """Images of mkfs.jffs2, in blocks of their own size and of another."""
-    for about, image, order, size in images.of_mkfs():
-        try_image(about, image, order, size)
+    """Nodes of few numbers, compressed in each method, some of them wrong; torn ends; and images of mkfs.jffs2."""
+    for made in images.of_others(20, 20, BLOCK):
+        try_image(*made)
 
 
 def by_hand():
@@ -103,4 +97,4 @@ def by_hand():
 
 
 if __name__ == "__main__":
-    sys.exit(run_all((by_hand, by_others, random_images, soups)))
+    sys.exit(run_all((by_hand, by_others, random_images)))
