@@ -210,13 +210,14 @@ pack_app = writing
     (flag (codes "weak"))))))
     (word (codes "DIR")))
 
--- `extract [--decompress] [--auto] [REGION] [--block N] [--endian ORDER] [--owners] [--quiet]
--- IMAGE DIR [PATH]`
+-- `extract [--decompress] [--deleted] [--auto] [REGION] [--block N] [--endian ORDER] [--owners]
+-- [--quiet] IMAGE DIR [PATH]`
 abbrev pub extract_app : App
 extract_app = with_rule
     (with_rule
     (with_rule
-    (with_rule (with_rule (decompressing (reader (codes "extract")))
+    (with_rule
+    (with_rule (with_rule (decompressing (reader (codes "extract"))) (flag (codes "deleted")))
     (flag (codes "owners"))) (flag (codes "quiet"))) (word (codes "IMAGE")))
     (word (codes "DIR")))
     (optional_word (codes "PATH"))
@@ -262,9 +263,12 @@ abbrev pub map_app : App
 map_app = with_rule (with_rule (printer (codes "map")) (flag (codes "svg")))
     (word (codes "IMAGE"))
 
--- `history [--auto] [REGION] [--block N] [--endian ORDER] IMAGE [PATH]`
+-- `history [--since T] [--until T] [--auto] [REGION] [--block N] [--endian ORDER] IMAGE [PATH]`
 abbrev pub history_app : App
-history_app = with_rule (with_rule (printer (codes "history")) (word (codes "IMAGE")))
+history_app = with_rule
+    (with_rule
+    (with_rule (with_rule (printer (codes "history")) (option_of (codes "since")))
+    (option_of (codes "until"))) (word (codes "IMAGE")))
     (optional_word (codes "PATH"))
 
 -- `verify [--times] [--owner UID GID] [--time T] [--quiet] [--auto] [REGION] [--block N]

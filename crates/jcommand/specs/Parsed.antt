@@ -165,6 +165,8 @@ inode_view c = record {
 abbrev pub history_view : NodeHistory (Bor Text) → NodeHistory Text
 history_view h = record {
   options = h.options;
+  since = h.since;
+  until = h.until;
   image = h.image.now;
   path = option_map (λ p. p.now) h.path;
 }
@@ -173,6 +175,7 @@ abbrev pub extraction_view : Extraction (Bor Text) → Extraction Text
 extraction_view x = record {
   options = x.options;
   decompress = x.decompress;
+  deleted = x.deleted;
   owners = x.owners;
   quiet = x.quiet;
   image = x.image.now;
@@ -441,10 +444,19 @@ abbrev pub map_in : List Row → Option (Command Text)
 map_in rows = image_in rows >>= λ i. Some (command.Map
     (record { options = i.options; svg = is_given (codes "svg") rows; image = i.image }))
 
--- of the objects that a path ever named, where one is given
+-- of the objects that a path ever named, and of the nodes since a time or until one, where these
+-- are given
 abbrev pub history_in : List Row → Option (Command Text)
-history_in rows = image_in rows >>= λ i. Some (command.History
-    (record { options = i.options; image = i.image; path = first_of (codes "PATH") rows }))
+history_in rows = image_in rows >>= λ i.
+    if_given (first_of (codes "since") rows) decimal_number >>= λ since.
+    if_given (first_of (codes "until") rows) decimal_number >>= λ until.
+    Some (command.History (record {
+      options = i.options;
+      since = since;
+      until = until;
+      image = i.image;
+      path = first_of (codes "PATH") rows;
+    }))
 
 -- the image that a subcommand writes
 abbrev pub target_in : List Row → Option (Target Text)
@@ -588,17 +600,29 @@ compact_in rows = conversion_in rows >>= λ c.
     is_apart (first_of (codes "clashes") rows) >>= λ apart.
     Some (compact_by apart (record { conversion = c; blocks = blocks }))
 
-abbrev pub extract_in : List Row → Option (Command Text)
-extract_in rows = image_in rows >>= λ i. first_of (codes "DIR") rows >>= λ folder.
+-- the files that no path leads to are asked for
+abbrev pub is_deleted_asked : List Row → Bool
+is_deleted_asked = is_given (codes "deleted")
+
+-- beside which a path says nothing
+abbrev pub is_path_beside_deleted : List Row → Bool
+is_path_beside_deleted rows = is_deleted_asked rows && is_some (first_of (codes "PATH") rows)
+
+abbrev pub tree_in : List Row → Option (Command Text)
+tree_in rows = image_in rows >>= λ i. first_of (codes "DIR") rows >>= λ folder.
     Some (command.Extract (record {
       options = i.options;
       decompress = is_given (codes "decompress") rows;
+      deleted = is_deleted_asked rows;
       owners = is_given (codes "owners") rows;
       quiet = is_given (codes "quiet") rows;
       image = i.image;
       folder = folder;
       path = first_of (codes "PATH") rows;
     }))
+
+abbrev pub extract_in : List Row → Option (Command Text)
+extract_in rows = if is_path_beside_deleted rows then None else tree_in rows
 
 -- a folder, and the owner and the time of all that it holds, where they are given
 abbrev pub folder_in : List Row → Option (FolderListing Text)

@@ -363,13 +363,15 @@ fn make_extract<'a>(alloc: Global) -> Made<'a>
     ensures { MakesApp result extract_app }
 {
     let decompress = make_flag(alloc, "decompress", help::DECOMPRESSED);
+    let deleted = make_flag(alloc, "deleted", help::DELETED);
     let owners = make_flag(alloc, "owners", help::OWNERS);
     let quiet = make_flag(alloc, "quiet", help::QUIET);
     let image = make_word(alloc, "IMAGE", help::IMAGE);
     let folder = make_word(alloc, "DIR", help::NEW_FOLDER);
     let path = make_optional_word(alloc, "PATH", help::PART);
     let command = make_reader(alloc, "extract", help::EXTRACT, epilogues::EXTRACT);
-    let command = add_arg(add_arg(add_arg(command, decompress), owners), quiet);
+    let command = add_arg(add_arg(command, decompress), deleted);
+    let command = add_arg(add_arg(command, owners), quiet);
     add_arg(add_arg(add_arg(command, image), folder), path)
 }
 
@@ -448,9 +450,12 @@ fn make_map<'a>(alloc: Global) -> Made<'a>
 fn make_history<'a>(alloc: Global) -> Made<'a>
     ensures { MakesApp result history_app }
 {
+    let since = make_optional(alloc, "since", "T", help::SINCE);
+    let until = make_optional(alloc, "until", "T", help::UNTIL);
     let image = make_word(alloc, "IMAGE", help::IMAGE);
     let path = make_optional_word(alloc, "PATH", help::FORMER);
     let command = make_printer(alloc, "history", help::HISTORY, epilogues::HISTORY);
+    let command = add_arg(add_arg(command, since), until);
     add_arg(add_arg(command, image), path)
 }
 

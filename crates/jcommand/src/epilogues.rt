@@ -407,6 +407,10 @@ With PATH, only the object there and all below it are made: a directory at its
 place, below the directories that lead to it, and any other object in DIR
 itself, by its last name.
 
+With --deleted, each regular file is made that no path leads to and that is not
+empty: as INO-NAME, by its inode number and the last name that it had. Its data
+are decompressed. 'jffs2_image history' prints its nodes.
+
 For any image, nothing is made outside of DIR: each thing is new, in directories
 that were made before it. Things that this host cannot hold are left out, each
 with a line 'left out PATH: REASON' on standard error: devices, FIFOs and
@@ -417,6 +421,7 @@ before, and all that the host refuses. The rest goes on.
 Examples:
   jffs2_image extract --block 131072 flash.img tree
   jffs2_image extract --block 131072 flash.img etc /etc
+  jffs2_image extract --auto --deleted dump.img removed
 
 Exit status:
   0  done, and nothing was left out
@@ -642,10 +647,13 @@ the fields of the node, as Linux names them.
 The last line has how many nodes have each word. Nothing of the image is
 changed. With PATH it prints the nodes of each object that an entry ever gave
 this name, and these entries; the folder of PATH is found in the tree as it is.
+With --since or --until it prints only nodes whose time is not before, or not
+after, that one: mctime of an entry, mtime of an inode node.
 
 Examples:
   jffs2_image history --auto dump.img
   jffs2_image history --auto dump.img /etc/passwd
+  jffs2_image history --auto --since 1700000000 dump.img
 
 Exit status:
   0  done

@@ -134,10 +134,14 @@ pub struct Mapping<T> {
     pub image: T,
 }
 
-/// What became of each node of an image, or of those of the objects that a path ever named.
+/// What became of each node of an image, or of those of the objects that a path ever named. Of the
+/// nodes only those count whose time, in seconds since 1970, is not before `since` and not after
+/// `until`, if these are given.
 #[derive(Clone, Copy)]
 pub struct NodeHistory<T> {
     pub options: Options,
+    pub since: Option<u32>,
+    pub until: Option<u32>,
     pub image: T,
     pub path: Option<T>,
 }
@@ -205,12 +209,14 @@ pub struct Compaction<T> {
     pub blocks: Option<u32>,
 }
 
-/// The tree of an image in a new folder of the host, or the part of it that a path names; with
-/// `owners`, its owners too, and with `decompress` that of what `decompress` makes of the image.
+/// The tree of an image in a new folder of the host, or the part of it that a path names, or with
+/// `deleted` the files that no path leads to; with `owners`, its owners too, and with `decompress`
+/// that of what `decompress` makes of the image. No path is named beside `deleted`.
 #[derive(Clone, Copy)]
 pub struct Extraction<T> {
     pub options: Options,
     pub decompress: bool,
+    pub deleted: bool,
     pub owners: bool,
     pub quiet: bool,
     pub image: T,
