@@ -188,6 +188,7 @@ fn shown_extraction(alloc: Global, asked: Extraction<&str>) -> Result<String, Al
     let Extraction {
         options,
         decompress,
+        deleted,
         owners,
         quiet,
         image,
@@ -199,7 +200,8 @@ fn shown_extraction(alloc: Global, asked: Extraction<&str>) -> Result<String, Al
     let mark = mark(decompress);
     let flags = format!(in alloc; "{is_big} {owners} {quiet}")?;
     let path = path.unwrap_or("");
-    format!(in alloc; "extract {block} {flags} {image} {folder}{path}{mark}")
+    let which = if deleted { " deleted" } else { "" };
+    format!(in alloc; "extract {block} {flags} {image} {folder}{path}{mark}{which}")
 }
 
 fn shown_listing(alloc: Global, asked: FolderListing<&str>) -> Result<String, AllocError> {
