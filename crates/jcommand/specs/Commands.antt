@@ -135,13 +135,14 @@ abbrev pub build_app : App
 build_app =
     writing (with_rule (placing (compressing (noting (codes "build")))) (word (codes "LISTING")))
 
--- `append --blocks N [--page N] [--weak] [--pad] [--atomic] [--decompress] [--auto] [REGION]
--- [--block N] [--endian ORDER] IMAGE LISTING OUT`
+-- `append --blocks N [--page N] [--weak] [--pad] [--atomic] [--decompress] [--force] [--auto]
+-- [REGION] [--block N] [--endian ORDER] IMAGE LISTING OUT`
 abbrev pub append_app : App
 append_app = writing
     (with_rule
     (with_rule
-    (decompressing (placing (automatic (noting (codes "append"))))) (word (codes "IMAGE")))
+    (with_rule (decompressing (placing (automatic (noting (codes "append")))))
+    (flag (codes "force"))) (word (codes "IMAGE")))
     (word (codes "LISTING")))
 
 -- the way in which `update` writes: uncompressed, and into the rests of begun blocks

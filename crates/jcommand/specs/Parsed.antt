@@ -13,6 +13,7 @@ use Rattle.jscan.specs.declared.page.Page.TheVariants.{P4096, P8192, P16384}
 use Rattle.jline.specs.Read.{◌>>=◌}
 use Rattle.jcommand.specs.Commands.{program}
 use Rattle.jcommand.specs.Sizes.{size_number}
+use Rattle.jcommand.specs.declared.parsed.Appending.{Appending}
 use Rattle.jcommand.specs.declared.parsed.Building.{Building}
 use Rattle.jcommand.specs.declared.parsed.Check.{Check}
 use Rattle.jcommand.specs.declared.parsed.Command.{Command}
@@ -104,6 +105,15 @@ target_view t = record {
 
 abbrev pub building_view : Building (Bor Text) → Building Text
 building_view b = record { target = target_view b.target; listing = b.listing.now }
+
+abbrev pub appending_view : Appending (Bor Text) → Appending Text
+appending_view a = record {
+  target = target_view a.target;
+  decompress = a.decompress;
+  force = a.force;
+  image = a.image.now;
+  listing = a.listing.now;
+}
 
 abbrev pub cuts_through_view : CutsThrough (Bor Text) → CutsThrough Text
 cuts_through_view c = record {
@@ -239,12 +249,7 @@ command_view (command.Map m) = command.Map (mapping_view m)
 command_view (command.History h) = command.History (history_view h)
 command_view (command.Build b) = command.Build (building_view b)
 command_view (command.BuildCompressed b) = command.BuildCompressed (building_view b)
-command_view (command.Append a) = command.Append (record {
-  target = target_view a.target;
-  decompress = a.decompress;
-  image = a.image.now;
-  listing = a.listing.now;
-})
+command_view (command.Append a) = command.Append (appending_view a)
 command_view (command.Update u) = command.Update (updating_view u)
 command_view (command.Cuts c) = command.Cuts (record {
   options = c.options;
@@ -485,12 +490,17 @@ abbrev pub build_in : List Row → Option (Command Text)
 build_in rows = target_in rows >>= λ target. first_of (codes "LISTING") rows >>= λ listing.
     build_by (is_compressed rows) (record { target = target; listing = listing })
 
+-- whether an image with findings may be written over
+abbrev pub is_forced : List Row → Bool
+is_forced = is_given (codes "force")
+
 abbrev pub append_in : List Row → Option (Command Text)
 append_in rows = target_in rows >>= λ target. first_of (codes "IMAGE") rows >>= λ image.
     first_of (codes "LISTING") rows >>= λ listing.
     Some (command.Append (record {
       target = target;
       decompress = is_given (codes "decompress") rows;
+      force = is_forced rows;
       image = image;
       listing = listing;
     }))
@@ -563,10 +573,6 @@ cuts_in rows = if is_given (codes "update") rows
     else update_cuts_in rows)
     else (if is_given (codes "plain") rows || is_given (codes "tail") rows then None
     else log_cuts_in rows)
-
--- whether an image with findings may be written over
-abbrev pub is_forced : List Row → Bool
-is_forced = is_given (codes "force")
 
 -- an image, and the one that is made of it
 abbrev pub conversion_in : List Row → Option (Conversion Text)

@@ -308,11 +308,12 @@ fn make_append<'a>(alloc: Global) -> Made<'a>
     ensures { MakesApp result append_app }
 {
     let decompress = make_flag(alloc, "decompress", help::DECOMPRESSED);
+    let force = make_flag(alloc, "force", help::FORCE);
     let image = make_word(alloc, "IMAGE", help::IMAGE);
     let listing = make_word(alloc, "LISTING", help::LISTING);
     let command = make_noting(alloc, "append", help::APPEND, epilogues::APPEND);
     let command = add_placing(alloc, add_auto(alloc, command));
-    let command = add_arg(command, decompress);
+    let command = add_arg(add_arg(command, decompress), force);
     add_output(alloc, add_arg(add_arg(command, image), listing))
 }
 

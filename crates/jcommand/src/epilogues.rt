@@ -235,7 +235,8 @@ and the new nodes may not fit it. A note on standard error reports it, as for
 ls.
 
 With --decompress, OUT begins with what decompress makes of IMAGE. A note counts
-extended attributes, which are left out.
+extended attributes, which are left out. If OUT is IMAGE, and IMAGE has findings
+or extended attributes, these would be lost: that is a fault without --force.
 
 IMAGE and OUT may be the same file, since IMAGE is held in memory before OUT is
 made. But if the power, the host or the disk fails while OUT is written, the old

@@ -126,6 +126,7 @@ pub fn known_requests()
             output = codes "c";
           };
           decompress = false;
+          force = false;
           image = codes "a";
           listing = codes "b";
         })) }
@@ -136,13 +137,15 @@ pub fn known_requests()
           listing = codes "a";
         })) }
     ensures extended_and_noted { parsed_from (codes "jffs2_image" ∷ codes "append" ∷ codes "a"
-        ∷ codes "b" ∷ codes "--decompress" ∷ codes "c" ∷ codes "--weak" ∷ codes "--blocks=2" ∷ [])
+        ∷ codes "b" ∷ codes "--decompress" ∷ codes "c" ∷ codes "--weak" ∷ codes "--blocks=2"
+        ∷ codes "--force" ∷ [])
         ≡ Some (command.Append (record {
           target = record two_blocks {
             weak = true;
             output = codes "c";
           };
           decompress = true;
+          force = true;
           image = codes "a";
           listing = codes "b";
         })) }
@@ -366,6 +369,7 @@ pub fn known_placings()
             output = codes "c";
           };
           decompress = false;
+          force = false;
           image = codes "a";
           listing = codes "b";
         })) }

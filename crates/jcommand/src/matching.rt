@@ -344,6 +344,7 @@ fn append_at<'a>(found: &ArgMatches<'a>) -> Option<Command<&'a str>>
     Some(Command::Append(Appending {
         target: target_at(found)?,
         decompress: is_given(found, "decompress"),
+        force: is_given(found, "force"),
         image: text_at(found, "IMAGE")?,
         listing: text_at(found, "LISTING")?,
     }))

@@ -166,11 +166,12 @@ pub struct Building<T> {
 }
 
 /// An image with what a listing makes of its file system; with `decompress`, of what `decompress`
-/// makes of the image.
+/// makes of the image; with `force` also over that one where it has findings.
 #[derive(Clone, Copy)]
 pub struct Appending<T> {
     pub target: Target<T>,
     pub decompress: bool,
+    pub force: bool,
     pub image: T,
     pub listing: T,
 }

@@ -76,11 +76,13 @@ fn shown_appending(alloc: Global, asked: Appending<&str>) -> Result<String, Allo
     let Appending {
         target,
         decompress,
+        force,
         image,
         listing,
     } = asked;
     let between = format!(in alloc; "{image} {listing}")?;
-    shown_target(alloc, "append", target, between.as_str(), decompress)
+    let name = if force { "forced append" } else { "append" };
+    shown_target(alloc, name, target, between.as_str(), decompress)
 }
 
 fn shown_scan(alloc: Global, asked: Image<&str>) -> Result<String, AllocError> {

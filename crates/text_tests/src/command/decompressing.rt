@@ -5,7 +5,7 @@ use crate::command::command_lines::{answer_to, is_text, is_wrong};
 use std::test::Fail;
 
 /// Lines, and what they ask for.
-const ASKED: [(&str, &str); 19] = [
+const ASKED: [(&str, &str); 20] = [
     (
         "t check --decompress a.img",
         "check 65536 little a.img decompressed",
@@ -68,6 +68,10 @@ const ASKED: [(&str, &str); 19] = [
         "append 65536 little 8 4096 a.img b.txt c.img decompressed",
     ),
     (
+        "t append a.img b.txt --force a.img --blocks 8",
+        "forced append 65536 little 8 4096 a.img b.txt a.img",
+    ),
+    (
         "t extract a.img b --decompress",
         "extract 65536 false false false a.img b decompressed",
     ),
@@ -118,7 +122,7 @@ const WRONG: [(&str, &str); 20] = [
     ("t check --decompress", "<IMAGE>"),
     ("t check --decompress --decompress a.img", "--decompress"),
     ("t compress --force --force a.img b.img", "--force"),
-    ("t append --force --blocks 8 a.img b.txt c.img", "--force"),
+    ("t update --force a.img b.txt c.img", "--force"),
     (
         "t build --decompress --blocks 8 a.txt b.img",
         "--decompress",
