@@ -93,13 +93,14 @@ abbrev pub ls_app : App
 ls_app = with_rule (with_rule (decompressing (printer (codes "ls"))) (word (codes "IMAGE")))
     (optional_word (codes "PATH"))
 
--- `cat [--decompress] [--ino I [--upto V]] [--auto] [REGION] [--block N] [--endian ORDER] IMAGE
--- [PATH]`
+-- `cat [--decompress] [--strict] [--ino I [--upto V]] [--auto] [REGION] [--block N] [--endian
+-- ORDER] IMAGE [PATH]`
 abbrev pub cat_app : App
 cat_app = with_rule
     (with_rule
-    (with_rule (with_rule (decompressing (reader (codes "cat"))) (option_of (codes "ino")))
-    (option_of (codes "upto")))
+    (with_rule
+    (with_rule (with_rule (decompressing (reader (codes "cat"))) (flag (codes "strict")))
+    (option_of (codes "ino"))) (option_of (codes "upto")))
     (word (codes "IMAGE")))
     (optional_word (codes "PATH"))
 

@@ -237,6 +237,7 @@ command_view (command.List l) = command.List (record {
 command_view (command.Cat c) = command.Cat (record {
   options = c.options;
   decompress = c.decompress;
+  strict = c.strict;
   image = c.image.now;
   path = c.path.now;
 })
@@ -390,6 +391,7 @@ path_content_in rows = image_in rows >>= λ i. first_of (codes "PATH") rows >>= 
     Some (command.Cat (record {
       options = i.options;
       decompress = is_given (codes "decompress") rows;
+      strict = is_given (codes "strict") rows;
       image = i.image;
       path = path;
     }))
@@ -415,7 +417,7 @@ is_on_path rows = is_none (first_of (codes "ino") rows) && is_none (first_of (co
 
 abbrev pub is_on_inode : List Row → Bool
 is_on_inode rows = is_none (first_of (codes "PATH") rows)
-    && not (is_given (codes "decompress") rows)
+    && (not (is_given (codes "decompress") rows) && not (is_given (codes "strict") rows))
 
 abbrev pub cat_in : List Row → Option (Command Text)
 cat_in rows = if is_on_path rows then path_content_in rows

@@ -269,6 +269,9 @@ fn content_objection<'a>(found: &ArgMatches<'a>) -> Option<Objection<'a>> {
     if is_given(found, "decompress") {
         return Some(Objection::Conflict("--ino <I>", "--decompress"));
     }
+    if is_given(found, "strict") {
+        return Some(Objection::Conflict("--ino <I>", "--strict"));
+    }
     let Some(ino) = text_at(found, "ino") else {
         return Some(Objection::Missing("--ino <I>"));
     };

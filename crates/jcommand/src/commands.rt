@@ -217,12 +217,14 @@ fn make_cat<'a>(alloc: Global) -> Made<'a>
     ensures { MakesApp result cat_app }
 {
     let decompress = make_flag(alloc, "decompress", help::SHOWN_DECOMPRESSED);
+    let strict = make_flag(alloc, "strict", help::STRICT);
     let ino = make_optional(alloc, "ino", "I", help::INO);
     let upto = make_optional(alloc, "upto", "V", help::UPTO);
     let image = make_word(alloc, "IMAGE", help::IMAGE);
     let path = make_optional_word(alloc, "PATH", help::PATH);
     let command = make_reader(alloc, "cat", help::CAT, epilogues::CAT);
-    let command = add_arg(add_arg(add_arg(command, decompress), ino), upto);
+    let command = add_arg(add_arg(command, decompress), strict);
+    let command = add_arg(add_arg(command, ino), upto);
     add_arg(add_arg(command, image), path)
 }
 

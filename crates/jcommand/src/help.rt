@@ -67,6 +67,8 @@ pub(crate) const OFFSET: &str = "Read the image from byte A of the file on, as 0
 
 pub(crate) const LENGTH: &str = "Read N bytes of the file as the image, as 4MiB";
 
+pub(crate) const STRICT: &str = "Status 3 if no node has some bytes of the file";
+
 pub(crate) const INO: &str = "Write the content of inode I, which may be deleted";
 
 pub(crate) const UPTO: &str = "Take its nodes of version V and lower alone";

@@ -90,6 +90,16 @@ pub fn known_requests()
         ≡ Some (command.Cat (record {
           options = no_options;
           decompress = false;
+          strict = false;
+          image = codes "a";
+          path = codes "/b";
+        })) }
+    ensures strict_content { parsed_from (codes "jffs2_image" ∷ codes "cat" ∷ codes "--strict"
+        ∷ codes "a" ∷ codes "/b" ∷ [])
+        ≡ Some (command.Cat (record {
+          options = no_options;
+          decompress = false;
+          strict = true;
           image = codes "a";
           path = codes "/b";
         })) }

@@ -207,6 +207,7 @@ fn path_content_at<'a>(found: &ArgMatches<'a>) -> Option<Command<&'a str>>
     Some(Command::Cat(FileContent {
         options,
         decompress: is_given(found, "decompress"),
+        strict: is_given(found, "strict"),
         image,
         path: text_at(found, "PATH")?,
     }))
@@ -242,13 +243,20 @@ pub(crate) fn is_on_path(found: &ArgMatches<'_>) -> bool
     text_at(found, "ino").is_none() && text_at(found, "upto").is_none()
 }
 
+/// Whether no word is given that says nothing beside an inode.
+fn is_on_inode(found: &ArgMatches<'_>) -> bool
+    ensures { result ≡ is_on_inode (rows_of (found_of found.now)) }
+{
+    text_at(found, "PATH").is_none() && !is_given(found, "decompress") && !is_given(found, "strict")
+}
+
 fn cat_at<'a>(found: &ArgMatches<'a>) -> Option<Command<&'a str>>
     ensures { option_map command_view result ≡ cat_in (rows_of (found_of found.now)) }
 {
     if is_on_path(found) {
         return path_content_at(found);
     }
-    if text_at(found, "PATH").is_none() && !is_given(found, "decompress") {
+    if is_on_inode(found) {
         inode_content_at(found)
     } else {
         None

@@ -61,11 +61,13 @@ pub struct TreeListing<T> {
     pub path: Option<T>,
 }
 
-/// The content of a file of an image; with `decompress` in the same way.
+/// The content of a file of an image; with `decompress` in the same way. With `strict` bytes that no
+/// node has are found.
 #[derive(Clone, Copy)]
 pub struct FileContent<T> {
     pub options: Options,
     pub decompress: bool,
+    pub strict: bool,
     pub image: T,
     pub path: T,
 }

@@ -177,7 +177,7 @@ abbrev pub IsLate : Command → Fault → Type 0
 IsLate (Check options shape name) f =
     (f ≡ fault.OutOfMemory) ⊎ (f ≡ fault.Refused (program.Mount mount.OutOfMemory))
 IsLate (Ls options decompress name word) f = f ≡ fault.OutOfMemory
-IsLate (Cat options decompress name word) f = ⊥
+IsLate (Cat options decompress strict name word) f = ⊥
 IsLate (Info name) f = ⊥
 IsLate (Damage options decompress name) f = ⊥
 IsLate (Diff asked) f = f ≡ fault.OutOfMemory

@@ -48,7 +48,7 @@ command_looks (command.Scan i) is = scan_reads_only i.options i.image
 command_looks (command.Check c) is = looking.reads_only (Check c.options c.shape c.image)
 command_looks (command.CheckThrough c) is = inspects_only (CheckThrough c.options c.shape c.image)
 command_looks (command.List l) is = looking.reads_only (Ls l.options l.decompress l.image l.path)
-command_looks (command.Cat c) is = looking.reads_only (Cat c.options c.decompress c.image c.path)
+command_looks (command.Cat c) is = looking.reads_only (Cat c.options c.decompress c.strict c.image c.path)
 command_looks (command.CatInode c) is = inspects_only (CatInode c.options (record { ino = c.ino; version = c.version }) c.image)
 command_looks (command.Info image) is = looking.reads_only (Info image)
 command_looks (command.Diff d) is = looking.reads_only (Diff d)

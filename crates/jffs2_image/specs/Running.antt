@@ -64,7 +64,7 @@ command_act (command.Scan i) = scan_act i.options i.image
 command_act (command.Check c) = check_act c.options c.shape c.image
 command_act (command.CheckThrough c) = check_through_act c.options c.shape c.image
 command_act (command.List l) = list_act l.options l.decompress l.image l.path
-command_act (command.Cat c) = cat_act c.options c.decompress c.image c.path
+command_act (command.Cat c) = cat_act c.options c.decompress c.strict c.image c.path
 command_act (command.CatInode c) =
     cat_inode_act c.options (record { ino = c.ino; version = c.version }) c.image
 command_act (command.Info image) = info_act image
