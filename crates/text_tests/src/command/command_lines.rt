@@ -120,10 +120,12 @@ fn shown_content(alloc: Global, asked: FileContent<&str>) -> Result<String, Allo
     let FileContent {
         options,
         decompress,
+        strict,
         image,
         path,
     } = asked;
-    let command = shown_options(alloc, "cat", options)?;
+    let name = if strict { "strict cat" } else { "cat" };
+    let command = shown_options(alloc, name, options)?;
     let mark = mark(decompress);
     format!(in alloc; "{command} {image} {path}{mark}")
 }

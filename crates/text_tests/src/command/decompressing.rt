@@ -5,7 +5,7 @@ use crate::command::command_lines::{answer_to, is_text, is_wrong};
 use std::test::Fail;
 
 /// Lines, and what they ask for.
-const ASKED: [(&str, &str); 20] = [
+const ASKED: [(&str, &str); 22] = [
     (
         "t check --decompress a.img",
         "check 65536 little a.img decompressed",
@@ -60,6 +60,14 @@ const ASKED: [(&str, &str); 20] = [
         "cat 65536 little a.img /b decompressed",
     ),
     (
+        "t cat --strict a.img --decompress /b",
+        "strict cat 65536 little a.img /b decompressed",
+    ),
+    (
+        "t cat -b a.img /b --strict",
+        "strict cat 65536 big a.img /b",
+    ),
+    (
         "t cat a.img -- --decompress",
         "cat 65536 little a.img --decompress",
     ),
@@ -99,7 +107,7 @@ fn args_that_decompress(rt: HostRuntime) -> Result<(), Fail> {
 }
 
 /// Lines that ask for nothing, and a part of the text that says why.
-const WRONG: [(&str, &str); 20] = [
+const WRONG: [(&str, &str); 22] = [
     ("t decompress --clashes higher a.img", "<OUT>"),
     (
         "t decompress --clashes lower a b",
@@ -128,6 +136,11 @@ const WRONG: [(&str, &str); 20] = [
         "--decompress",
     ),
     ("t listing --decompress a", "--decompress"),
+    ("t ls --strict a.img", "--strict"),
+    (
+        "t cat --strict --ino 7 a.img",
+        "the argument '--ino <I>' cannot be used with '--strict'",
+    ),
     ("t ls --decompress --decompress a.img", "--decompress"),
 ];
 
