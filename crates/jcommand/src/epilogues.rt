@@ -135,6 +135,10 @@ nodes, or with --upto V by those of version V and lower alone. The inode may be
 deleted: history prints all inodes. Its data are decompressed. A symlink gives
 where it leads.
 
+If IMAGE has findings, nodes of the file may be lost with them. Zeros are
+written for the bytes that no node has, and a note counts them. With --strict
+the exit status is 3 then.
+
 Examples:
   jffs2_image cat --endian big flash.img /etc/passwd
   jffs2_image cat --auto --ino 57 --upto 3 dump.img
@@ -142,7 +146,8 @@ Examples:
 Exit status:
   0  done
   1  a fault, which standard error names
-  2  the command line is wrong";
+  2  the command line is wrong
+  3  with --strict no node has some bytes of the file";
 
 pub(crate) const BUILD: &str = "\
 A listing has one operation per line; words are separated by single spaces.
