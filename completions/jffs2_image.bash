@@ -7,7 +7,7 @@ _jffs2_image_options() {
     case $1 in
         check) echo "$plain $auto --scan --shape --decompress --json $help" ;;
         ls) echo "$plain $auto --decompress --json $help" ;;
-        cat) echo "$plain $auto --decompress --ino --upto $help" ;;
+        cat) echo "$plain $auto --decompress --strict --ino --upto $help" ;;
         build) echo "$plain $write --weak --compress $place $out $help" ;;
         append) echo "$plain $auto $write --weak $place --decompress --force $out $help" ;;
         update) echo "$plain $auto $write --plain --tail $place $out $help" ;;

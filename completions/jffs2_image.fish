@@ -76,6 +76,7 @@ complete -c jffs2_image -n '__jffs2_image_in check' -l scan -d 'Report alone, no
 complete -c jffs2_image -n '__jffs2_image_in check' -l shape -d 'Whether the directories make a tree'
 complete -c jffs2_image -n '__jffs2_image_in update cuts' -l plain -d 'Do not compress new nodes'
 complete -c jffs2_image -n '__jffs2_image_in update cuts' -l tail -d 'Write into begun blocks too'
+complete -c jffs2_image -n '__jffs2_image_in cat' -l strict -d 'Status 3 if no node has some bytes'
 complete -c jffs2_image -n '__jffs2_image_in cat' -l ino -x -d 'Inode, in place of a path'
 complete -c jffs2_image -n '__jffs2_image_in cat' -l upto -x -d 'Highest version that counts'
 complete -c jffs2_image -n '__jffs2_image_in map' -l svg -d 'One SVG picture'
