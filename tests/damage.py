@@ -10,6 +10,7 @@ with directories that lie in one another: what is told is what a model has that 
 directories have several names, at random: each path that `ls` lists is told, and a model that walks as it does has the same. The
 last line is 'N passed, M failed'.
 """
+import collections
 import random
 import re
 import sys
@@ -19,7 +20,6 @@ import decompress_model
 import hostile_model
 from groups import PROGRAM, ROOT, run_all, verdict, write
 
-import collections
 import os
 import subprocess
 
