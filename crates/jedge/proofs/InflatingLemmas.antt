@@ -26,7 +26,7 @@ use Rattle.jreport.specs.declared.faults.ProgramFault.TheVariants as program
 use Rattle.jedge.specs.Commands.{cat_says, content_told, ls_says, read_told}
 use Rattle.jedge.specs.Images.{view_refusal}
 use Rattle.jedge.specs.Inflating.{CatIsAsThrough, LsIsAsThrough, SaysTheSame}
-use Rattle.jedge.specs.Missing.{missing_at, missing_bytes, missing_in}
+use Rattle.jedge.specs.Missing.{bytes_missing_at, missing_bytes, missing_in}
 use Rattle.jedge.specs.Showing.{Contains, IsListed, Lists, NamesNothing}
 use Rattle.jedge.specs.Told.{Told}
 use Rattle.jedge.specs.declared.fault.Fault.{Fault}
@@ -198,7 +198,7 @@ ls_same e size part others full looked same text result =
 
 -- the same bytes are missing of the file that a path leads to
 missing_by : (e : Endian) (size : ℕ) (full looked : Mount) (found : Result ℕ FindFault) → looked.image ≡ full.image
-    → ((i : ℕ) → is_that_object found i ≡ true → object looked.state i ≡ object full.state i) → missing_at e size looked found ≡ missing_at e size full found
+    → ((i : ℕ) → is_that_object found i ≡ true → object looked.state i ≡ object full.state i) → bytes_missing_at e size looked found ≡ bytes_missing_at e size full found
 missing_by e size full looked (Ok i) image wanted =
     ap missing_in (gaps_same e size i full looked image (wanted i (sym (unsigned_tied i i) ∙ (eq_by_cmp_equiv nat_cmp_total).refl i)))
 missing_by e size full looked (Err why) image wanted = refl
@@ -206,9 +206,9 @@ missing_by e size full looked (Err why) image wanted = refl
 missing_same : (e : Endian) (size : ℕ) (path : List ℕ) (full looked : Mount) → ShowsSame (object_by_path path full.state) full looked
     → missing_bytes e size path looked ≡ missing_bytes e size path full
 missing_same e size path full looked same =
-    ap (λ (found : List Finding). cond (count_by (λ (f : Finding). is_noted f.kind) found == 0) 0 (missing_at e size looked (find looked.state path))) same.findings
+    ap (λ (found : List Finding). cond (count_by (λ (f : Finding). is_noted f.kind) found == 0) 0 (bytes_missing_at e size looked (find looked.state path))) same.findings
     ∙ ap (λ (n : ℕ). cond (findings full == 0) 0 n)
-    (ap (missing_at e size looked) (find_same looked.state full.state same.outline_is path) ∙ missing_by e size full looked (find full.state path) same.image same.wanted)
+    (ap (bytes_missing_at e size looked) (find_same looked.state full.state same.outline_is path) ∙ missing_by e size full looked (find full.state path) same.image same.wanted)
 
 cat_same : (e : Endian) (size : ℕ) (strict : Bool) (path : List ℕ) (others : Option ℕ) (full looked : Mount) → ShowsSame (object_by_path path full.state) full looked
     → SaysTheSame (cat_says e size strict path others) full (Ok looked)

@@ -11,7 +11,7 @@ use Rattle.jedge.specs.declared.found.Found.{Found}
 use Rattle.jedge.specs.declared.found.Note.{Note}
 use Rattle.jedge.specs.declared.found.Note.TheVariants as note
 use Rattle.jedge.specs.declared.found.ReadNotes.{ReadNotes}
-use Rattle.jedge.specs.Missing.{missing_line}
+use Rattle.jedge.specs.Missing.{bytes_missing_line}
 
 pub record Told : Type 0 where
   pub counted : ℕ
@@ -39,7 +39,7 @@ note_text (note.Both first second) =
 note_text (note.Read of) = read_note_text of
 note_text (note.Left of) = shown_notes of.findings of.others ++ reserve_line of.left of.reserve
 note_text (note.Content of) =
-    missing_line of.missing ++ unwrap_or (option_map read_note_text of.read) []
+    bytes_missing_line of.missing ++ unwrap_or (option_map read_note_text of.read) []
 
 -- of two numbers of things found one that is not zero, if there is one
 abbrev pub either : ℕ → ℕ → ℕ

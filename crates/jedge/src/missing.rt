@@ -2,7 +2,7 @@
 ghost use Rattle.std.specs.Prelude.{◌≡◌, ◌-◌, IfErr, IfOk};
 ghost use Rattle.flashbase.specs.Sinks.{PutsTo};
 ghost use Rattle.jscan.specs.Scans.{IsScannable};
-ghost use Rattle.jedge.specs.Missing.{missing_bytes, missing_in, missing_line};
+ghost use Rattle.jedge.specs.Missing.{missing_bytes, missing_in, bytes_missing_line};
 
 use crate::fault::Fault;
 use flashbase::{DeviceFault, Sink};
@@ -58,9 +58,9 @@ pub(crate) fn count_missing<E: Order>(
 }
 
 /// Writes the note on so many bytes.
-#[tactic(auto, unfolding(crate::specs::Missing::missing_line))]
+#[tactic(auto, unfolding(crate::specs::Missing::bytes_missing_line))]
 fn write_missing(line: &mut LineBuffer, missing: u64)
-    ensures { line.new ≡ missing_line missing }
+    ensures { line.new ≡ bytes_missing_line missing }
 {
     line.clear();
     line.push_text(b"jffs2_image: note: bytes that no node has, zeros here: ");
@@ -70,7 +70,7 @@ fn write_missing(line: &mut LineBuffer, missing: u64)
 
 /// Puts it.
 pub(crate) fn put_missing<T: Sink>(missing: u64, sink: &mut T) -> Result<(), DeviceFault>
-    ensures { PutsTo T.Sink sink.old sink.new (missing_line missing) result }
+    ensures { PutsTo T.Sink sink.old sink.new (bytes_missing_line missing) result }
 {
     let mut line = LineBuffer::new();
     write_missing(&mut line, missing);

@@ -5,7 +5,7 @@ ghost use Rattle.jhint.specs.Hints.{hint_lines};
 ghost use Rattle.jedge.specs.Acts.{DoesFrom, says, seen_as};
 ghost use Rattle.jedge.specs.Commands.{ends};
 ghost use Rattle.jedge.specs.Faults.{TellsFault};
-ghost use Rattle.jedge.specs.Missing.{missing_line};
+ghost use Rattle.jedge.specs.Missing.{bytes_missing_line};
 ghost use Rattle.jedge.specs.Told.{found_told, note_text, read_note_text, shown_notes};
 ghost use Rattle.jreport.specs.ExtractionNotes.{extraction_notes_of, line_of_count};
 ghost use Rattle.jreport.specs.Notes.{note_line_of};
@@ -71,7 +71,7 @@ fn put_read<T: Sink>(of: ReadNotes, sink: &mut T) -> Result<(), DeviceFault>
 
 /// Puts the note on bytes that are missing, and those on the image.
 fn put_content<T: Sink>(of: ContentNotes, sink: &mut T) -> Result<(), DeviceFault>
-    ensures { PutsTo T.Sink sink.old sink.new (missing_line of.missing
+    ensures { PutsTo T.Sink sink.old sink.new (bytes_missing_line of.missing
         ++ unwrap_or (option_map read_note_text of.read) []) result }
 {
     put_missing(of.missing, sink)?;

@@ -28,9 +28,9 @@ writes_listing wanted base text =
 abbrev pub build_act : ImageWanted → List ℕ → Act Told
 build_act wanted listing = Then (loads listing) (writes_listing wanted None)
 
--- `append`: The image's file is read, and with `--decompress` its image decompressed, which replaces
--- none with findings unless that is forced; the listing's file is read, and its lines are written on
--- that base.
+-- `append`: The image's file is read, and with `--decompress` its image decompressed, which
+-- replaces none with findings unless that is forced; the listing's file is read, and its lines are
+-- written on that base.
 abbrev pub append_act : ImageWanted → AskedBase → List ℕ → Act Told
 append_act wanted base listing =
     Then (views wanted.order wanted.flash.geometry.block base.decompress base.image) (λ view.

@@ -10,8 +10,8 @@ use Rattle.jedge.specs.declared.fault.Fault.TheVariants as fault
 use Rattle.jmakes.specs.Making.{compares_names}
 use Rattle.jmakes.specs.declared.asked.Base.{Base}
 
--- the image of a name; whether a base is made of it by decompression, and whether it may be replaced
--- whatever that base lacks
+-- the image of a name; whether a base is made of it by decompression, and whether it may be
+-- replaced whatever that base lacks
 pub record AskedBase : Type 0 where
   pub image : List ℕ
   pub decompress : Bool
