@@ -26,7 +26,7 @@ use Rattle.jjson.specs.declared.lines.Lines.TheVariants as lines
 use Rattle.jreport.specs.declared.faults.ProgramFault.TheVariants as program
 use Rattle.jreport.specs.declared.image_fault.ImageFault.TheVariants as image
 use Rattle.jspare.specs.declared.region.Region.{Region}
-use Rattle.jinspects.specs.Inspecting.{cat_inode_act, check_through_act, history_act, map_act}
+use Rattle.jinspects.specs.Inspecting.{cat_inode_act, check_through_act, history_act, map_act, period_asked}
 use Rattle.jreads.specs.Cutting.{cuts_act}
 use Rattle.jreads.specs.Scanning.{scan_act}
 use Rattle.jmakes.specs.Commands.{append_act, build_act}
@@ -71,7 +71,7 @@ command_act (command.Info image) = info_act image
 command_act (command.Diff d) = diff_act d
 command_act (command.Damage x) = damage_act x.options x.decompress x.image
 command_act (command.Map m) = map_act m.options m.svg m.image
-command_act (command.History h) = history_act h.options h.image h.path
+command_act (command.History h) = history_act h.options (period_asked h) h.image h.path
 command_act (command.Build b) =
     build_act (image_asked b.target.options.endian b.target) b.listing
 command_act (command.BuildCompressed b) =
