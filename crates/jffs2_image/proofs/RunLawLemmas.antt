@@ -19,6 +19,7 @@ use Rattle.jedge.specs.Laws.{MakesNothing}
 use Rattle.jjson.specs.declared.lines.Lines.{Lines}
 use Rattle.jspare.specs.declared.region.Region.{Region}
 use Rattle.jedge.proofs.LookingLemmas as looking
+use Rattle.jinspects.specs.Inspecting.{period_asked}
 use Rattle.jinspects.specs.InspectLaws.{CatInode, CheckThrough, History, MapNodes}
 use Rattle.jinspects.proofs.InspectLookLemmas.{inspects_only}
 use Rattle.jreads.proofs.LookLemmas.{cuts_read_only}
