@@ -2,6 +2,7 @@
 use Rattle.std.proofs.Common.{ℕ, Bool, List, Option, inl, inr}
 use Rattle.jnode.specs.declared.order.Endian.{Endian}
 use Rattle.jcommand.specs.declared.parsed.Options.{Options}
+use Rattle.jhistory.specs.declared.period.Period.{Period}
 use Rattle.jversions.specs.declared.revision.Revision.{Revision}
 use Rattle.jedge.specs.Acts.{answers, loads, opens, reads_whole}
 use Rattle.jedge.specs.Laws.{BlamesFailed}
@@ -57,8 +58,8 @@ trace_blames path e size image others events (fault.Refused why) (none, inr (m, 
 trace_blames path e size image others events fault.Output is = absurd is.1
 trace_blames path e size image others events fault.OutOfMemory is = tt
 
-history_blames : (options : Options) (name : List ℕ) (word : Option (List ℕ)) → BlamesFailed (history_act options name word)
-history_blames options name word = then_blames _ _ (part_blames word) (λ (path : Option (List ℕ)).
+history_blames : (options : Options) (period : Period) (name : List ℕ) (word : Option (List ℕ)) → BlamesFailed (history_act options period name word)
+history_blames options period name word = then_blames _ _ (part_blames word) (λ (path : Option (List ℕ)).
     then_blames (loads name) _ (loads_blames name) (λ (image : List ℕ).
     then_blames _ _ (notes_blame options.endian options.geometry.block image) (λ (others : Option ℕ).
     then_blames _ _ (trace_blames path options.endian options.geometry.block image others) (λ (t : Traced). whole_blames _ _))))
@@ -70,5 +71,5 @@ inode_blames options r name = then_blames (loads name) _ (loads_blames name) (λ
 pub inspected_blames_failed : InspectedBlamesFailed
 inspected_blames_failed (CheckThrough options shape name) = check_blames options shape name
 inspected_blames_failed (MapNodes options svg name) = map_blames options svg name
-inspected_blames_failed (History options name word) = history_blames options name word
+inspected_blames_failed (History options period name word) = history_blames options period name word
 inspected_blames_failed (CatInode options r name) = inode_blames options r name

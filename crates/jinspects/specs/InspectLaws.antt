@@ -3,6 +3,7 @@ use Rattle.std.specs.Prelude.{◌≡◌, ◌⊎◌, ◌↔◌, ℕ, Bool, List, 
 use Rattle.jnode.specs.declared.order.Endian.{Endian}
 use Rattle.jmount.specs.declared.fault.MountFault.TheVariants as mount
 use Rattle.jthrough.specs.Plain.{HasNoCompressed}
+use Rattle.jhistory.specs.declared.period.Period.{Period}
 use Rattle.jversions.specs.declared.revision.Revision.{Revision}
 use Rattle.jcommand.specs.declared.parsed.Options.{Options}
 use Rattle.jreport.specs.WholeImage.{IsCheck}
@@ -20,13 +21,13 @@ use Rattle.jinspects.specs.ThroughVerdict.{IsCheckThrough}
 pub data InspectCommand : Type 0 where
   CheckThrough : Options → Bool → List ℕ → InspectCommand
   MapNodes : Options → Bool → List ℕ → InspectCommand
-  History : Options → List ℕ → Option (List ℕ) → InspectCommand
+  History : Options → Period → List ℕ → Option (List ℕ) → InspectCommand
   CatInode : Options → Revision → List ℕ → InspectCommand
 
 abbrev pub inspect_act_of : InspectCommand → Act Told
 inspect_act_of (CheckThrough options shape name) = check_through_act options shape name
 inspect_act_of (MapNodes options svg name) = map_act options svg name
-inspect_act_of (History options name word) = history_act options name word
+inspect_act_of (History options period name word) = history_act options period name word
 inspect_act_of (CatInode options r name) = cat_inode_act options r name
 
 -- no command of these makes a file, or changes one, whatever it answers
@@ -43,7 +44,7 @@ abbrev pub IsLateInspected : InspectCommand → Fault → Type 0
 IsLateInspected (CheckThrough options shape name) f =
     (f ≡ fault.OutOfMemory) ⊎ (f ≡ fault.Refused (program.Mount mount.OutOfMemory))
 IsLateInspected (MapNodes options svg name) f = ⊥
-IsLateInspected (History options name word) f = ⊥
+IsLateInspected (History options period name word) f = ⊥
 IsLateInspected (CatInode options r name) f = ⊥
 
 -- all else is refused before anything is printed
