@@ -1,0 +1,4 @@
+pub mod Deleted
+pub mod Naming
+pub mod FlatMounts
+pub mod Laws
