@@ -1,5 +1,5 @@
 -- What is true of the acts of these commands.
-use Rattle.std.specs.Prelude.{◌≡◌, ◌⊎◌, ◌↔◌, ℕ, Bool, List, Option, Err}
+use Rattle.std.specs.Prelude.{◌≡◌, ◌⊎◌, ◌↔◌, ℕ, Bool, List, Option}
 use Rattle.jnode.specs.declared.order.Endian.{Endian}
 use Rattle.jmount.specs.declared.fault.MountFault.TheVariants as mount
 use Rattle.jthrough.specs.Plain.{HasNoCompressed}
@@ -9,13 +9,11 @@ use Rattle.jreport.specs.WholeImage.{IsCheck}
 use Rattle.jreport.specs.declared.faults.ProgramFault.TheVariants as program
 use Rattle.jedge.specs.Acts.{Act}
 use Rattle.jedge.specs.Commands.{reported}
-use Rattle.jedge.specs.Calls.{Event}
-use Rattle.jedge.specs.Laws.{BlamesEvent, JudgesFirstBut, MakesNothing}
+use Rattle.jedge.specs.Laws.{BlamesFailed, JudgesFirstBut, MakesNothing}
 use Rattle.jedge.specs.Told.{Told}
 use Rattle.jedge.specs.declared.fault.Fault.{Fault}
 use Rattle.jedge.specs.declared.fault.Fault.TheVariants as fault
 use Rattle.jinspects.specs.Inspecting.{cat_inode_act, check_through_act, history_act, map_act}
-use Rattle.jinspects.specs.Recalling.{IsOfInode}
 use Rattle.jinspects.specs.ThroughVerdict.{IsCheckThrough}
 
 -- a command, and what is asked of it
@@ -35,19 +33,10 @@ inspect_act_of (CatInode options r name) = cat_inode_act options r name
 abbrev pub InspectsOnly : Type 0
 InspectsOnly = (command : InspectCommand) → MakesNothing (reported (inspect_act_of command))
 
--- an inode that is asked for is not there, or has no content: that names no file
-abbrev pub IsOfInodeOf : InspectCommand → Fault → Type 0
-IsOfInodeOf (CheckThrough options shape name) f = ⊥
-IsOfInodeOf (MapNodes options svg name) f = ⊥
-IsOfInodeOf (History options name word) f = ⊥
-IsOfInodeOf (CatInode options r name) f = IsOfInode r.ino f
-
--- any other fault that names a file comes with that file's failed call, and that of the output with
--- a print that failed
+-- a fault that names a file comes with that file's failed call, and that of the output with a print
+-- that failed
 abbrev pub InspectedBlamesFailed : Type 0
-InspectedBlamesFailed = (command : InspectCommand) (events : List Event) (f : Fault)
-    → inspect_act_of command events (Err f)
-    → IsOfInodeOf command f ⊎ BlamesEvent f events
+InspectedBlamesFailed = (command : InspectCommand) → BlamesFailed (inspect_act_of command)
 
 -- Memory alone may be wanting when something was printed: behind the report of `check`.
 abbrev pub IsLateInspected : InspectCommand → Fault → Type 0
