@@ -1,20 +1,19 @@
 //! Which files of an image are deleted.
 
-ghost use Rattle.std.specs.Prelude.{◌≡◌, ◌==◌, ◌&&◌, IfOk, nat_lt};
-ghost use Rattle.std.specs.BTreeSet.{contains};
-ghost use Rattle.std.specs.Ordering.{nat_cmp};
+ghost use Rattle.std.specs.Prelude.{◌≡◌, IfOk};
 ghost use Rattle.jdeleted.specs.Deleted.{AreDeleted};
+ghost use Rattle.jdeleted.specs.Finding.{is_found};
 
 use jcompact::unreached;
-use jmount::{Kind, Mounted, Object};
+use jmount::{Mounted, Object, REGULAR_BITS, type_bits};
 use std::alloc::{AllocError, Global};
 use std::collections::BTreeSet;
 
-/// Whether an object is a regular file with content.
-fn has_content(object: &Object) -> bool
-    ensures { result ≡ (object.now.kind == Kind.Regular) && nat_lt 0 object.now.size }
+/// Whether an object is a regular file with content, and one of those that no names lead to.
+fn is_deleted(unreached: &BTreeSet<u32>, ino: u32, object: &Object) -> bool
+    ensures { result ≡ is_found unreached.now (ino, object.now) }
 {
-    object.kind == Kind::Regular && object.size > 0
+    type_bits(object.mode) == REGULAR_BITS && object.size > 0 && unreached.contains(&ino)
 }
 
 /// The numbers of the regular files with content that no names lead to. Takes memory for the numbers
@@ -28,7 +27,7 @@ pub(crate) fn deleted_in(alloc: Global, mounted: &Mounted<'_>) -> Result<Vec<u32
     let unreached = unreached(alloc, mounted)?;
     let mut numbers = Vec::new(alloc);
     for (ino, object) in mounted.objects() {
-        if has_content(&object) && unreached.contains(&ino) {
+        if is_deleted(&unreached, ino, &object) {
             numbers.push(ino)?;
         }
     }

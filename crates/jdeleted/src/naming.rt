@@ -1,6 +1,6 @@
 //! The name that a deleted file gets.
 
-ghost use Rattle.std.specs.Prelude.{◌≡◌, ◌<◌, IfOk, length, option_map, slice_index};
+ghost use Rattle.std.specs.Prelude.{◌≡◌, ◌<◌, ◌++◌, ◌∷◌, IfOk, length, option_map, slice_index};
 ghost use Rattle.jdeleted.specs.Naming.{cut_len, cut_to, deleted_name, is_inner_byte};
 
 use flashbase::Part;
@@ -62,7 +62,7 @@ pub(crate) fn deleted_name(
     name: Option<&Part<'_>>,
 ) -> Result<Vec<u8>, AllocError>
     ensures { IfOk result (λ text. text.items
-        ≡ deleted_name ino (option_map (λ n. n.now) name)) }
+        ≡ deleted_name ino (option_map (λ n. n.now) name.entry)) }
 {
     let mut buffer = Buffer::new();
     let digits = buffer.format(ino).as_bytes();
