@@ -1,0 +1,5 @@
+pub mod FindingLemmas
+pub mod FlatLemmas
+pub mod LastLemmas
+pub mod NamingLemmas
+pub mod ObjectLemmas
