@@ -16,10 +16,7 @@ use std::collections::BTreeMap;
 pub(crate) type LastNames<'n, 'a> = BTreeMap<u32, &'n Part<'a>>;
 
 /// A node may give a name to a number: then that is its last one.
-fn note_name<'n, 'a>(
-    names: &mut LastNames<'n, 'a>,
-    node: &'n NodeRef<'a>,
-) -> Result<(), AllocError>
+fn note_name<'n, 'a>(names: &mut LastNames<'n, 'a>, node: &'n NodeRef<'a>) -> Result<(), AllocError>
     ensures { OnOk result ((i : ℕ) → option_map (λ n. n.now) (get nat_cmp names.new i)
         ≡ option_or (name_given i node.now) (option_map (λ n. n.now) (get nat_cmp names.old i))) }
 {
