@@ -1,16 +1,15 @@
 -- The nodes of the flat file system, and their mount.
-use Rattle.std.proofs.Common.{◌≡◌, ◌≢◌, ℕ, ◌<◌, Bool, true, false, cond, List, [], ◌∷◌, ◌++◌, map, Option, Some, None, refl, ap, sym, ◌∙◌, subst, inl, inr, ◌⊎◌, ⊎_elim, arith, IsTrue, IsFalse, Err, filter_map}
-use Rattle.std.specs.Prelude.{Ok, Result, filter, is_some, Contains}
-use Rattle.std.proofs.lemmas.Bool.{true≢false, false≢true}
+use Rattle.std.proofs.Common.{◌≡◌, ℕ, Bool, true, false, cond, List, [], ◌∷◌, ◌++◌, map, Some, refl, ap, sym, ◌∙◌, subst, inl, inr, ◌⊎◌, ⊎_elim, arith, IsTrue, Err}
+use Rattle.std.specs.Prelude.{Ok, filter, is_some, Contains}
+use Rattle.std.proofs.lemmas.Bool.{true≢false}
 use Rattle.std.proofs.lemmas.Option.{same_Some, none-some}
 use Rattle.std.proofs.lemmas.List.Elements.{Contains-append_left, Contains-append_right, Contains-append_cases}
-use Rattle.flashbase.proofs.MemberLemmas.{Contains-here, Contains-filter_from, Contains-filter_map_from, Contains-map, Contains-map_from}
-use Rattle.jnode.specs.declared.node.Dirent.{Dirent}
+use Rattle.flashbase.proofs.MemberLemmas.{Contains-here, Contains-filter_map_from, Contains-map, Contains-map_from}
 use Rattle.jnode.specs.declared.node.InodeNode.{InodeNode}
 use Rattle.jnode.specs.declared.node.NodeRef.{NodeRef}
 use Rattle.jnode.specs.declared.node.NodeRef.TheVariants as node
 use Rattle.jnode.specs.declared.order.Endian.{Endian}
-use Rattle.jscan.specs.Scans.{IsScannable, findings, is_read_only}
+use Rattle.jscan.specs.Scans.{findings, is_read_only}
 use Rattle.jscan.specs.declared.finding.Finding.{Finding}
 use Rattle.jexpand.specs.Expanded.{expanded_nodes}
 use Rattle.jmount.specs.Clash.{NodesClash, NoneClash}
@@ -18,10 +17,10 @@ use Rattle.jmount.specs.Collected.{FirstClash, without_addresses}
 use Rattle.jmount.specs.Mount.{Mount}
 use Rattle.jmount.specs.MountsNodes.{AnswersNodes, AreMountable, IsMountable}
 use Rattle.jmount.specs.StateOf.{inode_in, inodes, state_of, tops_of}
-use Rattle.jmount.specs.Tree.{ObjectOf, State, directory_bits, has_bits, is_directory}
+use Rattle.jmount.specs.Tree.{State, directory_bits, has_bits, is_directory}
 use Rattle.jmount.specs.declared.fault.MountFault.{MountFault}
 use Rattle.jmount.specs.declared.fault.MountFault.TheVariants as mount
-use Rattle.jview.specs.Through.{IsSoundThrough, IsMountThroughOf}
+use Rattle.jview.specs.Through.{IsSoundThrough}
 use Rattle.jthrough.specs.Addressed.{addressed_nodes}
 use Rattle.jthrough.specs.MountsThrough.{AnswersThrough}
 use Rattle.jthrough.specs.View.{mount_fault_viewed}
@@ -29,7 +28,7 @@ use Rattle.jthrough.specs.declared.fault.ViewFault.TheVariants as view
 use Rattle.jthrough.proofs.AddressedLemmas.{addressed_are_expanded, addressed_are_mountable}
 use Rattle.jdeleted.specs.Deleted.{AreDeleted, AreFilesOf, entry_by, entry_of_file, flat_entry, flat_nodes}
 use Rattle.jdeleted.specs.Naming.{deleted_name, last_name}
-use Rattle.jdeleted.specs.FlatMounts.{AnswersDeleted, IsMountOfDeleted}
+use Rattle.jdeleted.specs.FlatMounts.{AnswersDeleted}
 use Rattle.jdeleted.specs.declared.files.DeletedFile.{DeletedFile}
 use Rattle.jdeleted.proofs.ObjectLemmas.{flat_has_objects}
 

@@ -1,3 +1,4 @@
+pub mod ApartLemmas
 pub mod FindingLemmas
 pub mod FlatLemmas
 pub mod LastLemmas

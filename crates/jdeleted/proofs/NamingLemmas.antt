@@ -1,5 +1,5 @@
 -- Names that are cut.
-use Rattle.std.proofs.Common.{◌≡◌, ℕ, zero, suc, ◌≤◌, Bool, true, false, cond, List, refl, arith}
+use Rattle.std.proofs.Common.{ℕ, zero, suc, ◌≤◌, Bool, true, false, cond, List, arith}
 use Rattle.std.specs.Prelude.{slice_index}
 use Rattle.jdeleted.specs.Naming.{cut_len, is_inner_byte}
 

@@ -1,6 +1,6 @@
 use Rattle.std.proofs.Common.{◌≡◌, ◌∙◌, ℕ, ◌∷◌, rules, sym}
 use Rattle.jmount.specs.declared.object.Object.{Object}
-use Rattle.jdeleted.proofs.FindingLemmas.{all_found, none_found, one_found, one_passed}
+use Rattle.jdeleted.proofs.FindingLemmas.{all_found, one_found, one_passed}
 use Rattle.jdeleted.proofs.finding.deleted_in.Goals as goal
 
 pub loop-ino-preserved-in-Continue-branch-2 : goal.loop-ino-preserved-in-Continue-branch-2

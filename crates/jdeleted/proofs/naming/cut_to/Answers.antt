@@ -1,4 +1,4 @@
-use Rattle.std.proofs.Common.{◌≡◌, ℕ, ◌<◌, ◌≤◌, length, arith}
+use Rattle.std.proofs.Common.{◌≤◌, arith}
 use Rattle.jdeleted.specs.Naming.{cut_len}
 use Rattle.jdeleted.proofs.NamingLemmas.{cut_within}
 use Rattle.jdeleted.proofs.naming.cut_to.Goals as goal
