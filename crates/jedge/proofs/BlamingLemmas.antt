@@ -22,7 +22,7 @@ use Rattle.jedge.specs.Calls.{Event, Answers, Failed, Open, Print, ReadPart, pri
 use Rattle.jthrough.specs.declared.fault.ViewFault.{ViewFault}
 use Rattle.jthrough.specs.declared.fault.ViewFault.TheVariants as view
 use Rattle.jlook.specs.Chosen.{Choice}
-use Rattle.jedge.specs.Commands.{Cat, Check, Damage, Diff, Info, Ls, cat_act, check_act, compares, damage_act, diff_act, info_act, list_act, read_told, shows_mount}
+use Rattle.jedge.specs.Commands.{Cat, Check, Damage, Diff, Info, Ls, cat_act, check_act, compares, content_told, damage_act, diff_act, info_act, list_act, read_told, shows_mount}
 use Rattle.jedge.specs.Comparing.{Compares, compared}
 use Rattle.jedge.specs.Images.{HasNodes, MountsBoth, MountsFor, MountsOrRefuses, MountsWith, NotesNone, view_refusal}
 use Rattle.jedge.specs.Showing.{Checks, Contains, Lists, NamesNothing}
@@ -31,6 +31,7 @@ use Rattle.jedge.specs.Sparing.{FindsSpare}
 use Rattle.jedge.specs.Told.{Told}
 use Rattle.jedge.specs.Views.{HasBlockSize, IsViewed, NamesPart, NamesPath, conversion_refusal, views}
 use Rattle.jedge.specs.Laws.{BlamesEvent, BlamedIsFailed, BlamesFailed, Happened, IsOfBytes}
+use Rattle.jedge.specs.Missing.{missing_bytes}
 use Rattle.jedge.specs.declared.fault.Fault.{Fault}
 use Rattle.jedge.specs.declared.fault.Fault.TheVariants as fault
 
@@ -361,7 +362,7 @@ list_blames options decompress name word = then_blames _ _ (part_blames word) (�
 pub cat_blames : (options : Options) (decompress strict : Bool) (name word : List ℕ) → BlamesFailed (cat_act options decompress strict name word)
 cat_blames options decompress strict name word = then_blames _ _ (path_blames word) (λ (path : List ℕ).
     then_blames (loads name) _ (loads_blames name) (shows_blames _ decompress options.endian options.geometry.block _
-    (λ (others : Option ℕ) (m : Mount). contains_unnamed (content_of m.state path) _)))
+    (λ (others : Option ℕ) (m : Mount). contains_unnamed (content_of m.state path) (content_told strict (missing_bytes options.endian options.geometry.block path m) (read_told options.endian options.geometry.block others m)))))
 
 pub info_blames : (name : List ℕ) → BlamesFailed (info_act name)
 info_blames name = then_blames (loads name) _ (loads_blames name) (λ (image : List ℕ). then_blames _ _ (spare_blames image) (λ (spare : Option PageLayout). whole_blames _ _))

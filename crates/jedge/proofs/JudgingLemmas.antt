@@ -11,9 +11,10 @@ use Rattle.jreport.specs.declared.faults.ProgramFault.{ProgramFault}
 use Rattle.jreport.specs.declared.faults.ProgramFault.TheVariants as program
 use Rattle.jedge.specs.Acts.{Act, Then, Ends, GoesOn, Saying, Whole, and_closed, answers, closes, loads, opens, prints, reads_whole}
 use Rattle.jedge.specs.Calls.{Event, Answers, Did, Failed, Print, printed}
-use Rattle.jedge.specs.Commands.{Cat, Check, Damage, Diff, Info, Ls, cat_act, check_act, damage_act, diff_act, info_act, list_act, read_told}
+use Rattle.jedge.specs.Commands.{Cat, Check, Damage, Diff, Info, Ls, cat_act, check_act, content_told, damage_act, diff_act, info_act, list_act, read_told}
 use Rattle.jedge.specs.Comparing.{Compares, compared}
 use Rattle.jedge.specs.Laws.{ComesFirst, JudgedFirst, JudgesFirst, JudgesFirstBut, NonePrinted}
+use Rattle.jedge.specs.Missing.{missing_bytes}
 use Rattle.jedge.specs.Showing.{Checks, Contains, Lists}
 use Rattle.jspare.specs.declared.layout.PageLayout.{PageLayout}
 use Rattle.jedge.specs.Told.{Told}
@@ -221,7 +222,7 @@ pub cat_first : (options : Options) (decompress strict : Bool) (name word : List
 cat_first options decompress strict name word = then_first _ _ (answers_silent _) (λ (path : List ℕ).
     then_first (loads name) _ (loads_silent name) (λ (image : List ℕ). then_first _ _ (answers_silent _) (λ (others : Option ℕ).
     then_first _ _ (answers_silent _) (λ (m : Mount).
-    prints_first _ (contains_unput (content_of m.state path) _)))))
+    prints_first _ (contains_unput (content_of m.state path) (content_told strict (missing_bytes options.endian options.geometry.block path m) (read_told options.endian options.geometry.block others m)))))))
 
 pub list_first : (options : Options) (decompress : Bool) (name : List ℕ) (word : Option (List ℕ)) → JudgesFirstBut (λ f. f ≡ fault.OutOfMemory) (list_act options decompress name word)
 list_first options decompress name word = then_first_but _ _ _ (answers_silent _) (λ (part : Option (List ℕ)).

@@ -1,6 +1,6 @@
 -- Bytes of a file that no node has.
-use Rattle.std.proofs.Common.{◌≡◌, ℕ, Bool, true, false, List, Ok, Result, Option, Err, Some, None, ap, refl, sym, subst, ◌∙◌}
-use Rattle.std.specs.Prelude.{◌==◌, if◌then◌else◌, option_map}
+use Rattle.std.proofs.Common.{◌≡◌, ℕ, Bool, true, false, List, Ok, Option, ap, sym, subst, ◌∙◌}
+use Rattle.std.specs.Prelude.{option_map}
 use Rattle.jgaps.specs.Fields.{stretches}
 use Rattle.jgaps.specs.Gaps.{gaps_if_there, gaps_of_file}
 use Rattle.jnode.specs.declared.order.Endian.{Endian}

@@ -1,6 +1,6 @@
 -- `ls` and `cat` with `--decompress` decompress no more than they print. Laws: they print what the
 -- mount through the compression of the whole image shows.
-use Rattle.std.specs.Prelude.{◌≡◌, ◌↔◌, ℕ, true, List, Option, Result, Ok, Err}
+use Rattle.std.specs.Prelude.{◌≡◌, ◌↔◌, ℕ, Bool, true, List, Option, Result, Ok, Err}
 use Rattle.jlook.specs.Chosen.{Choice, object_by_path, symlinks_in}
 use Rattle.jmount.specs.Mount.{Mount}
 use Rattle.jmount.specs.declared.fault.MountFault.TheVariants as mount

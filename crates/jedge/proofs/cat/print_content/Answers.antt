@@ -21,5 +21,5 @@ returns-in-Ok g c =
     ∙ ap (λ (e : Endian). content_told asked.strict (missing_bytes g.E.Order.order size path m) (read_told e size c.args.others m)) c.requires.order)
     c.print_bytes.ensures
 
-pub returns : goal.returns
-returns g c = not_printed refl c.in-Err.ensures.err
+pub returns-in-Err : goal.returns-in-Err
+returns-in-Err g c = not_printed refl c.in-Err.ensures.err
