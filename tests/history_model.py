@@ -4,6 +4,7 @@ Tiles and nodes are those of hostile_model.py, which nodes matter is that of com
 and is slow.
 """
 import collections
+import hashlib
 
 import compact_model as compacting
 import hostile_model as model
@@ -13,6 +14,7 @@ ENTRY = "pino version ino mctime type".split()
 INODE = "ino version mode uid gid isize atime mtime ctime offset dsize".split()
 # where the number of the method is in an inode node
 COMPR = 56
+MTIME = INODE.index("mtime")
 
 
 def same_name(node, other):
@@ -74,13 +76,37 @@ def obsolete_of(image, size, order):
             yield at, "obsolete", f"length {len(tile)}"
 
 
-def text_of(image, size, order, nodes, numbers=None):
-    """What `history` prints of an image of these nodes, of all objects or of those of these numbers."""
+def is_told(node, numbers, since, until):
+    """Whether a node is of these numbers and of this time."""
+    time = node.held[3] if node.what == "entry" else node.held[MTIME]
+    return (numbers is None or number_of(node) in numbers) and (since is None or since <= time) and (until is None or time <= until)
+
+
+def body_of(nodes, ino):
+    """The bytes of a regular file or a symlink by all its nodes; of any other object None."""
+    objects, _ = model.tree(compacting.plain(nodes))
+    found = objects.get(ino)
+    return model.content(compacting.plain(nodes), ino, found[5]) if found and found[2] >> 12 & 15 in (8, 10) else None
+
+
+def was_of(nodes, ino):
+    """What is left of an object."""
+    versions = [node.held[1] for node in nodes if node.what == "inode" and node.held[0] == ino]
+    line = f"was ino {ino}" + (f" versions {min(versions)} to {max(versions)}" if versions else "")
+    body = body_of(nodes, ino)
+    if body is not None:
+        line += f" size {len(body)} sha256 {hashlib.sha256(body).hexdigest()}"
+    return line + "\n"
+
+
+def text_of(image, size, order, nodes, numbers=None, since=None, until=None):
+    """What `history` prints of an image of these nodes, of all objects or of those of these numbers, and of these times."""
     reached, _ = compacting.reached_of(nodes)
     live, newest = compacting.what_matters(nodes), newest_entries(nodes)
-    told = [node for node in nodes if numbers is None or number_of(node) in numbers]
+    told = [node for node in nodes if is_told(node, numbers, since, until)]
     lines = [(node.at, word_of(node, live, newest, reached), fields_of(node)) for node in told]
-    lines += obsolete_of(image, size, order) if numbers is None else []
+    lines += obsolete_of(image, size, order) if (numbers, since, until) == (None, None, None) else []
     counts = collections.Counter(word for _, word, _ in lines)
-    total = "total " + " ".join(f"{word} {counts[word]}" for word in WORDS)
-    return "".join(f"{at:08x} {word} {fields}\n" for at, word, fields in sorted(lines)) + total + "\n"
+    total = "total " + " ".join(f"{word} {counts[word]}" for word in WORDS) + "\n"
+    was = "".join(was_of(nodes, ino) for ino in sorted(numbers or ()))
+    return "".join(f"{at:08x} {word} {fields}\n" for at, word, fields in sorted(lines)) + total + was

@@ -88,6 +88,9 @@ FORMS = {
          "atime <d:atime> mtime <d:mtime> ctime <d:ctime> offset <d:offset> dsize <d:dsize> compr <d:compr>"),
         ("obsolete", "<x:address> <s:word> length <d:length>"),
         ("total", "total live <d:live> superseded <d:superseded> deleted <d:deleted> deletion <d:deletion> unreached <d:unreached> obsolete <d:obsolete>"),
+        ("was", "was ino <d:ino>"),
+        ("was", "was ino <d:ino> versions <d:lowest> to <d:highest>"),
+        ("was", "was ino <d:ino> versions <d:lowest> to <d:highest> size <d:size> sha256 <s:sha256>"),
     ],
     "map": [("block", f"<d:number> {MAP} <s:bar>"), ("total", "total " + MAP.split(" ", 1)[1])],
     "cuts": [

@@ -1,9 +1,14 @@
--- What stops a trace.
-use Rattle.std.proofs.Common.{◌≡◌, ℕ, List, Option, Ok, Err, inr, subst}
+-- What stops a trace, and the text of it.
+use Rattle.std.proofs.Common.{◌≡◌, ℕ, List, ◌++◌, Option, Ok, Err, inr, subst}
+use Rattle.flashbase.specs.Sinks.{SinkChange}
+use Rattle.flashbase.proofs.DeviceLemmas.{part_before}
 use Rattle.jnode.specs.declared.order.Endian.{Endian}
 use Rattle.jmount.specs.Mount.{Mount}
 use Rattle.jthrough.specs.Addressed.{addressed_nodes}
 use Rattle.jthrough.specs.MountsThrough.{AnswersThrough}
+use Rattle.jhistory.specs.HistoryText.{PutsHistory}
+use Rattle.jhistory.specs.declared.fault.HistoryFault.{HistoryFault}
+use Rattle.jhistory.specs.declared.fault.HistoryFault.TheVariants as history
 use Rattle.jedge.specs.declared.fault.Fault.{Fault}
 use Rattle.jedge.specs.declared.fault.Fault.TheVariants as fault
 use Rattle.jinspects.specs.Former.{IsNoFormerIf, TellsPath}
@@ -24,3 +29,10 @@ stopped e size image others path m (fault.Refused why) through tells = inr (
 )
 stopped e size image others path m fault.Output through tells = absurd tells
 stopped e size image others path m fault.OutOfMemory through tells = (m, through)
+
+-- the first of two texts failed
+pub first_text_failed : (T : Type 0) (size : ℕ) (image a b : List ℕ) (sink : SinkChange) (why : HistoryFault) → PutsHistory {T = T} size image a sink (Err why)
+    → PutsHistory {T = T} size image (a ++ b) sink (Err why)
+first_text_failed T size image a b sink history.Output puts = (puts.0, part_before sink.old sink.new a b puts.1, puts.2)
+first_text_failed T size image a b sink history.BlockSize puts = puts
+first_text_failed T size image a b sink history.TooLarge puts = puts

@@ -7,7 +7,6 @@ use Rattle.jedge.specs.Acts.{Act, Then, Whole, answers, loads, opens, prints, re
 use Rattle.jedge.specs.Images.{NotesNone}
 use Rattle.jedge.specs.Told.{Told}
 use Rattle.jedge.specs.Views.{HasBlockSize, NamesPart}
-use Rattle.jhistory.specs.HistoryText.{Selection, Subjects, history_text}
 use Rattle.jhistory.specs.declared.period.Period.{Period}
 use Rattle.jversions.specs.declared.revision.Revision.{Revision}
 use Rattle.jmap.specs.MapText.{map_text}
@@ -15,7 +14,7 @@ use Rattle.jmap.specs.Picture.{picture_text}
 use Rattle.jmap.specs.Places.{Paths}
 use Rattle.jinspects.specs.Recalling.{Recalls, recalled_told}
 use Rattle.jinspects.specs.Surveying.{Surveys}
-use Rattle.jinspects.specs.Tracing.{Traces}
+use Rattle.jinspects.specs.Tracing.{Traces, history_told}
 use Rattle.jinspects.specs.ThroughVerdict.{ChecksThrough}
 
 -- ---- `check --decompress`
@@ -61,19 +60,15 @@ map_act options = maps options.endian options.geometry.block
 abbrev pub period_asked : {T : Type 0} → NodeHistory T → Period
 period_asked asked = record { since = asked.since; until = asked.until }
 
--- the nodes of these objects and of these times
-abbrev pub nodes_asked : Subjects → Period → Selection
-nodes_asked numbers period = record { subjects = numbers; period = period }
-
 -- An image is mounted through its compression, what became of each node is found out, and with a
--- path the objects that it ever named; and the lines of their nodes are printed, if their times are
--- asked for. Nothing of the image is found; what `ls` notes of it is noted.
+-- path the objects that it ever named and what is left of them. The lines of their nodes are
+-- printed, if their times are asked for, and those of what is left. Nothing of the image is found;
+-- what `ls` notes of it is noted.
 abbrev pub tells_history : Endian → ℕ → Period → Option (List ℕ) → List ℕ → Act Told
 tells_history e size period path image =
     Then (answers (NotesNone e size image)) (λ others.
     Then (answers (Traces path e size image others)) (λ trace.
-    prints (Whole (history_text e size image trace.words (nodes_asked trace.numbers period))
-    trace.told)))
+    prints (Whole (history_told e size image period trace) trace.told)))
 
 -- the word of a path is judged, where one is given; the file is read, and that is done of its image
 abbrev pub traces : Endian → ℕ → Period → List ℕ → Option (List ℕ) → Act Told

@@ -2,10 +2,11 @@
 ghost use Rattle.std.specs.Prelude.{◌≡◌, option_map};
 ghost use Rattle.flashbase.specs.Sinks.{change_of};
 ghost use Rattle.jscan.specs.Scans.{IsScannable};
-ghost use Rattle.jhistory.specs.HistoryText.{history_text};
+ghost use Rattle.jhistory.specs.HistoryText.{PutsHistory};
 ghost use Rattle.jedge.specs.Acts.{DoesFrom, PutsBy, Whole, prints, seen_as};
 ghost use Rattle.jedge.specs.Told.{found_told};
-ghost use Rattle.jinspects.specs.Inspecting.{history_act, nodes_asked, period_asked};
+ghost use Rattle.jinspects.specs.Inspecting.{history_act, period_asked};
+ghost use Rattle.jinspects.specs.Tracing.{history_told, traced};
 
 use crate::tracing::{Trace, trace_of};
 use flashbase::Sink;
@@ -17,8 +18,31 @@ use jedge::reading::load;
 use jedge::subject::part_named;
 use jhistory::{HistoryFault, Period, put_history};
 use jnode::Order;
+use jpast::put_pasts;
 use jreport::others_if_none;
 use jscan::Geometry;
+
+/// Puts the lines of nodes, and then those of what is left of the objects that are told apart.
+fn put_told<E: Order, T: Sink>(
+    image: &[u8],
+    geometry: Geometry,
+    trace: &Trace,
+    period: Period,
+    sink: &mut T,
+) -> Result<(), HistoryFault>
+    ensures { PutsHistory geometry.block image.now
+        (history_told E.order geometry.block image.now period (traced trace.now))
+        (change_of T.Sink sink.old sink.new) result }
+{
+    let numbers = trace.numbers.as_ref();
+    match put_history::<E, T>(image, geometry, &trace.words, numbers, period, sink) {
+        Ok(()) => match put_pasts(trace.pasts.as_slice(), sink) {
+            Ok(()) => Ok(()),
+            Err(_) => Err(HistoryFault::Output),
+        },
+        Err(fault) => Err(fault),
+    }
+}
 
 /// Puts the history of an image, and answers what the command comes to.
 fn put_trace<E: Order, T: Sink>(
@@ -29,13 +53,12 @@ fn put_trace<E: Order, T: Sink>(
     sink: &mut T,
 ) -> Result<Found<'static>, Fault>
     requires { IsScannable geometry.block image.now }
-    ensures { PutsBy (Whole (history_text E.order geometry.block image.now trace.now.words
-        (nodes_asked trace.now.numbers period)) (found_told trace.now.found))
-        (change_of T.Sink sink.old sink.new)
+    ensures { PutsBy
+        (Whole (history_told E.order geometry.block image.now period (traced trace.now))
+        (found_told trace.now.found)) (change_of T.Sink sink.old sink.new)
         (seen_as found_told result) }
 {
-    let numbers = trace.numbers.as_ref();
-    match put_history::<E, T>(image, geometry, &trace.words, numbers, period, sink) {
+    match put_told::<E, T>(image, geometry, trace, period, sink) {
         Ok(()) => Ok(trace.found),
         Err(HistoryFault::Output | HistoryFault::BlockSize | HistoryFault::TooLarge) => {
             Err(Fault::Output)
@@ -53,8 +76,8 @@ fn print_trace<E: Order, H: Host>(
 ) -> Result<Found<'static>, Fault>
     requires { IsScannable geometry.block image.now }
     ensures { DoesFrom (H.history host.old) (H.history host.new)
-        (prints (Whole (history_text E.order geometry.block image.now trace.now.words
-        (nodes_asked trace.now.numbers period)) (found_told trace.now.found)))
+        (prints (Whole (history_told E.order geometry.block image.now period (traced trace.now))
+        (found_told trace.now.found)))
         (seen_as found_told result) }
 {
     let mut out = match host.output() {

@@ -146,6 +146,12 @@ history_shapes = (
       codes "total live #live superseded #superseded deleted #deleted deletion #deletion "
           ++ codes "unreached #unreached obsolete #obsolete",
     )
+    ∷ (codes "was", codes "was ino #ino")
+    ∷ (codes "was", codes "was ino #ino versions #lowest to #highest")
+    ∷ (
+      codes "was",
+      codes "was ino #ino versions #lowest to #highest size #size sha256 =sha256",
+    )
     ∷ []
 
 -- what `map` prints

@@ -191,6 +191,12 @@ const HISTORY: &[Shape] = &[
         b"total live #live superseded #superseded deleted #deleted deletion #deletion \
           unreached #unreached obsolete #obsolete",
     ),
+    Shape(b"was", b"was ino #ino"),
+    Shape(b"was", b"was ino #ino versions #lowest to #highest"),
+    Shape(
+        b"was",
+        b"was ino #ino versions #lowest to #highest size #size sha256 =sha256",
+    ),
 ];
 
 /// What `map` prints.

@@ -313,7 +313,7 @@ const DAMAGE: [Case; 12] = [
 ];
 
 /// Lines of `history`.
-const HISTORY: [Case; 4] = [
+const HISTORY: [Case; 7] = [
     Case(
         b"0000000c live entry pino 1 version 3 ino 5 mctime 1700000000 type 8 name hello.txt",
         b"{\"line\":\"entry\",\"address\":12,\"word\":\"live\",\"pino\":1,\"version\":3,\"ino\":\
@@ -334,6 +334,15 @@ const HISTORY: [Case; 4] = [
         b"total live 1 superseded 2 deleted 3 deletion 4 unreached 5 obsolete 6",
         b"{\"line\":\"total\",\"live\":1,\"superseded\":2,\"deleted\":3,\"deletion\":4,\"unreach\
           ed\":5,\"obsolete\":6}",
+    ),
+    Case(b"was ino 7", b"{\"line\":\"was\",\"ino\":7}"),
+    Case(
+        b"was ino 7 versions 2 to 9",
+        b"{\"line\":\"was\",\"ino\":7,\"lowest\":2,\"highest\":9}",
+    ),
+    Case(
+        b"was ino 7 versions 2 to 9 size 3 sha256 00ff",
+        b"{\"line\":\"was\",\"ino\":7,\"lowest\":2,\"highest\":9,\"size\":3,\"sha256\":\"00ff\"}",
     ),
 ];
 

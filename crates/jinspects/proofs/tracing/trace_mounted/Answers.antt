@@ -13,6 +13,7 @@ use Rattle.jthrough.proofs.AddressedLemmas.{addressed_are_expanded, addressed_ar
 use Rattle.jcompact.specs.Matters.{Placed}
 use Rattle.jhistory.specs.NodeWords.{AreWordsOf}
 use Rattle.jinspects.specs.Former.{AreFormerIf, IsNoFormerIf, TellsPath}
+use Rattle.jinspects.specs.Tracing.{ArePastsIf}
 use Rattle.jinspects.proofs.tracing.trace_mounted.Goals as goal
 
 pub nodes_through-requires-clause-sound : goal.nodes_through-requires-clause-sound
@@ -63,3 +64,10 @@ returns-in-Err-numbers_for-clause-err g c =
     let path = option_map (λ p. p.items) c.args.path.now in
     subst (λ (ns : List Placed). TellsPath (IsNoFormerIf ns c.args.mounted.now.state path) c.in-Err-numbers_for.fault)
     (c.as_slice.ensures.value ∙ c.in-Ok.ensures ∙ ap (addressed_nodes e size) c.image.ensures) c.in-Err-numbers_for.ensures.err
+
+pub returns-in-Ok-words_of-clause-pasts : goal.returns-in-Ok-words_of-clause-pasts
+returns-in-Ok-words_of-clause-pasts g c =
+    let e = g.E.Order.order in
+    let size : ℕ = c.args.geometry.block in
+    subst (λ (ns : List Placed). ArePastsIf ns c.args.mounted.now.state c.in-Ok-numbers_for.numbers c.in-Ok-pasts_for.pasts.items)
+    (c.as_slice-2.ensures.value ∙ c.in-Ok.ensures ∙ ap (addressed_nodes e size) c.image.ensures) c.in-Ok-pasts_for.ensures

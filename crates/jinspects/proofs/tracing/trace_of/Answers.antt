@@ -10,6 +10,7 @@ use Rattle.jthrough.proofs.MountLemmas.{unviewed_answers}
 use Rattle.jhistory.specs.NodeWords.{AreWordsOf}
 use Rattle.jedge.specs.Commands.{read_told}
 use Rattle.jinspects.specs.Former.{AreFormerIf}
+use Rattle.jinspects.specs.Tracing.{ArePastsIf}
 use Rattle.jinspects.proofs.TraceLemmas.{stopped}
 use Rattle.jinspects.proofs.tracing.trace_of.Goals as goal
 
@@ -49,6 +50,7 @@ returns-in-Ok-trace_mounted-clause-trace g c =
       mounts = is;
       words = subst (λ (image : List ℕ). AreWordsOf (addressed_nodes e size image) c.in-Ok-trace_mounted.words) is.0 c.in-Ok-trace_mounted.ensures.words;
       numbers = subst (λ (image : List ℕ). AreFormerIf (addressed_nodes e size image) m.state path c.in-Ok-trace_mounted.numbers) is.0 c.in-Ok-trace_mounted.ensures.numbers;
+      pasts = subst (λ (image : List ℕ). ArePastsIf (addressed_nodes e size image) m.state c.in-Ok-trace_mounted.numbers c.in-Ok-trace_mounted.pasts.items) is.0 c.in-Ok-trace_mounted.ensures.pasts;
       told = c.read_found.ensures ∙ ap (λ (e : Endian). read_told e size c.args.others m) c.requires;
     }
 

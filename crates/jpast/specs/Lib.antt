@@ -1,0 +1,4 @@
+pub mod Pasts
+pub mod PastText
+pub mod Spans
+pub mod PastExamples
