@@ -73,8 +73,8 @@ def reason_of(name):
 
 
 def path_told(name):
-    """A path in a line of text: plain bytes, and the others as \\x and two digits."""
-    return b"/" + hostile_model.escaped(name, b"/").encode()
+    """A path in a line of text: plain bytes, and the others, a slash of a name too, as \\x and two digits."""
+    return b"/" + hostile_model.escaped(name).encode()
 
 
 # ---- one image
