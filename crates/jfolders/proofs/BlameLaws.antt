@@ -1,5 +1,5 @@
 -- A fault of a command on a folder is an event.
-use Rattle.std.proofs.Common.{◌≡◌, ℕ, Bool, List, [], ◌∷◌, ◌++◌, Option, None, Some, Ok, Err, refl, sym, ap, subst, inl, inr, ◌∙◌}
+use Rattle.std.proofs.Common.{◌≡◌, ℕ, Bool, true, false, List, [], ◌∷◌, ◌++◌, Option, None, Some, Ok, Err, refl, sym, ap, subst, inl, inr, ◌∙◌}
 use Rattle.std.specs.Prelude.{Result, string_bytes}
 use Rattle.flashbase.specs.Device.{next_count}
 use Rattle.flashbase.specs.Sinks.{SinkChange}
@@ -33,6 +33,7 @@ use Rattle.jfolders.specs.Extracting.{HasPart}
 use Rattle.jfolders.specs.Filling.{IsFilled, IsOfFolder, asks_to_fill, closes_filled, fillings, fills_asked, none_failed, stop_of, the_folder}
 use Rattle.jfolders.specs.Keeping.{IsKeptAs, closes_whole, keeps_through}
 use Rattle.jfolders.specs.Laws.{BlamesCall, BlamesOnlyFailed, FoldersBlamed}
+use Rattle.jfolders.specs.Mounting.{MountsDeleted, MountsToExtract}
 use Rattle.jfolders.specs.Reading.{IsReadAs, IsFolderReadFault, asks_to_read, closes_read, looked_through, looks_through}
 use Rattle.jfolders.specs.declared.host.Closed.{Closed}
 use Rattle.jfolders.proofs.EndLemmas.{Ended, ended, filled_never, read_never, whole_never}
@@ -238,11 +239,26 @@ part_blamed s part events f is = elim is.1 [
 gives_blamed : {A : Type 0} (told : A) → BlamesOnlyFailed (answers (λ (result : Result A Fault). result ≡ Ok told))
 gives_blamed told events f is = let no : ⊥ = cc in absurd no
 
+-- deleted files do not mount for a reason of a mount through
+as_through : (e : Endian) (size : ℕ) (image : List ℕ) (f : Fault) → MountsDeleted e size image (Err f) → MountsWith true e size image (Err f)
+as_through e size image (fault.File file) is = absurd is
+as_through e size image (fault.NotRead file) is = absurd is
+as_through e size image (fault.NoNodes of others) is = absurd is
+as_through e size image (fault.NoSpace folder) is = absurd is
+as_through e size image (fault.Findings of findings) is = absurd is
+as_through e size image (fault.Refused why) is = is
+as_through e size image fault.Output is = absurd is
+as_through e size image fault.OutOfMemory is = absurd is
+
+to_extract_blames : (deleted decompress : Bool) (e : Endian) (size : ℕ) (image : List ℕ) → BlamesFailed (answers (MountsToExtract deleted decompress e size image))
+to_extract_blames false decompress e size image events f is = mounts_as_blame decompress e size image events f is
+to_extract_blames true decompress e size image events f is = mounts_as_blame true e size image events f (is.0, as_through e size image f is.1)
+
 extract_blamed : (x : Extraction (List ℕ)) → BlamesOnlyFailed (extract_act x)
 extract_blamed x = then_blamed _ _ (of_act (answers (NamesPart x.path)) (part_blames x.path)) (λ (part : Option (List ℕ)).
     then_blamed _ _ (of_act (loads x.image) (loads_blames x.image)) (λ (image : List ℕ).
     then_blamed _ _ (of_act (answers (HasNodes x.options.endian x.options.geometry.block None image)) (nodes_blame x.options.endian x.options.geometry.block None image)) (λ _.
-    then_blamed _ _ (of_act (answers (MountsWith x.decompress x.options.endian x.options.geometry.block image)) (mounts_as_blame x.decompress x.options.endian x.options.geometry.block image)) (λ (m : Mount).
+    then_blamed _ _ (of_act (answers (MountsToExtract x.deleted x.decompress x.options.endian x.options.geometry.block image)) (to_extract_blames x.deleted x.decompress x.options.endian x.options.geometry.block image)) (λ (m : Mount).
     then_blamed _ _ (part_blamed m.state part) (λ (s : State).
     then_blamed _ _ (then_blamed _ _ (asks_fill_blamed x.folder x.quiet) (λ _. fills_blamed x.folder x.owners s)) (λ (totals : Totals). gives_blamed _))))))
 

@@ -136,8 +136,8 @@ fn mounted_for<'a, E: Order>(
     contents: &'a mut Vec<u8>,
     files: &'a mut Vec<DeletedFile>,
 ) -> Result<Mounted<'a>, Fault>
-    ensures { MountsToExtract asked.deleted asked.decompress E.order
-        asked.options.geometry.block image.now result }
+    ensures { MountsToExtract asked.entry.deleted asked.entry.decompress E.order
+        asked.entry.options.geometry.block image.now result }
 {
     let geometry = asked.options.geometry;
     if asked.deleted {

@@ -14,6 +14,8 @@ use test_support::{DIRECTORY, FILE, SYMLINK, fill_up};
 pub(crate) enum Item {
     /// Version and number of the name `a` of the root.
     Entry(u32, u32),
+    /// Directory, version, number and name.
+    Named(u32, u32, u32, &'static [u8]),
     /// Number, version, mode, size, offset and data.
     Inode(u32, u32, u32, u32, u32, &'static [u8]),
     /// Number, version, size, offset and how many zeros of a file.
@@ -125,14 +127,14 @@ pub(crate) const IMAGES: [(&[Item], &[Case]); 3] = [
     (&REFUSED, &OF_REFUSED),
 ];
 
-fn entry_of(version: u32, ino: u32) -> Dirent<'static> {
+pub(crate) fn entry_of(pino: u32, version: u32, ino: u32, name: &[u8]) -> Dirent<'_> {
     Dirent {
-        pino: 1,
+        pino,
         version,
         ino,
         mctime: 7,
         kind: 8,
-        name: Part::new(b"a", 0),
+        name: Part::new(name, 0),
     }
 }
 
@@ -187,9 +189,18 @@ fn packed_of(ino: u32, version: u32, compr: u8, data: &[u8]) -> CompressedNode<'
     }
 }
 
+/// Appends the node of a file of one byte.
+pub(crate) fn write_file<E: Order>(image: &mut Vec<u8>, ino: u32) -> Result<(), &'static str> {
+    write_item::<E>(image, Item::Inode(ino, 1, FILE, 1, 0, b"f"))?;
+    fill_up(image).map_err(|_| "no memory")
+}
+
 fn write_item<E: Order>(image: &mut Vec<u8>, item: Item) -> Result<(), &'static str> {
     let written = match item {
-        Item::Entry(version, ino) => write_entry::<E>(image, &entry_of(version, ino)),
+        Item::Entry(version, ino) => write_entry::<E>(image, &entry_of(1, version, ino, b"a")),
+        Item::Named(pino, version, ino, name) => {
+            write_entry::<E>(image, &entry_of(pino, version, ino, name))
+        }
         Item::Inode(ino, version, mode, isize, offset, data) => {
             write_inode::<E>(image, &filled(ino, version, mode, isize, offset, data))
         }
