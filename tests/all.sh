@@ -73,6 +73,7 @@ tests/spare.py $program
 tests/offset.py $program
 tests/json_lines.py $program
 tests/upto.py $program
+tests/deleted.py $program
 tests/verify.py $program
 tests/placing.sh $program
 tests/listings.py $program
