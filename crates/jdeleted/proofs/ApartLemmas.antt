@@ -15,10 +15,10 @@ use Rattle.jmount.specs.Laws.{IsNewestEntry}
 use Rattle.jmount.specs.StateOf.{entries, entry_in, inodes, state_of}
 use Rattle.jmount.specs.Tree.{named}
 use Rattle.jmount.proofs.NamesLemmas.{name_is_of_newest, no_name_is_of_none}
-use Rattle.jdeleted.specs.Deleted.{entry_by, flat_entry, flat_nodes}
+use Rattle.jdeleted.specs.Deleted.{flat_entry_of, flat_entry, flat_nodes}
 use Rattle.jdeleted.specs.Laws as law
 use Rattle.jdeleted.specs.Laws.{AreNumbers}
-use Rattle.jdeleted.specs.Naming.{deleted_name, last_name}
+use Rattle.jdeleted.specs.Naming.{deleted_name, last_name_given}
 
 -- ---- up to the first dash
 
@@ -54,27 +54,27 @@ names_are_apart i j a b low_i low_j same = decimal_injective i j low_i low_j (sy
 -- ---- the entries of flat nodes
 
 flat_entry_by : List NodeRef → ℕ → Dirent
-flat_entry_by ns i = flat_entry i (deleted_name i (last_name ns i))
+flat_entry_by ns i = flat_entry i (deleted_name i (last_name_given ns i))
 
 entries_of_inodes : (ns : List InodeNode) → entries (map node.Inode ns) ≡ []
 entries_of_inodes [] = refl
 entries_of_inodes (n ∷ ns) = entries_of_inodes ns
 
-entries_of_entries : (ns : List NodeRef) (numbers : List ℕ) → entries (map (entry_by ns) numbers) ≡ map (flat_entry_by ns) numbers
+entries_of_entries : (ns : List NodeRef) (numbers : List ℕ) → entries (map (flat_entry_of ns) numbers) ≡ map (flat_entry_by ns) numbers
 unfolding flat_entry_by
 entries_of_entries ns [] = refl
-entries_of_entries ns (i ∷ numbers) = ap (λ (l : List Dirent). flat_entry i (deleted_name i (last_name ns i)) ∷ l) (entries_of_entries ns numbers)
+entries_of_entries ns (i ∷ numbers) = ap (λ (l : List Dirent). flat_entry i (deleted_name i (last_name_given ns i)) ∷ l) (entries_of_entries ns numbers)
 
 flat_entries : (ns : List NodeRef) (numbers : List ℕ) → entries (flat_nodes ns numbers) ≡ map (flat_entry_by ns) numbers
 flat_entries ns numbers =
-    filter_map-append entry_in (map node.Inode (inodes ns)) (map (entry_by ns) numbers)
-    ∙ ap (λ (l : List Dirent). l ++ entries (map (entry_by ns) numbers)) (entries_of_inodes (inodes ns))
+    filter_map-append entry_in (map node.Inode (inodes ns)) (map (flat_entry_of ns) numbers)
+    ∙ ap (λ (l : List Dirent). l ++ entries (map (flat_entry_of ns) numbers)) (entries_of_inodes (inodes ns))
     ∙ entries_of_entries ns numbers
 
 record IsEntryOf (ns : List NodeRef) (numbers : List ℕ) (entry : Dirent) : Type 0 where
   pub there : Contains numbers entry.ino
   pub directory : entry.pino ≡ 1
-  pub name : entry.name ≡ deleted_name entry.ino (last_name ns entry.ino)
+  pub name : entry.name ≡ deleted_name entry.ino (last_name_given ns entry.ino)
 
 entry_of : (ns : List NodeRef) (numbers : List ℕ) (entry : Dirent) → Contains (entries (flat_nodes ns numbers)) entry → IsEntryOf ns numbers entry
 unfolding flat_entry_by
@@ -87,7 +87,7 @@ of_number ns numbers i c = subst (λ (l : List Dirent). Contains l (flat_entry_b
 
 module _ (ns : List NodeRef) (numbers : List ℕ) (dir : ℕ) (name : List ℕ) (i : ℕ) (are : AreNumbers numbers) where
   Shown : Type 0
-  Shown = (dir ≡ 1) × Contains numbers i × (name ≡ deleted_name i (last_name ns i))
+  Shown = (dir ≡ 1) × Contains numbers i × (name ≡ deleted_name i (last_name_given ns i))
 
   shown_by : (entry : Dirent) → IsNewestEntry (entries (flat_nodes ns numbers)) dir name entry → entry.ino ≡ i → Shown
   unfolding Shown
@@ -95,7 +95,7 @@ module _ (ns : List NodeRef) (numbers : List ℕ) (dir : ℕ) (name : List ℕ) 
       let it = entry_of ns numbers entry newest.there in (
         sym newest.directory ∙ it.directory,
         subst (Contains numbers) is it.there,
-        sym newest.named ∙ it.name ∙ ap (λ (j : ℕ). deleted_name j (last_name ns j)) is,
+        sym newest.named ∙ it.name ∙ ap (λ (j : ℕ). deleted_name j (last_name_given ns j)) is,
       )
 
   named_shown : named (state_of (flat_nodes ns numbers)) dir name ≡ Some i → Shown
@@ -113,7 +113,7 @@ module _ (ns : List NodeRef) (numbers : List ℕ) (dir : ℕ) (name : List ℕ) 
           let found = name_is_of_newest (flat_nodes ns numbers) dir name k h in
           let it = entry_of ns numbers found.1.0 found.1.1.there in
           let same : found.1.0.ino ≡ i =
-          names_are_apart found.1.0.ino i (last_name ns found.1.0.ino) (last_name ns i) (are found.1.0.ino it.there).1 (are i is.1).1 (sym it.name ∙ found.1.1.named ∙ is.2) in
+          names_are_apart found.1.0.ino i (last_name_given ns found.1.0.ino) (last_name_given ns i) (are found.1.0.ino it.there).1 (are i is.1).1 (sym it.name ∙ found.1.1.named ∙ is.2) in
           h ∙ ap Some (sym found.1.2 ∙ same)
       by None h =
           ⊎_elim

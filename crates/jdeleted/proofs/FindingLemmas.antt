@@ -15,7 +15,7 @@ use Rattle.jmount.specs.Tree.{ObjectOf, State, object, is_there, has_bits, regul
 use Rattle.jmount.specs.declared.object.Object.{Object}
 use Rattle.jcompact.specs.Matters.{NamesLeadTo}
 use Rattle.jdeleted.specs.Deleted.{AreDeleted, IsDeleted}
-use Rattle.jdeleted.specs.Finding.{is_found}
+use Rattle.jdeleted.specs.Finding.{is_found_deleted}
 
 -- ---- tests
 
@@ -61,7 +61,7 @@ regular_bytes o h = ap (λ (b : Bool). cond (b || (type_bits o.mode == symlink_b
 abbrev Tells : State → BTreeSet ℕ → Type 0
 Tells s unreached = (i : ℕ) → is_there s i ≡ true → Decides (contains nat_cmp unreached i) (NamesLeadTo s i → ⊥)
 
-found_is_deleted : (s : State) (unreached : BTreeSet ℕ) (e : ℕ × Object) → Tells s unreached → Contains (objects_in s) e → is_found unreached e ≡ true → IsDeleted s e.0
+found_is_deleted : (s : State) (unreached : BTreeSet ℕ) (e : ℕ × Object) → Tells s unreached → Contains (objects_in s) e → is_found_deleted unreached e ≡ true → IsDeleted s e.0
 found_is_deleted s unreached e tells c h =
     let l = listed_object s e c in
     let kind = both_true (type_bits e.1.mode == regular_bits) (nat_lt 0 e.1.size && contains nat_cmp unreached e.0) h in
@@ -75,7 +75,7 @@ found_is_deleted s unreached e tells c h =
       unreached = (tells e.0 (ap is_some l.there)).0 rest.1;
     }
 
-deleted_is_found : (s : State) (unreached : BTreeSet ℕ) (i : ℕ) (o : ObjectOf (List ℕ)) → Tells s unreached → object s i ≡ Some o → IsDeleted s i → is_found unreached (i, shown o) ≡ true
+deleted_is_found : (s : State) (unreached : BTreeSet ℕ) (i : ℕ) (o : ObjectOf (List ℕ)) → Tells s unreached → object s i ≡ Some o → IsDeleted s i → is_found_deleted unreached (i, shown o) ≡ true
 deleted_is_found s unreached i o tells there is =
     let regular : (type_bits o.mode == regular_bits) ≡ true = ap (has_bits regular_bits) (sym there) ∙ is.regular in
     let bytes : readable s i ≡ o.body = ap bytes_if there ∙ regular_bytes o regular in
@@ -89,7 +89,7 @@ deleted_is_found s unreached i o tells there is =
 pub record AreFound (s : State) (unreached : BTreeSet ℕ) (rest : List (ℕ × Object)) (numbers : List ℕ) : Type 0 where
   pub deleted : (i : ℕ) → Contains numbers i → IsDeleted s i
   pub among : (e : ℕ × Object) → Contains rest e → Contains (objects_in s) e
-  pub each : (e : ℕ × Object) → Contains (objects_in s) e → is_found unreached e ≡ true → Contains numbers e.0 ⊎ Contains rest e
+  pub each : (e : ℕ × Object) → Contains (objects_in s) e → is_found_deleted unreached e ≡ true → Contains numbers e.0 ⊎ Contains rest e
 
 pub none_found : (s : State) (unreached : BTreeSet ℕ) (rest : List (ℕ × Object)) (numbers : List ℕ) → rest ≡ objects_in s → numbers ≡ [] → AreFound s unreached rest numbers
 none_found s unreached rest numbers is empty = record {
@@ -108,7 +108,7 @@ module _ (s : State) (unreached : BTreeSet ℕ) (all rest : List (ℕ × Object)
   cases_in : (x : ℕ × Object) → Contains all x → (e ≡ x) ⊎ Contains rest x
   cases_in x c = Contains-cases e rest x (subst (λ (es : List (ℕ × Object)). Contains es x) is c)
 
-  pub one_found : (old new : List ℕ) → Tells s unreached → is_found unreached e ≡ true → new ≡ old ++ e.0 ∷ [] → AreFound s unreached all old → AreFound s unreached rest new
+  pub one_found : (old new : List ℕ) → Tells s unreached → is_found_deleted unreached e ≡ true → new ≡ old ++ e.0 ∷ [] → AreFound s unreached all old → AreFound s unreached rest new
   one_found old new tells test pushed so_far = record {
     deleted = λ i c.
         ⊎_elim
@@ -128,7 +128,7 @@ module _ (s : State) (unreached : BTreeSet ℕ) (all rest : List (ℕ × Object)
         (so_far.each x c h);
   }
 
-  pub one_passed : (numbers : List ℕ) → is_found unreached e ≡ false → AreFound s unreached all numbers → AreFound s unreached rest numbers
+  pub one_passed : (numbers : List ℕ) → is_found_deleted unreached e ≡ false → AreFound s unreached all numbers → AreFound s unreached rest numbers
   one_passed numbers test so_far = record {
     deleted = so_far.deleted;
     among = λ x c. so_far.among x (later_in x c);
@@ -137,7 +137,7 @@ module _ (s : State) (unreached : BTreeSet ℕ) (all rest : List (ℕ × Object)
         (λ before. inl before)
         (λ coming.
         ⊎_elim
-        (λ (same : e ≡ x). absurd (true≢false (sym h ∙ ap (is_found unreached) (sym same) ∙ test)))
+        (λ (same : e ≡ x). absurd (true≢false (sym h ∙ ap (is_found_deleted unreached) (sym same) ∙ test)))
         (λ later. inr later)
         (cases_in x coming))
         (so_far.each x c h);

@@ -26,8 +26,8 @@ use Rattle.jthrough.specs.MountsThrough.{AnswersThrough}
 use Rattle.jthrough.specs.View.{mount_fault_viewed}
 use Rattle.jthrough.specs.declared.fault.ViewFault.TheVariants as view
 use Rattle.jthrough.proofs.AddressedLemmas.{addressed_are_expanded, addressed_are_mountable}
-use Rattle.jdeleted.specs.Deleted.{AreDeleted, AreFilesOf, entry_by, entry_of_file, flat_entry, flat_nodes}
-use Rattle.jdeleted.specs.Naming.{deleted_name, last_name}
+use Rattle.jdeleted.specs.Deleted.{AreDeleted, AreFilesOf, flat_entry_of, entry_of_file, flat_entry, flat_nodes}
+use Rattle.jdeleted.specs.Naming.{deleted_name, last_name_given}
 use Rattle.jdeleted.specs.FlatMounts.{AnswersDeleted}
 use Rattle.jdeleted.specs.declared.files.DeletedFile.{DeletedFile}
 use Rattle.jdeleted.proofs.ObjectLemmas.{flat_has_objects}
@@ -63,19 +63,19 @@ inode_of ns n c =
 -- ---- a flat node is an inode node, or an entry for a number
 
 abbrev IsFlat : List NodeRef → NodeRef → Type 0
-IsFlat ns a = ((n : InodeNode) × (node.Inode n ≡ a) × Contains ns (node.Inode n)) ⊎ ((i : ℕ) × (entry_by ns i ≡ a))
+IsFlat ns a = ((n : InodeNode) × (node.Inode n ≡ a) × Contains ns (node.Inode n)) ⊎ ((i : ℕ) × (flat_entry_of ns i ≡ a))
 
 flat_cases : (ns : List NodeRef) (numbers : List ℕ) (a : NodeRef) → Contains (flat_nodes ns numbers) a → IsFlat ns a
 flat_cases ns numbers a c =
     ⊎_elim
     (λ first. let found = Contains-map_from node.Inode (inodes ns) a first in inl (found.0, found.2, inode_of ns found.0 found.1))
-    (λ second. let found = Contains-map_from (entry_by ns) numbers a second in inr (found.0, found.2))
-    (Contains-append_cases (map node.Inode (inodes ns)) (map (entry_by ns) numbers) a c)
+    (λ second. let found = Contains-map_from (flat_entry_of ns) numbers a second in inr (found.0, found.2))
+    (Contains-append_cases (map node.Inode (inodes ns)) (map (flat_entry_of ns) numbers) a c)
 
-entries_apart : (ns : List NodeRef) (i j : ℕ) → NodesClash (entry_by ns i) (entry_by ns j) → ⊥
+entries_apart : (ns : List NodeRef) (i j : ℕ) → NodesClash (flat_entry_of ns i) (flat_entry_of ns j) → ⊥
 entries_apart ns i j clash =
     let same : i ≡ j = clash.version in
-    clash.contents (ap (λ (k : ℕ). flat_entry k (deleted_name k (last_name ns k))) same)
+    clash.contents (ap (λ (k : ℕ). flat_entry k (deleted_name k (last_name_given ns k))) same)
 
 flat_apart : (ns : List NodeRef) (numbers : List ℕ) → NoneClash ns → NoneClash (flat_nodes ns numbers)
 flat_apart ns numbers apart a b in_a in_b clash = by (flat_cases ns numbers a in_a) (flat_cases ns numbers b in_b)
@@ -83,12 +83,12 @@ flat_apart ns numbers apart a b in_a in_b clash = by (flat_cases ns numbers a in
     by : IsFlat ns a → IsFlat ns b → ⊥
     by (inl x) (inl y) = apart (node.Inode x.0) (node.Inode y.0) x.2 y.2 (subst (λ (m : NodeRef). NodesClash m (node.Inode y.0)) (sym x.1) (subst (λ (m : NodeRef). NodesClash a m) (sym y.1) clash))
     by (inl x) (inr y) =
-        let no : NodesClash (node.Inode x.0) (entry_by ns y.0) = subst (λ (m : NodeRef). NodesClash m (entry_by ns y.0)) (sym x.1) (subst (λ (m : NodeRef). NodesClash a m) (sym y.1) clash) in
+        let no : NodesClash (node.Inode x.0) (flat_entry_of ns y.0) = subst (λ (m : NodeRef). NodesClash m (flat_entry_of ns y.0)) (sym x.1) (subst (λ (m : NodeRef). NodesClash a m) (sym y.1) clash) in
         absurd no
     by (inr x) (inl y) =
-        let no : NodesClash (entry_by ns x.0) (node.Inode y.0) = subst (λ (m : NodeRef). NodesClash m (node.Inode y.0)) (sym x.1) (subst (λ (m : NodeRef). NodesClash a m) (sym y.1) clash) in
+        let no : NodesClash (flat_entry_of ns x.0) (node.Inode y.0) = subst (λ (m : NodeRef). NodesClash m (node.Inode y.0)) (sym x.1) (subst (λ (m : NodeRef). NodesClash a m) (sym y.1) clash) in
         absurd no
-    by (inr x) (inr y) = entries_apart ns x.0 y.0 (subst (λ (m : NodeRef). NodesClash m (entry_by ns y.0)) (sym x.1) (subst (λ (m : NodeRef). NodesClash a m) (sym y.1) clash))
+    by (inr x) (inr y) = entries_apart ns x.0 y.0 (subst (λ (m : NodeRef). NodesClash m (flat_entry_of ns y.0)) (sym x.1) (subst (λ (m : NodeRef). NodesClash a m) (sym y.1) clash))
 
 -- ---- they may be mounted
 
@@ -105,7 +105,7 @@ pub flat_mountable : (ns : List NodeRef) (numbers : List ℕ) → ((n : NodeRef)
 flat_mountable ns numbers are flat is n c =
     ⊎_elim
     (λ (x : (m : InodeNode) × (node.Inode m ≡ n.1) × Contains ns (node.Inode m)). subst IsMountable x.1 (are (node.Inode x.0) x.2))
-    (λ (y : (i : ℕ) × (entry_by ns i ≡ n.1)). subst IsMountable y.1 (λ (no : 1 ≡ 0). absurd (omega arith)))
+    (λ (y : (i : ℕ) × (flat_entry_of ns i ≡ n.1)). subst IsMountable y.1 (λ (no : 1 ≡ 0). absurd (omega arith)))
     (flat_cases ns numbers n.1 (subst (λ (l : List NodeRef). Contains l n.1) is (in_without flat n c)))
 
 -- ---- the mount

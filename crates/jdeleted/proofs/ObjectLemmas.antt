@@ -8,20 +8,20 @@ use Rattle.jmount.proofs.NumbersLemmas.{object-state_of}
 use Rattle.std.proofs.lemmas.List.{append-nil}
 use Rattle.std.proofs.lemmas.List.Elements.{filter_map-append}
 use Rattle.jmount.specs.StateOf.{inode_in}
-use Rattle.jdeleted.specs.Deleted.{entry_by, flat_nodes}
+use Rattle.jdeleted.specs.Deleted.{flat_entry_of, flat_nodes}
 use Rattle.jdeleted.specs.Laws as law
 
 inodes_of_inodes : (ns : List InodeNode) → inodes (map node.Inode ns) ≡ ns
 inodes_of_inodes [] = refl
 inodes_of_inodes (n ∷ ns) = ap (λ l. n ∷ l) (inodes_of_inodes ns)
 
-inodes_of_entries : (ns : List NodeRef) (numbers : List ℕ) → inodes (map (entry_by ns) numbers) ≡ []
+inodes_of_entries : (ns : List NodeRef) (numbers : List ℕ) → inodes (map (flat_entry_of ns) numbers) ≡ []
 inodes_of_entries ns [] = refl
 inodes_of_entries ns (i ∷ numbers) = inodes_of_entries ns numbers
 
 pub flat_inodes : (ns : List NodeRef) (numbers : List ℕ) → inodes (flat_nodes ns numbers) ≡ inodes ns
 flat_inodes ns numbers =
-    filter_map-append inode_in (map node.Inode (inodes ns)) (map (entry_by ns) numbers)
+    filter_map-append inode_in (map node.Inode (inodes ns)) (map (flat_entry_of ns) numbers)
     ∙ ap (λ l. inodes (map node.Inode (inodes ns)) ++ l) (inodes_of_entries ns numbers)
     ∙ append-nil (inodes (map node.Inode (inodes ns)))
     ∙ inodes_of_inodes (inodes ns)

@@ -8,7 +8,7 @@ use Rattle.jmount.specs.Shown.{readable}
 use Rattle.jmount.specs.StateOf.{inodes}
 use Rattle.jmount.specs.Tree.{State, object, has_bits, regular_bits}
 use Rattle.jcompact.specs.Matters.{NamesLeadTo}
-use Rattle.jdeleted.specs.Naming.{deleted_name, last_name}
+use Rattle.jdeleted.specs.Naming.{deleted_name, last_name_given}
 use Rattle.jdeleted.specs.declared.files.DeletedFile.{DeletedFile}
 
 -- ---- which files
@@ -42,12 +42,12 @@ flat_entry i name = record {
 }
 
 -- under the name that some nodes make for it
-abbrev pub entry_by : List NodeRef → ℕ → NodeRef
-entry_by ns i = Entry (flat_entry i (deleted_name i (last_name ns i)))
+abbrev pub flat_entry_of : List NodeRef → ℕ → NodeRef
+flat_entry_of ns i = Entry (flat_entry i (deleted_name i (last_name_given ns i)))
 
 -- the inode nodes of some nodes, and such an entry for each of these numbers
 abbrev pub flat_nodes : List NodeRef → List ℕ → List NodeRef
-flat_nodes ns numbers = map Inode (inodes ns) ++ map (entry_by ns) numbers
+flat_nodes ns numbers = map Inode (inodes ns) ++ map (flat_entry_of ns) numbers
 
 -- ---- the files as the program has them
 
@@ -58,4 +58,4 @@ entry_of_file file = Entry (flat_entry file.ino file.name.items)
 -- these have the numbers and the names of all deleted files
 abbrev pub AreFilesOf : State → List NodeRef → List DeletedFile → Type 0
 AreFilesOf s ns files = (numbers : List ℕ) × AreDeleted s numbers
-    × (map entry_of_file files ≡ map (entry_by ns) numbers)
+    × (map entry_of_file files ≡ map (flat_entry_of ns) numbers)

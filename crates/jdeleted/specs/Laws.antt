@@ -4,7 +4,7 @@ use Rattle.jnode.specs.declared.node.NodeRef.{NodeRef}
 use Rattle.jmount.specs.StateOf.{state_of}
 use Rattle.jmount.specs.Tree.{named, object}
 use Rattle.jdeleted.specs.Deleted.{flat_nodes}
-use Rattle.jdeleted.specs.Naming.{deleted_name, last_name}
+use Rattle.jdeleted.specs.Naming.{deleted_name, last_name_given}
 
 -- The flat file system has the objects of all nodes.
 abbrev pub FlatHasObjects : Type 0
@@ -25,4 +25,4 @@ abbrev pub FlatHasNames : Type 0
 FlatHasNames = (ns : List NodeRef) (numbers : List ℕ) (dir : ℕ) (name : List ℕ) (i : ℕ)
     → AreNumbers numbers
     → (named (state_of (flat_nodes ns numbers)) dir name ≡ Some i)
-    ↔ ((dir ≡ 1) × Contains numbers i × (name ≡ deleted_name i (last_name ns i)))
+    ↔ ((dir ≡ 1) × Contains numbers i × (name ≡ deleted_name i (last_name_given ns i)))

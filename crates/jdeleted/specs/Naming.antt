@@ -13,9 +13,9 @@ name_given i (Inode node) = None
 
 -- Of the names that nodes give to a number the one that comes last: versions order the entries of
 -- one directory, and not those of several.
-abbrev pub last_name : List NodeRef → ℕ → Option (List ℕ)
-last_name [] i = None
-last_name (node ∷ later) i = option_or (last_name later i) (name_given i node)
+abbrev pub last_name_given : List NodeRef → ℕ → Option (List ℕ)
+last_name_given [] i = None
+last_name_given (node ∷ later) i = option_or (last_name_given later i) (name_given i node)
 
 -- ---- cut where it is too long
 
@@ -38,7 +38,7 @@ abbrev pub greatest_name : ℕ
 greatest_name = 254
 
 -- rule: The file system that nodes make: The name of a deleted file, in a folder of such files.
---   definitions: jdeleted.Naming.deleted_name, jdeleted.Naming.last_name
+--   definitions: jdeleted.Naming.deleted_name, jdeleted.Naming.last_name_given
 --   code: jdeleted::naming::deleted_name, jdeleted::names::last_names
 --   laws: jdeleted::laws::names_are_apart
 -- the number in decimal digits, a dash, and as much of the name as fits

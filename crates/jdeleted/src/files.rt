@@ -4,7 +4,7 @@ ghost use Rattle.std.specs.Prelude.{◌≡◌, IfOk, map, option_map};
 ghost use Rattle.std.specs.BTreeMap.{get};
 ghost use Rattle.std.specs.Ordering.{nat_cmp};
 ghost use Rattle.jmount.specs.Collected.{without_addresses};
-ghost use Rattle.jdeleted.specs.Deleted.{AreFilesOf, entry_by, entry_of_file};
+ghost use Rattle.jdeleted.specs.Deleted.{AreFilesOf, flat_entry_of, entry_of_file};
 ghost use Rattle.jdeleted.specs.Naming.{deleted_name};
 
 use crate::finding::deleted_in;
@@ -38,7 +38,7 @@ fn files_named(
     nodes: &[(u32, NodeRef<'_>)],
 ) -> Result<Vec<DeletedFile>, AllocError>
     ensures { IfOk result (λ files. map entry_of_file files.items
-        ≡ map (entry_by (without_addresses nodes.now)) numbers.now) }
+        ≡ map (flat_entry_of (without_addresses nodes.now)) numbers.now) }
 {
     let names = last_names(alloc, nodes)?;
     let mut files = Vec::new(alloc);

@@ -2,7 +2,7 @@
 
 ghost use Rattle.std.specs.Prelude.{◌≡◌, IfOk};
 ghost use Rattle.jdeleted.specs.Deleted.{AreDeleted};
-ghost use Rattle.jdeleted.specs.Finding.{is_found};
+ghost use Rattle.jdeleted.specs.Finding.{is_found_deleted};
 
 use jcompact::unreached;
 use jmount::{Mounted, Object, REGULAR_BITS, type_bits};
@@ -11,7 +11,7 @@ use std::collections::BTreeSet;
 
 /// Whether an object is a regular file with content, and one of those that no names lead to.
 fn is_deleted(unreached: &BTreeSet<u32>, ino: u32, object: &Object) -> bool
-    ensures { result ≡ is_found unreached.now (ino, object.now) }
+    ensures { result ≡ is_found_deleted unreached.now (ino, object.now) }
 {
     type_bits(object.mode) == REGULAR_BITS && object.size > 0 && unreached.contains(&ino)
 }

@@ -5,7 +5,7 @@ ghost use Rattle.std.specs.BTreeMap.{get};
 ghost use Rattle.std.specs.Option.{option_or};
 ghost use Rattle.std.specs.Ordering.{nat_cmp};
 ghost use Rattle.jmount.specs.Collected.{without_addresses};
-ghost use Rattle.jdeleted.specs.Naming.{last_name, name_given};
+ghost use Rattle.jdeleted.specs.Naming.{last_name_given, name_given};
 
 use flashbase::Part;
 use jnode::NodeRef;
@@ -32,7 +32,7 @@ pub(crate) fn last_names<'n, 'a>(
     nodes: &'n [(u32, NodeRef<'a>)],
 ) -> Result<LastNames<'n, 'a>, AllocError>
     ensures { IfOk result (λ names. (i : ℕ) → option_map (λ n. n.now) (get nat_cmp names i)
-        ≡ last_name (without_addresses nodes.now) i) }
+        ≡ last_name_given (without_addresses nodes.now) i) }
 {
     let mut names = BTreeMap::new(alloc);
     for node in nodes {

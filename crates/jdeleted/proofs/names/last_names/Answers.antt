@@ -4,7 +4,7 @@ use Rattle.std.proofs.Math.Seq.{take-suc}
 use Rattle.std.proofs.lemmas.List.{map-append}
 use Rattle.jnode.specs.declared.node.NodeRef.{NodeRef}
 use Rattle.jmount.specs.Collected.{without_addresses}
-use Rattle.jdeleted.specs.Naming.{last_name, name_given}
+use Rattle.jdeleted.specs.Naming.{last_name_given, name_given}
 use Rattle.jdeleted.proofs.LastLemmas.{last_more}
 use Rattle.jdeleted.proofs.names.last_names.Goals as goal
 
@@ -17,5 +17,5 @@ loop-node-preserved c = λ i.
     c.in_ok-note_name.ensures i
     ∙ ap (option_or (name_given i n.1)) (c.loop-node.invariant i)
     ∙ sym (last_more (without_addresses (take k c.args.nodes.now)) n.1 i)
-    ∙ ap (λ (ns : List NodeRef). last_name ns i) (sym (map-append (λ (x : ℕ × NodeRef). x.1) (take k c.args.nodes.now) (n ∷ [])))
-    ∙ ap (λ (l : List (ℕ × NodeRef)). last_name (without_addresses l) i) (sym longer)
+    ∙ ap (λ (ns : List NodeRef). last_name_given ns i) (sym (map-append (λ (x : ℕ × NodeRef). x.1) (take k c.args.nodes.now) (n ∷ [])))
+    ∙ ap (λ (l : List (ℕ × NodeRef)). last_name_given (without_addresses l) i) (sym longer)
