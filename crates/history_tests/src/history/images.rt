@@ -194,6 +194,42 @@ pub(crate) const CASES: [Case; 4] = [
     ),
 ];
 
+/// Bounds of times, and the last line of the last image within them.
+pub(crate) const TIMES: [(Option<u32>, Option<u32>, &str); 5] = [
+    (
+        Some(7),
+        None,
+        "\ntotal live 2 superseded 1 deleted 1 deletion 0 unreached 0 obsolete 0\n",
+    ),
+    (
+        Some(8),
+        None,
+        "\ntotal live 1 superseded 1 deleted 1 deletion 0 unreached 0 obsolete 0\n",
+    ),
+    (
+        None,
+        Some(7),
+        "\ntotal live 1 superseded 0 deleted 0 deletion 0 unreached 0 obsolete 0\n",
+    ),
+    (
+        Some(8),
+        Some(8),
+        "\ntotal live 1 superseded 1 deleted 1 deletion 0 unreached 0 obsolete 0\n",
+    ),
+    (
+        Some(9),
+        Some(7),
+        "total live 0 superseded 0 deleted 0 deletion 0 unreached 0 obsolete 0\n",
+    ),
+];
+
+/// What is left of the objects 2, 3 and 4 of the last image; the digest is that of `sha256sum`.
+pub(crate) const OF_OBJECTS: &str = "was ino 2 versions 1 to 2 size 8 sha256 \
+9c56cc51b374c3ba189210d5b6d4bf57790d351c96c47c02190ecf1e430635ab\n\
+was ino 3 versions 1 to 1 size 8 sha256 \
+9c56cc51b374c3ba189210d5b6d4bf57790d351c96c47c02190ecf1e430635ab\n\
+was ino 4\n";
+
 /// What of the last image is told of the file 2.
 pub(crate) const OF_FILE: &str =
     "00000000 live entry pino 1 version 1 ino 2 mctime 7 type 8 name a\n\
