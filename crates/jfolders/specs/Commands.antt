@@ -39,8 +39,9 @@ extracts_part x part m = Then (answers (HasPart m.state part)) (λ s.
     answers (λ result. result ≡ Ok (extracted_told
     (hint_if_found x.options.endian x.options.geometry.block m) (found_mounted m) totals))))
 
--- an image in which a node is found is mounted, with `--decompress` through its compression, or with
--- `--deleted` as its deleted files, and the part of its tree that is asked for is made in the folder
+-- an image in which a node is found is mounted, with `--decompress` through its compression, or
+-- with `--deleted` as its deleted files, and the part of its tree that is asked for is made in the
+-- folder
 abbrev pub extracts_image : Extraction (List ℕ) → Option (List ℕ) → List ℕ → Act Told
 extracts_image x part image =
     Then (answers (HasNodes x.options.endian x.options.geometry.block None image)) (λ _.

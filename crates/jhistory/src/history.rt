@@ -59,7 +59,8 @@ fn put_extent<E: Order, T: Sink>(
         → totals.old ≡ word_totals (words_told E.order geometry.block image.now
         told.entry.words.now (selection told.entry.subjects told.entry.period) done)
         → totals.new ≡ word_totals (words_told E.order geometry.block image.now
-        told.entry.words.now (selection told.entry.subjects told.entry.period) (done ++ extent.now ∷ []))) }
+        told.entry.words.now (selection told.entry.subjects told.entry.period)
+        (done ++ extent.now ∷ []))) }
 {
     match extent_told::<E>(image, geometry, told, extent) {
         Some((word, line)) => put_line(word, line.as_slice(), totals, sink),
@@ -79,7 +80,8 @@ fn put_extents<E: Order, T: Sink>(
         image.now told.entry.words.now (selection told.entry.subjects told.entry.period))
         (image_extents E.order geometry.block image.now)) result }
     ensures totals { IfOk result (λ totals. totals ≡ word_totals (words_told E.order
-        geometry.block image.now told.entry.words.now (selection told.entry.subjects told.entry.period)
+        geometry.block image.now told.entry.words.now
+        (selection told.entry.subjects told.entry.period)
         (image_extents E.order geometry.block image.now))) }
 {
     let mut totals = Totals::new();
