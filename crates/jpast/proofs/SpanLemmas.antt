@@ -11,7 +11,7 @@ use Rattle.flashbase.proofs.MemberLemmas.{Contains-here, Contains-cases, Contain
 use Rattle.jnode.specs.declared.node.Dirent.{Dirent}
 use Rattle.jnode.specs.declared.node.InodeNode.{InodeNode}
 use Rattle.jnode.specs.declared.node.NodeRef.TheVariants.{Entry, Inode}
-use Rattle.jpast.specs.Pasts.{IsSpanIf, IsSpanOf, NodesAt, version_if, versions_of}
+use Rattle.jpast.specs.Pasts.{IsSpanIf, IsSpanOf, NodesAt, version_if, object_versions}
 use Rattle.jpast.specs.Spans.{AreSpansOf, HasSpans, and_version}
 use Rattle.jpast.specs.declared.past.Span.{Span}
 
@@ -73,15 +73,15 @@ listed : (b : Bool) (v : ℕ) → option_to_list (cond b (Some v) None) ≡ cond
 listed true v = refl
 listed false v = refl
 
-pub inode_noted : (ns : NodesAt) (addr : ℕ) (node : InodeNode) (spans : BTreeMap ℕ Span) → AreSpansOf (and_version (versions_of ns) node.ino node.version) spans
+pub inode_noted : (ns : NodesAt) (addr : ℕ) (node : InodeNode) (spans : BTreeMap ℕ Span) → AreSpansOf (and_version (object_versions ns) node.ino node.version) spans
     → HasSpans (ns ++ (addr, Inode node) ∷ []) spans
 inode_noted ns addr node spans are i =
     subst (λ (l : List ℕ). IsSpanIf l (get nat_cmp spans i))
-    (sym (filter_map_more (λ n. version_if i n.1) ns (addr, Inode node) ∙ ap (λ (l : List ℕ). versions_of ns i ++ l) (listed (node.ino == i) node.version))) (are i)
+    (sym (filter_map_more (λ n. version_if i n.1) ns (addr, Inode node) ∙ ap (λ (l : List ℕ). object_versions ns i ++ l) (listed (node.ino == i) node.version))) (are i)
 
 pub entry_noted : (ns : NodesAt) (addr : ℕ) (entry : Dirent) (spans : BTreeMap ℕ Span) → HasSpans ns spans → HasSpans (ns ++ (addr, Entry entry) ∷ []) spans
 entry_noted ns addr entry spans has i =
-    subst (λ (l : List ℕ). IsSpanIf l (get nat_cmp spans i)) (sym (filter_map_more (λ n. version_if i n.1) ns (addr, Entry entry) ∙ append-nil (versions_of ns i))) (has i)
+    subst (λ (l : List ℕ). IsSpanIf l (get nat_cmp spans i)) (sym (filter_map_more (λ n. version_if i n.1) ns (addr, Entry entry) ∙ append-nil (object_versions ns i))) (has i)
 
 pub nothing_noted : (spans : BTreeMap ℕ Span) → ((i : ℕ) → get nat_cmp spans i ≡ None) → HasSpans [] spans
 nothing_noted spans none i = subst (IsSpanIf []) (sym (none i)) refl

@@ -21,8 +21,8 @@ version_if i (Entry entry) = None
 version_if i (Inode node) = if node.ino == i then Some node.version else None
 
 -- those of the inode nodes of an object
-abbrev pub versions_of : NodesAt → ℕ → List ℕ
-versions_of ns i = filter_map (λ n. version_if i n.1) ns
+abbrev pub object_versions : NodesAt → ℕ → List ℕ
+object_versions ns i = filter_map (λ n. version_if i n.1) ns
 
 -- the lowest and the highest of some versions
 pub record IsSpanOf (versions : List ℕ) (span : Span) : Type 0 where
@@ -44,8 +44,8 @@ body_if (Some o) = if (type_bits o.mode == regular_bits) || (type_bits o.mode ==
     then Some o.body else None
 
 -- how many there are, and their digest by FIPS 180-4
-abbrev pub content_told : List ℕ → Content
-content_told bytes = record { size = length bytes; digest = sha256 bytes }
+abbrev pub content_summed : List ℕ → Content
+content_summed bytes = record { size = length bytes; digest = sha256 bytes }
 
 -- ---- both
 
@@ -55,8 +55,8 @@ content_told bytes = record { size = length bytes; digest = sha256 bytes }
 --   laws: jpast::examples::pasts_are_lines
 -- the versions of the inode nodes of an object, and its bytes in the tree that all nodes make
 pub record IsPastOf (ns : NodesAt) (t : State) (past : Past) : Type 0 where
-  pub span : IsSpanIf (versions_of ns past.ino) past.span
-  pub content : past.content ≡ option_map content_told (body_if (object t past.ino))
+  pub span : IsSpanIf (object_versions ns past.ino) past.span
+  pub content : past.content ≡ option_map content_summed (body_if (object t past.ino))
 
 -- one of each of these numbers, in order
 pub record ArePastsOf (ns : NodesAt) (t : State) (numbers : BTreeSet ℕ) (pasts : List Past)

@@ -2,7 +2,7 @@
 use Rattle.std.specs.Prelude.{ℕ, ◌==◌, List, [], ◌∷◌, ◌++◌, if◌then◌else◌}
 use Rattle.std.specs.BTreeMap.{BTreeMap, get}
 use Rattle.std.specs.Ordering.{nat_cmp}
-use Rattle.jpast.specs.Pasts.{IsSpanIf, NodesAt, versions_of}
+use Rattle.jpast.specs.Pasts.{IsSpanIf, NodesAt, object_versions}
 use Rattle.jpast.specs.declared.past.Span.{Span}
 
 -- each number has the span of its versions
@@ -16,4 +16,4 @@ and_version versions ino version i =
 
 -- those of the inode nodes among some nodes
 abbrev pub HasSpans : NodesAt → BTreeMap ℕ Span → Type 0
-HasSpans ns spans = AreSpansOf (versions_of ns) spans
+HasSpans ns spans = AreSpansOf (object_versions ns) spans

@@ -4,7 +4,7 @@ ghost use Rattle.std.specs.Prelude.{◌≡◌, ◌==◌, ◌||◌, length, optio
 ghost use Rattle.sha2.specs.Sha256.{sha256};
 ghost use Rattle.jmount.specs.Shown.{readable};
 ghost use Rattle.jmount.specs.Tree.{object, regular_bits, symlink_bits, type_bits};
-ghost use Rattle.jpast.specs.Pasts.{body_if, content_told};
+ghost use Rattle.jpast.specs.Pasts.{body_if, content_summed};
 
 use crate::past::Content;
 use jmount::{Mounted, Object, REGULAR_BITS, type_bits};
@@ -42,7 +42,7 @@ fn has_body(object: &Object) -> bool
 
 /// What the bytes of an object are, if it is a regular file or a symlink. Takes no memory.
 pub(crate) fn content_of(mounted: &Mounted<'_>, ino: u32) -> Option<Content>
-    ensures { result ≡ option_map content_told (body_if (object mounted.now.state ino)) }
+    ensures { result ≡ option_map content_summed (body_if (object mounted.now.state ino)) }
 {
     let Some(object) = mounted.object(ino) else {
         return None;
