@@ -235,7 +235,8 @@ total live 2 superseded 0 deleted 0 deletion 0 unreached 0 obsolete 0\n",
         wanted: "open a.img\n\
 read a.img 124\n\
 print\n\
-total live 0 superseded 0 deleted 0 deletion 0 unreached 0 obsolete 0\n",
+total live 0 superseded 0 deleted 0 deletion 0 unreached 0 obsolete 0\n\
+was ino 1\n",
         status: 0,
     },
     // a path is judged by the image, and only a wrong `\` before it is opened

@@ -1,6 +1,5 @@
 -- An image of which something would be lost is judged by looking alone, and a fault is its own event.
 use Rattle.std.proofs.Common.{◌≡◌, ℕ, Bool, true, false, List, Ok, Err}
-use Rattle.std.specs.Prelude.{if◌then◌else◌}
 use Rattle.jedge.specs.Acts.{Act, answers}
 use Rattle.jedge.specs.Calls.{Event}
 use Rattle.jedge.specs.Laws.{BlamesEvent, BlamesFailed, MakesNothing}
@@ -9,7 +8,7 @@ use Rattle.jedge.specs.declared.fault.Fault.{Fault}
 use Rattle.jedge.specs.declared.fault.Fault.TheVariants as fault
 use Rattle.jedge.proofs.BlamingLemmas.{then_blames}
 use Rattle.jedge.proofs.LookingLemmas.{answers_looks, same, then_looks}
-use Rattle.jmakes.specs.Keeping.{AskedBase, IsFindingsOf, KeepsFindings, count_lost, keeps_base, keeps_findings, would_lose}
+use Rattle.jmakes.specs.Keeping.{AskedBase, IsFindingsOf, KeepsFindings, count_lost, keeps_base, keeps_findings, keeps_if, would_lose}
 use Rattle.jmakes.specs.Making.{compares_names}
 
 pub compares_looks : (first second : List ℕ) → MakesNothing (compares_names first second)
@@ -41,20 +40,16 @@ findings_blames name made n = then_blames (compares_names name made) _ (compares
 none_blames : BlamesFailed (answers (λ result. result ≡ Ok (tt {0})))
 none_blames events f is = let no : ⊥ = (let wrong = is.1 in cc) in absurd no
 
--- by whether something would be lost
-abbrev keeps_by : AskedBase → List ℕ → Viewed → Bool → Act Unit
-keeps_by base made view lose = if lose then keeps_findings base.image made (count_lost view.found) else answers (λ result. result ≡ Ok (tt {0}))
+if_looks : (lose : Bool) (name made : List ℕ) (n : ℕ) → MakesNothing (keeps_if lose name made n)
+if_looks true name made n = findings_looks name made n
+if_looks false name made n = answers_looks _
 
-looks_by : (base : AskedBase) (made : List ℕ) (view : Viewed) (lose : Bool) → MakesNothing (keeps_by base made view lose)
-looks_by base made view true = findings_looks base.image made (count_lost view.found)
-looks_by base made view false = answers_looks _
-
-blames_by : (base : AskedBase) (made : List ℕ) (view : Viewed) (lose : Bool) → BlamesFailed (keeps_by base made view lose)
-blames_by base made view true = findings_blames base.image made (count_lost view.found)
-blames_by base made view false = none_blames
+if_blames : (lose : Bool) (name made : List ℕ) (n : ℕ) → BlamesFailed (keeps_if lose name made n)
+if_blames true name made n = findings_blames name made n
+if_blames false name made n = none_blames
 
 pub keeps_looks : (base : AskedBase) (made : List ℕ) (view : Viewed) → MakesNothing (keeps_base base made view)
-keeps_looks base made view = looks_by base made view (would_lose base view)
+keeps_looks base made view = if_looks (would_lose base view) base.image made (count_lost view.found)
 
 pub keeps_blames : (base : AskedBase) (made : List ℕ) (view : Viewed) → BlamesFailed (keeps_base base made view)
-keeps_blames base made view = blames_by base made view (would_lose base view)
+keeps_blames base made view = if_blames (would_lose base view) base.image made (count_lost view.found)

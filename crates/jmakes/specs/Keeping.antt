@@ -1,5 +1,5 @@
 -- An image that is gone on from, of which a base was made that has not all of it: it is not lost.
-use Rattle.std.specs.Prelude.{◌≡◌, ◌==◌, ◌&&◌, not, ℕ, Bool, true, false, List, if◌then◌else◌, Option, Some, None, Result, Ok, Err, string_bytes}
+use Rattle.std.specs.Prelude.{◌≡◌, ◌==◌, ◌&&◌, not, ℕ, Bool, true, false, List, Option, Some, None, Result, Ok, Err, string_bytes}
 use Rattle.jcommand.specs.declared.parsed.Appending.{Appending}
 use Rattle.jreport.specs.FoundIn.{found_count}
 use Rattle.jreport.specs.declared.findings.Found.{Found}
@@ -57,11 +57,14 @@ keeps_findings name made n =
 abbrev pub would_lose : AskedBase → Viewed → Bool
 would_lose base view = not base.force && not (count_lost view.found == 0)
 
+abbrev pub keeps_if : Bool → List ℕ → List ℕ → ℕ → Act Unit
+keeps_if true name made n = keeps_findings name made n
+keeps_if false name made n = answers (λ result. result ≡ Ok (tt {0}))
+
 -- rule: What is printed: An image with findings is not replaced by one that goes on from it.
 --   definitions: jmakes.Keeping.keeps_base, jmakes.Keeping.would_lose
 --   code: jmakes::keeping::keep_base
 -- An image that its base lacks a part of is not the file that is made.
 abbrev pub keeps_base : AskedBase → List ℕ → Viewed → Act Unit
 keeps_base base made view =
-    if would_lose base view then keeps_findings base.image made (count_lost view.found)
-    else answers (λ result. result ≡ Ok (tt {0}))
+    keeps_if (would_lose base view) base.image made (count_lost view.found)
