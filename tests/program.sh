@@ -227,13 +227,13 @@ run ls sound; want 0 "$root"$'\n- 0644 0 0 11 0 2 /a' ""
 run cat sound /a; want 0 "hello flash" ""; whole content
 run ls flipped; want 0 "$root"$'\n- 0644 0 0 11 0 2 /a' "$(noted 1)"
 run cat flipped /a; whole zeros
-line="the note of $line"
-[[ $got == 0 && $(cat err) == "$(noted 1)" ]]; count $?
+line="the notes of $line"
+[[ $got == 0 && $(cat err) == "$(missing 5)"$'\n'"$(noted 1)" ]]; count $?
 run ls crossing; want 0 "$root"$'\n- 0644 0 0 11 0 2 /a' ""
 run cat crossing /a; want 0 "hello flash" ""; whole content
 run ls --block 4096 crossing; want 0 "$root"$'\n- 0644 0 0 11 0 2 /a' "$(noted 2)"
 run cat --block 4096 crossing /a; whole zeros
-[[ $got == 0 && $(cat err) == "$(noted 2)" ]]; count $?
+[[ $got == 0 && $(cat err) == "$(missing 5)"$'\n'"$(noted 2)" ]]; count $?
 run cat --block 4096 crossing /b; want 1 "" "jffs2_image: P3 Path NotFound"
 run check --scan --block 4096 crossing; want 3 "*findings 2" ""
 run cat block /; want 1 "" "jffs2_image: P4 NotRegular"

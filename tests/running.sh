@@ -10,9 +10,14 @@ cd "$folder" || exit 1
 passed=0
 failed=0
 
-# count WHETHER: counts the last run as passed (0) or failed.
+# count WHETHER: counts the last run as passed (0) or failed, and prints where it was called from.
 count() {
-    if [[ $1 == 0 ]]; then passed=$((passed + 1)); else failed=$((failed + 1)); fi
+    if [[ $1 == 0 ]]; then
+        passed=$((passed + 1))
+    else
+        failed=$((failed + 1))
+        echo "FAILED: $(caller)"
+    fi
 }
 
 # What is said of a fault after its line: the first words of the fault, and the sentence.
@@ -123,6 +128,11 @@ noted() {
     local word=findings
     [[ $1 == 1 ]] && word=finding
     echo "jffs2_image: note: $1 $word, see check --scan; a wrong --block or --endian shows as findings too, see info"
+}
+
+# missing N: what cat says of the bytes of its file that no node has, in an image with findings
+missing() {
+    echo "jffs2_image: note: bytes that no node has, zeros here: $1; see damage"
 }
 
 # unseen N [OTHERS]: the same where no node is found, and the other byte order has OTHERS nodes, or none
