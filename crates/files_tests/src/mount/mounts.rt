@@ -19,6 +19,7 @@ const DEFAULT_ROOT: Object = Object {
     atime: 0,
     mtime: 0,
     ctime: 0,
+    device: None,
 };
 
 const CUT_AND_WRITTEN: Object = Object {
@@ -30,6 +31,7 @@ const CUT_AND_WRITTEN: Object = Object {
     atime: 7,
     mtime: 8,
     ctime: 9,
+    device: None,
 };
 
 const ROOT_OF_VERSION_0: Object = Object {
@@ -41,6 +43,7 @@ const ROOT_OF_VERSION_0: Object = Object {
     atime: 7,
     mtime: 8,
     ctime: 9,
+    device: None,
 };
 
 /// What is there before a node is written.
