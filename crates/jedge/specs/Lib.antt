@@ -6,6 +6,7 @@ pub mod Faults
 pub mod Images
 pub mod Inflating
 pub mod Laws
+pub mod Parting
 pub mod Showing
 pub mod Sparing
 pub mod Streams

@@ -18,6 +18,7 @@ pub mod info;
 pub mod laws;
 pub mod list;
 pub mod mounting;
+pub mod parting;
 pub mod reading;
 pub mod reporting;
 pub mod spare;
