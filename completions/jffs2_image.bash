@@ -7,21 +7,21 @@ _jffs2_image_options() {
     case $1 in
         check) echo "$plain $auto --scan --shape --decompress --json $help" ;;
         ls) echo "$plain $auto --decompress --json $help" ;;
-        cat) echo "$plain $auto --decompress --ino --upto $help" ;;
+        cat) echo "$plain $auto --decompress --strict --ino --upto $help" ;;
         build) echo "$plain $write --weak --compress $place $out $help" ;;
-        append) echo "$plain $auto $write --weak $place --decompress $out $help" ;;
+        append) echo "$plain $auto $write --weak $place --decompress --force $out $help" ;;
         update) echo "$plain $auto $write --plain --tail $place $out $help" ;;
         decompress) echo "$plain $auto --clashes --atomic --force $out $help" ;;
         compress) echo "$plain $auto --atomic --force $out $help" ;;
         compact) echo "$plain $auto --blocks --clashes $place --force $out $help" ;;
-        extract) echo "$plain $auto --decompress --owners --quiet $help" ;;
+        extract) echo "$plain $auto --decompress --deleted --owners --quiet $help" ;;
         listing) echo "--owner --time --quiet $help" ;;
         info) echo "$region --json $help" ;;
         cuts) echo "$plain $auto $write --on --compress --decompress --update --plain --tail --json $help" ;;
         diff) echo "$plain $auto --decompress --times --json $help" ;;
         damage) echo "$plain $auto --decompress --json $help" ;;
         map) echo "$plain $auto --svg --json $help" ;;
-        history) echo "$plain $auto --json $help" ;;
+        history) echo "$plain $auto --since --until --json $help" ;;
         pack) echo "$plain $write --weak --compress $place $out --owner --time --quiet $help" ;;
         verify) echo "$plain $auto --times --owner --time --quiet --json $help" ;;
         '') echo "$help -V --version" ;;
@@ -32,7 +32,7 @@ _jffs2_image_options() {
 _jffs2_image_count() {
     case $1 in
         --owner) echo 2 ;;
-        -e | --block | --eraseblock | --endian | --blocks | --page | --time | --on | --clashes | --oob | --offset | --length | --ino | --upto | -o | --output) echo 1 ;;
+        -e | --block | --eraseblock | --endian | --blocks | --page | --time | --on | --clashes | --oob | --offset | --length | --ino | --upto | --since | --until | -o | --output) echo 1 ;;
         *) echo 0 ;;
     esac
 }

@@ -65,7 +65,7 @@ complete -c jffs2_image -n '__jffs2_image_in build append update decompress comp
     -d 'Replace an old OUT only if all goes well'
 complete -c jffs2_image -n '__jffs2_image_in build append update decompress compress compact pack' -s o -l output -r \
     -d 'File to write, in place of OUT'
-complete -c jffs2_image -n '__jffs2_image_in decompress compress compact' -l force \
+complete -c jffs2_image -n '__jffs2_image_in append decompress compress compact' -l force \
     -d 'Write over an IMAGE that is OUT'
 complete -c jffs2_image -n '__jffs2_image_in extract listing pack verify' -l quiet -d 'Print no progress'
 complete -c jffs2_image -n '__jffs2_image_in listing pack verify' -l owner -x -d 'Owner and group'
@@ -76,11 +76,15 @@ complete -c jffs2_image -n '__jffs2_image_in check' -l scan -d 'Report alone, no
 complete -c jffs2_image -n '__jffs2_image_in check' -l shape -d 'Whether the directories make a tree'
 complete -c jffs2_image -n '__jffs2_image_in update cuts' -l plain -d 'Do not compress new nodes'
 complete -c jffs2_image -n '__jffs2_image_in update cuts' -l tail -d 'Write into begun blocks too'
+complete -c jffs2_image -n '__jffs2_image_in cat' -l strict -d 'Status 3 if no node has some bytes'
 complete -c jffs2_image -n '__jffs2_image_in cat' -l ino -x -d 'Inode, in place of a path'
 complete -c jffs2_image -n '__jffs2_image_in cat' -l upto -x -d 'Highest version that counts'
 complete -c jffs2_image -n '__jffs2_image_in map' -l svg -d 'One SVG picture'
 complete -c jffs2_image -n '__jffs2_image_in cuts' -l on -r -d 'Image to go on from'
 complete -c jffs2_image -n '__jffs2_image_in cuts' -l update -d 'What update would write'
+complete -c jffs2_image -n '__jffs2_image_in history' -l since -x -d 'No node of an earlier time'
+complete -c jffs2_image -n '__jffs2_image_in history' -l until -x -d 'No node of a later time'
+complete -c jffs2_image -n '__jffs2_image_in extract' -l deleted -d 'Removed files, as INO-NAME'
 complete -c jffs2_image -n '__jffs2_image_in extract' -l owners -d 'Set the owners of the image'
 complete -c jffs2_image -n '__jffs2_image_in decompress compact' -l clashes -x -a higher \
     -d 'If nodes clash, keep one by its address'

@@ -10,6 +10,7 @@ with directories that lie in one another: what is told is what a model has that 
 directories have several names, at random: each path that `ls` lists is told, and a model that walks as it does has the same. The
 last line is 'N passed, M failed'.
 """
+import collections
 import random
 import re
 import sys
@@ -149,6 +150,21 @@ def noted(errors):
     return int(lines[0].split()[2]) if len(lines) == 1 else -1 if lines else 0
 
 
+def is_told_by_cat(told, options, found):
+    """Whether `cat` of each file counts the bytes of its gaps, of an image with so many findings."""
+    bare = collections.Counter()
+    for line in told:
+        gap = re.fullmatch(r"gap ino \d+ bytes (\d+) to (\d+) in (.*)", line)
+        if gap:
+            bare[gap[3]] += int(gap[2]) - int(gap[1])
+    for path, count in bare.items():
+        done, note = run("cat", "--strict", *options, "flipped.img", path), hostile_model.missing_note(count, found)
+        said = b"".join(line for line in done.stderr.splitlines(keepends=True) if b"that no node has" in line)
+        if done.returncode != (3 if note else 0) or said != note:
+            return False
+    return True
+
+
 def flips(number, order):
     options = ["--block", "8192", "--endian", order]
     write("listing", LISTINGS[number])
@@ -170,6 +186,7 @@ def flips(number, order):
         counted = len(missing) == dangling and told[-1:] == [total_of(told)]
         found = int(next(line for line in report if line.startswith("total ")).split()[-1])
         status = done.returncode == (3 if found or len(told) > 1 else 0) and noted(done.stderr) == found
+        right = right and is_told_by_cat(told, options, found)
         verdict(f"image {number} {order}, byte {place}: {told}", right and counted and status)
 
 
@@ -212,6 +229,7 @@ def packed_flips(method, order, number):
         done = run("damage", *options, "flipped.img")
         told = done.stdout.decode().splitlines()
         right = is_right(place, nodes, told, changed_paths("sound.img", "flipped.img", options))
+        right = right and is_told_by_cat(told, options, hostile_model.report(flipped, 8192, order)[3])
         verdict(f"{method}, byte {place}: {told}", right and is_counted(told, flipped, order, done))
 
 

@@ -534,6 +534,24 @@ for row in "decompress|attributed|plain.img" "decompress --clashes higher|attrib
 done
 run append --decompress --blocks 4 attributed create out.img; want 3 "accepted 1 nodes 2 bytes *" "$left"
 run append --decompress --blocks 4 plain.img create again.img; same out.img again.img
+# nor by an image that goes on from it
+for row in "attributed|attributes|2 findings" "damaged|findings|1 finding"; do
+    IFS='|' read -r image kind count <<< "$row"
+    cp $image whole; ln whole other
+    for option in "" --atomic --pad; do
+        for names in "whole create whole" "whole create other" "other create ./whole"; do
+            run append --decompress --blocks 4 $option $names
+            want 1 "" "$(spared "${names%% *}" | sed "s/1 finding/$count/")"; same whole $image; same other $image
+        done
+    done
+    run append --decompress --blocks 4 $image create made.img; made=$got
+    run append --decompress --force --blocks 4 whole create other; want "$made" "accepted 1 nodes 2 bytes *" "*"
+    same whole made.img; same other made.img; rm -f other
+done
+cp attributed_plain whole
+run append --blocks 4 whole create whole; want 0 "accepted 1 nodes 2 bytes *" ""
+cp plain.img whole
+run append --decompress --blocks 4 whole create whole; want 0 "accepted 1 nodes 2 bytes *" ""; same whole again.img
 run append --blocks 4 attributed_plain create out.img; want 0 "accepted 1 nodes 2 bytes *" ""
 run extract --decompress attributed made; rm -rf made
 want 3 "" "jffs2_image: note: nodes of extended attributes, which are not extracted: 2"

@@ -557,8 +557,11 @@ def on_any(number, image):
     for name in (b"a", b"b"):
         content, why = model.cat(image, name)
         done = run(["cat", "any.img", f"/{name.decode()}"])
-        wanted = refusal(why) if why else Done(0, content, note)
+        lacks = model.missing_note(model.missing(image, name), findings)
+        wanted = refusal(why) if why else Done(0, content, lacks + note)
         verdict(f"cat of image {number}", done == wanted, done)
+        done = run(["cat", "--strict", "any.img", f"/{name.decode()}"])
+        verdict(f"cat --strict of image {number}", done == wanted._replace(status=3 if lacks and not why else wanted.status), done)
     done = run(["check", "--scan", "any.img"])
     verdict(f"check --scan of image {number}", done.status in (0, 3) and not done.err, done)
     goes_on(number, lines, refused, notes_on(image, findings))
@@ -768,7 +771,8 @@ def on_converted(about, image, size, order):
         content, refused = opened.cat(image, name.encode(), size, sign)
         done = run(["cat", "--decompress", *words, "any.img", f"/{name}"])
         if "/" not in name:
-            wanted = fault(refused) if refused else Done(0, content, shown)
+            lacks = model.missing_note(opened.missing(image, name.encode(), size, sign), count)
+            wanted = fault(refused) if refused else Done(0, content, lacks + shown)
             verdict(f"cat --decompress of /{name} in {about}", done == wanted, done)
     lines, why = opened.converted(image, size, sign)
     converted_goes_on(about, words, (lines, why, Done(3 if left else 0, b"accepted 1 nodes 2 bytes 124\n", note)), (result, size, sign))

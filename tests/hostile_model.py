@@ -242,6 +242,30 @@ def cat(image, name, size=65536, order="<"):
     return (b"", fault) if fault else file_of(nodes, name)
 
 
+def missing(image, name, size=65536, order="<"):
+    """How many bytes of the file of this name in the root no node has."""
+    return missing_in(report(image, size, order)[1], name)
+
+
+def missing_in(nodes, name):
+    """The same of the nodes of an image that mounts."""
+    objects, names = tree(nodes)
+    ino = dict(names.get(1, [])).get(name)
+    if ino not in objects or objects[ino][2] >> 12 != 8:
+        return 0
+    bare, end = 0, 0
+    ranges = sorted((held[9], held[9] + held[10]) for _, what, held in nodes if what == "inode" and held[0] == ino)
+    for start, stop in [*ranges, (objects[ino][5],) * 2]:
+        bare += max(min(start, objects[ino][5]) - end, 0)
+        end = max(end, stop)
+    return bare
+
+
+def missing_note(count, findings):
+    """What `cat` says of so many bytes, of an image with so many findings."""
+    return f"jffs2_image: note: bytes that no node has, zeros here: {count}; see damage\n".encode() if count and findings else b""
+
+
 def file_of(nodes, name):
     """The same of the nodes of an image that mounts."""
     objects, names = tree(nodes)

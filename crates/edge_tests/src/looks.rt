@@ -4,6 +4,7 @@
 ghost use Rattle.std.specs.Prelude.{◌≡◌};
 
 use crate::checks::{equal_at, expect_at};
+use crate::damage::{GAPPED, SHORT_BYTES};
 use crate::host::MemoryHost;
 use crate::info::IMAGE;
 use crate::plan::{Lacking, Plan, Stream};
@@ -32,6 +33,7 @@ enum Ask {
     },
     Cat {
         decompress: bool,
+        strict: bool,
         path: &'static str,
     },
 }
@@ -84,6 +86,7 @@ const ALL: Ask = Ask::List {
 
 const CAT: Ask = Ask::Cat {
     decompress: false,
+    strict: false,
     path: "/a",
 };
 
@@ -384,7 +387,62 @@ jffs2_image: note: standard output took no more; what it got is cut off\n",
     },
 ];
 
-const CATS: [Row; 8] = [
+/// The file `/a` of four bytes that no node has, and dirt behind its nodes.
+const SHORT: Plan<'static> = Plan {
+    bytes: &SHORT_BYTES,
+    ..IMAGE
+};
+
+const CATS: [Row; 11] = [
+    // bytes that no node has
+    Row {
+        ask: CAT,
+        plan: SHORT,
+        block: 4096,
+        wanted: "open a.img\n\
+read a.img 116\n\
+print\n\
+\0\0\0\0\
+say\n\
+jffs2_image: note: bytes that no node has, zeros here: 4; see damage\n\
+jffs2_image: note: 1 finding, see check --scan; a wrong --block or --endian shows as findings too, see info\n",
+        status: 0,
+    },
+    Row {
+        ask: Ask::Cat {
+            decompress: true,
+            strict: true,
+            path: "/a",
+        },
+        plan: SHORT,
+        block: 4096,
+        wanted: "open a.img\n\
+read a.img 116\n\
+print\n\
+\0\0\0\0\
+say\n\
+jffs2_image: note: bytes that no node has, zeros here: 4; see damage\n\
+jffs2_image: note: 1 finding, see check --scan; a wrong --block or --endian shows as findings too, see info\n",
+        status: 3,
+    },
+    // without findings they are not looked for
+    Row {
+        ask: Ask::Cat {
+            decompress: false,
+            strict: true,
+            path: "/a",
+        },
+        plan: Plan {
+            bytes: &GAPPED,
+            ..IMAGE
+        },
+        block: 4096,
+        wanted: "open a.img\n\
+read a.img 112\n\
+print\n\
+\0\0\0\0",
+        status: 0,
+    },
     Row {
         ask: CAT,
         plan: FILE,
@@ -398,6 +456,7 @@ hi",
     Row {
         ask: Ask::Cat {
             decompress: true,
+            strict: false,
             path: "/\\x61",
         },
         plan: FILE,
@@ -411,6 +470,7 @@ hi",
     Row {
         ask: Ask::Cat {
             decompress: true,
+            strict: false,
             path: "/a",
         },
         plan: BROKEN_IMAGE,
@@ -425,6 +485,7 @@ jffs2_image: note: the data of the node break the rules of their method, or give
     Row {
         ask: Ask::Cat {
             decompress: true,
+            strict: false,
             path: "/",
         },
         plan: BROKEN_IMAGE,
@@ -439,6 +500,7 @@ jffs2_image: note: the path leads to something that is no regular file\n",
     Row {
         ask: Ask::Cat {
             decompress: false,
+            strict: false,
             path: "a\\",
         },
         plan: FILE,
@@ -451,6 +513,7 @@ jffs2_image: note: a path begins with /, as ls prints it, and no name in it is e
     Row {
         ask: Ask::Cat {
             decompress: false,
+            strict: false,
             path: "/",
         },
         plan: FILE,
@@ -519,11 +582,16 @@ fn runs<E: Order, R: Abort>(host: &mut MemoryHost<'_, R>, ask: Ask, options: Opt
                 path,
             },
         ),
-        Ask::Cat { decompress, path } => run_cat::<E, _>(
+        Ask::Cat {
+            decompress,
+            strict,
+            path,
+        } => run_cat::<E, _>(
             host,
             FileContent {
                 options,
                 decompress,
+                strict,
                 image,
                 path,
             },

@@ -299,6 +299,8 @@ fn runs<E: Order, R: Abort>(host: &mut MemoryHost<'_, R>, ask: Ask, options: Opt
             host,
             NodeHistory {
                 options,
+                since: None,
+                until: None,
                 image,
                 path,
             },

@@ -93,13 +93,14 @@ abbrev pub ls_app : App
 ls_app = with_rule (with_rule (decompressing (printer (codes "ls"))) (word (codes "IMAGE")))
     (optional_word (codes "PATH"))
 
--- `cat [--decompress] [--ino I [--upto V]] [--auto] [REGION] [--block N] [--endian ORDER] IMAGE
--- [PATH]`
+-- `cat [--decompress] [--strict] [--ino I [--upto V]] [--auto] [REGION] [--block N] [--endian
+-- ORDER] IMAGE [PATH]`
 abbrev pub cat_app : App
 cat_app = with_rule
     (with_rule
-    (with_rule (with_rule (decompressing (reader (codes "cat"))) (option_of (codes "ino")))
-    (option_of (codes "upto")))
+    (with_rule
+    (with_rule (with_rule (decompressing (reader (codes "cat"))) (flag (codes "strict")))
+    (option_of (codes "ino"))) (option_of (codes "upto")))
     (word (codes "IMAGE")))
     (optional_word (codes "PATH"))
 
@@ -135,13 +136,14 @@ abbrev pub build_app : App
 build_app =
     writing (with_rule (placing (compressing (noting (codes "build")))) (word (codes "LISTING")))
 
--- `append --blocks N [--page N] [--weak] [--pad] [--atomic] [--decompress] [--auto] [REGION]
--- [--block N] [--endian ORDER] IMAGE LISTING OUT`
+-- `append --blocks N [--page N] [--weak] [--pad] [--atomic] [--decompress] [--force] [--auto]
+-- [REGION] [--block N] [--endian ORDER] IMAGE LISTING OUT`
 abbrev pub append_app : App
 append_app = writing
     (with_rule
     (with_rule
-    (decompressing (placing (automatic (noting (codes "append"))))) (word (codes "IMAGE")))
+    (with_rule (decompressing (placing (automatic (noting (codes "append")))))
+    (flag (codes "force"))) (word (codes "IMAGE")))
     (word (codes "LISTING")))
 
 -- the way in which `update` writes: uncompressed, and into the rests of begun blocks
@@ -210,13 +212,14 @@ pack_app = writing
     (flag (codes "weak"))))))
     (word (codes "DIR")))
 
--- `extract [--decompress] [--auto] [REGION] [--block N] [--endian ORDER] [--owners] [--quiet]
--- IMAGE DIR [PATH]`
+-- `extract [--decompress] [--deleted] [--auto] [REGION] [--block N] [--endian ORDER] [--owners]
+-- [--quiet] IMAGE DIR [PATH]`
 abbrev pub extract_app : App
 extract_app = with_rule
     (with_rule
     (with_rule
-    (with_rule (with_rule (decompressing (reader (codes "extract")))
+    (with_rule
+    (with_rule (with_rule (decompressing (reader (codes "extract"))) (flag (codes "deleted")))
     (flag (codes "owners"))) (flag (codes "quiet"))) (word (codes "IMAGE")))
     (word (codes "DIR")))
     (optional_word (codes "PATH"))
@@ -262,9 +265,12 @@ abbrev pub map_app : App
 map_app = with_rule (with_rule (printer (codes "map")) (flag (codes "svg")))
     (word (codes "IMAGE"))
 
--- `history [--auto] [REGION] [--block N] [--endian ORDER] IMAGE [PATH]`
+-- `history [--since T] [--until T] [--auto] [REGION] [--block N] [--endian ORDER] IMAGE [PATH]`
 abbrev pub history_app : App
-history_app = with_rule (with_rule (printer (codes "history")) (word (codes "IMAGE")))
+history_app = with_rule
+    (with_rule
+    (with_rule (with_rule (printer (codes "history")) (option_of (codes "since")))
+    (option_of (codes "until"))) (word (codes "IMAGE")))
     (optional_word (codes "PATH"))
 
 -- `verify [--times] [--owner UID GID] [--time T] [--quiet] [--auto] [REGION] [--block N]

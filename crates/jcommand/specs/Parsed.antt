@@ -13,6 +13,7 @@ use Rattle.jscan.specs.declared.page.Page.TheVariants.{P4096, P8192, P16384}
 use Rattle.jline.specs.Read.{◌>>=◌}
 use Rattle.jcommand.specs.Commands.{program}
 use Rattle.jcommand.specs.Sizes.{size_number}
+use Rattle.jcommand.specs.declared.parsed.Appending.{Appending}
 use Rattle.jcommand.specs.declared.parsed.Building.{Building}
 use Rattle.jcommand.specs.declared.parsed.Check.{Check}
 use Rattle.jcommand.specs.declared.parsed.Command.{Command}
@@ -105,6 +106,15 @@ target_view t = record {
 abbrev pub building_view : Building (Bor Text) → Building Text
 building_view b = record { target = target_view b.target; listing = b.listing.now }
 
+abbrev pub appending_view : Appending (Bor Text) → Appending Text
+appending_view a = record {
+  target = target_view a.target;
+  decompress = a.decompress;
+  force = a.force;
+  image = a.image.now;
+  listing = a.listing.now;
+}
+
 abbrev pub cuts_through_view : CutsThrough (Bor Text) → CutsThrough Text
 cuts_through_view c = record {
   options = c.options;
@@ -165,6 +175,8 @@ inode_view c = record {
 abbrev pub history_view : NodeHistory (Bor Text) → NodeHistory Text
 history_view h = record {
   options = h.options;
+  since = h.since;
+  until = h.until;
   image = h.image.now;
   path = option_map (λ p. p.now) h.path;
 }
@@ -173,6 +185,7 @@ abbrev pub extraction_view : Extraction (Bor Text) → Extraction Text
 extraction_view x = record {
   options = x.options;
   decompress = x.decompress;
+  deleted = x.deleted;
   owners = x.owners;
   quiet = x.quiet;
   image = x.image.now;
@@ -224,6 +237,7 @@ command_view (command.List l) = command.List (record {
 command_view (command.Cat c) = command.Cat (record {
   options = c.options;
   decompress = c.decompress;
+  strict = c.strict;
   image = c.image.now;
   path = c.path.now;
 })
@@ -236,12 +250,7 @@ command_view (command.Map m) = command.Map (mapping_view m)
 command_view (command.History h) = command.History (history_view h)
 command_view (command.Build b) = command.Build (building_view b)
 command_view (command.BuildCompressed b) = command.BuildCompressed (building_view b)
-command_view (command.Append a) = command.Append (record {
-  target = target_view a.target;
-  decompress = a.decompress;
-  image = a.image.now;
-  listing = a.listing.now;
-})
+command_view (command.Append a) = command.Append (appending_view a)
 command_view (command.Update u) = command.Update (updating_view u)
 command_view (command.Cuts c) = command.Cuts (record {
   options = c.options;
@@ -382,6 +391,7 @@ path_content_in rows = image_in rows >>= λ i. first_of (codes "PATH") rows >>= 
     Some (command.Cat (record {
       options = i.options;
       decompress = is_given (codes "decompress") rows;
+      strict = is_given (codes "strict") rows;
       image = i.image;
       path = path;
     }))
@@ -407,7 +417,7 @@ is_on_path rows = is_none (first_of (codes "ino") rows) && is_none (first_of (co
 
 abbrev pub is_on_inode : List Row → Bool
 is_on_inode rows = is_none (first_of (codes "PATH") rows)
-    && not (is_given (codes "decompress") rows)
+    && (not (is_given (codes "decompress") rows) && not (is_given (codes "strict") rows))
 
 abbrev pub cat_in : List Row → Option (Command Text)
 cat_in rows = if is_on_path rows then path_content_in rows
@@ -441,10 +451,19 @@ abbrev pub map_in : List Row → Option (Command Text)
 map_in rows = image_in rows >>= λ i. Some (command.Map
     (record { options = i.options; svg = is_given (codes "svg") rows; image = i.image }))
 
--- of the objects that a path ever named, where one is given
+-- of the objects that a path ever named, and of the nodes since a time or until one, where these
+-- are given
 abbrev pub history_in : List Row → Option (Command Text)
-history_in rows = image_in rows >>= λ i. Some (command.History
-    (record { options = i.options; image = i.image; path = first_of (codes "PATH") rows }))
+history_in rows = image_in rows >>= λ i.
+    if_given (first_of (codes "since") rows) decimal_number >>= λ since.
+    if_given (first_of (codes "until") rows) decimal_number >>= λ until.
+    Some (command.History (record {
+      options = i.options;
+      since = since;
+      until = until;
+      image = i.image;
+      path = first_of (codes "PATH") rows;
+    }))
 
 -- the image that a subcommand writes
 abbrev pub target_in : List Row → Option (Target Text)
@@ -473,12 +492,17 @@ abbrev pub build_in : List Row → Option (Command Text)
 build_in rows = target_in rows >>= λ target. first_of (codes "LISTING") rows >>= λ listing.
     build_by (is_compressed rows) (record { target = target; listing = listing })
 
+-- whether an image with findings may be written over
+abbrev pub is_forced : List Row → Bool
+is_forced = is_given (codes "force")
+
 abbrev pub append_in : List Row → Option (Command Text)
 append_in rows = target_in rows >>= λ target. first_of (codes "IMAGE") rows >>= λ image.
     first_of (codes "LISTING") rows >>= λ listing.
     Some (command.Append (record {
       target = target;
       decompress = is_given (codes "decompress") rows;
+      force = is_forced rows;
       image = image;
       listing = listing;
     }))
@@ -552,10 +576,6 @@ cuts_in rows = if is_given (codes "update") rows
     else (if is_given (codes "plain") rows || is_given (codes "tail") rows then None
     else log_cuts_in rows)
 
--- whether an image with findings may be written over
-abbrev pub is_forced : List Row → Bool
-is_forced = is_given (codes "force")
-
 -- an image, and the one that is made of it
 abbrev pub conversion_in : List Row → Option (Conversion Text)
 conversion_in rows = image_in rows >>= λ i. output_in rows >>= λ output.
@@ -588,17 +608,29 @@ compact_in rows = conversion_in rows >>= λ c.
     is_apart (first_of (codes "clashes") rows) >>= λ apart.
     Some (compact_by apart (record { conversion = c; blocks = blocks }))
 
-abbrev pub extract_in : List Row → Option (Command Text)
-extract_in rows = image_in rows >>= λ i. first_of (codes "DIR") rows >>= λ folder.
+-- the files that no path leads to are asked for
+abbrev pub is_deleted_asked : List Row → Bool
+is_deleted_asked = is_given (codes "deleted")
+
+-- beside which a path says nothing
+abbrev pub is_path_beside_deleted : List Row → Bool
+is_path_beside_deleted rows = is_deleted_asked rows && is_some (first_of (codes "PATH") rows)
+
+abbrev pub tree_in : List Row → Option (Command Text)
+tree_in rows = image_in rows >>= λ i. first_of (codes "DIR") rows >>= λ folder.
     Some (command.Extract (record {
       options = i.options;
       decompress = is_given (codes "decompress") rows;
+      deleted = is_deleted_asked rows;
       owners = is_given (codes "owners") rows;
       quiet = is_given (codes "quiet") rows;
       image = i.image;
       folder = folder;
       path = first_of (codes "PATH") rows;
     }))
+
+abbrev pub extract_in : List Row → Option (Command Text)
+extract_in rows = if is_path_beside_deleted rows then None else tree_in rows
 
 -- a folder, and the owner and the time of all that it holds, where they are given
 abbrev pub folder_in : List Row → Option (FolderListing Text)

@@ -103,18 +103,34 @@ writes_image (command.Verify v) = false
 
 -- the file that it makes
 abbrev pub file_made : {T : Type 0} → Command T → Option T
+file_made (command.Scan i) = None
+file_made (command.Check c) = None
+file_made (command.CheckThrough c) = None
+file_made (command.List l) = None
+file_made (command.Cat c) = None
+file_made (command.CatInode c) = None
+file_made (command.Info image) = None
+file_made (command.Diff d) = None
+file_made (command.Damage x) = None
+file_made (command.Map m) = None
+file_made (command.History h) = None
 file_made (command.Build b) = Some b.target.output
 file_made (command.BuildCompressed b) = Some b.target.output
 file_made (command.Append a) = Some a.target.output
 file_made (command.Update u) = Some u.output
+file_made (command.Cuts c) = None
+file_made (command.CutsThrough c) = None
+file_made (command.CutsUpdate c) = None
 file_made (command.Decompress c) = Some c.output
 file_made (command.Apart c) = Some c.output
 file_made (command.Compress c) = Some c.output
 file_made (command.Compact c) = Some c.conversion.output
 file_made (command.CompactApart c) = Some c.conversion.output
+file_made (command.Extract x) = None
+file_made (command.Listing l) = None
 file_made (command.Pack p) = Some p.output
 file_made (command.PackCompressed p) = Some p.output
-file_made _ = None
+file_made (command.Verify v) = None
 
 -- The command with these options and with `--decompress`, where it has that word; one that reads no
 -- image stays as it is.

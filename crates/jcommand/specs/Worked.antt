@@ -79,6 +79,7 @@ abbrev pub tree_of_a : Extraction Text
 tree_of_a = record {
   options = no_options;
   decompress = false;
+  deleted = false;
   owners = false;
   quiet = false;
   image = codes "a";

@@ -9,8 +9,9 @@ ghost use Rattle.jcommand.specs.declared.command_line.RequestFault.TheVariants.{
 
 use crate::commands::make_program;
 use crate::matching::{
-    apart, are_options_given, endian, is_given, is_on_path, is_region_given, number, order_at,
-    owner_number, page, parsed_of, request_at, size_at, text_at, texts_at,
+    apart, are_options_given, endian, is_given, is_on_path, is_path_beside_deleted,
+    is_region_given, number, order_at, owner_number, page, parsed_of, request_at, size_at, text_at,
+    texts_at,
 };
 use crate::region::{layout, length};
 use crate::request::Request;
@@ -268,6 +269,9 @@ fn content_objection<'a>(found: &ArgMatches<'a>) -> Option<Objection<'a>> {
     if is_given(found, "decompress") {
         return Some(Objection::Conflict("--ino <I>", "--decompress"));
     }
+    if is_given(found, "strict") {
+        return Some(Objection::Conflict("--ino <I>", "--strict"));
+    }
     let Some(ino) = text_at(found, "ino") else {
         return Some(Objection::Missing("--ino <I>"));
     };
@@ -283,6 +287,37 @@ fn content_objection<'a>(found: &ArgMatches<'a>) -> Option<Objection<'a>> {
             option,
             wanted: "a number in decimal digits, below 4294967296",
         }),
+    }
+}
+
+/// What is wrong with the times of `history`, if one can't be read.
+fn period_objection<'a>(found: &ArgMatches<'a>) -> Option<Objection<'a>> {
+    let since = text_at(found, "since").unwrap_or("0");
+    let (value, option) = if number(since).is_none() {
+        (since, "--since <T>")
+    } else {
+        (text_at(found, "until").unwrap_or("0"), "--until <T>")
+    };
+    match number(value) {
+        Some(_) => None,
+        None => Some(Objection::Value {
+            value,
+            option,
+            wanted: "a number of seconds in decimal digits, below 4294967296",
+        }),
+    }
+}
+
+/// What is wrong with the words of a subcommand that only it has, if anything is.
+fn own_objection<'a>(name: &str, found: &ArgMatches<'a>) -> Option<Objection<'a>> {
+    match name {
+        "cuts" => cuts_objection(found),
+        "cat" => content_objection(found),
+        "history" => period_objection(found),
+        "extract" if is_path_beside_deleted(found) => {
+            Some(Objection::Conflict("--deleted", "[PATH]"))
+        }
+        _ => None,
     }
 }
 
@@ -339,19 +374,11 @@ fn objection_to<'a>(name: &str, found: &ArgMatches<'a>) -> Objection<'a> {
     if name == "listing" {
         return setting_objection(found);
     }
-    let is_cuts = name == "cuts";
     if is_given(found, "auto") && (is_alone(name, found) || are_options_given(found)) {
         return auto_objection(name, found);
     }
-    if is_cuts {
-        if let Some(objection) = cuts_objection(found) {
-            return objection;
-        }
-    }
-    if name == "cat" {
-        if let Some(objection) = content_objection(found) {
-            return objection;
-        }
+    if let Some(objection) = own_objection(name, found) {
+        return objection;
     }
     if let Some(objection) = output_objection(name, found) {
         return objection;

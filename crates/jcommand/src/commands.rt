@@ -217,12 +217,14 @@ fn make_cat<'a>(alloc: Global) -> Made<'a>
     ensures { MakesApp result cat_app }
 {
     let decompress = make_flag(alloc, "decompress", help::SHOWN_DECOMPRESSED);
+    let strict = make_flag(alloc, "strict", help::STRICT);
     let ino = make_optional(alloc, "ino", "I", help::INO);
     let upto = make_optional(alloc, "upto", "V", help::UPTO);
     let image = make_word(alloc, "IMAGE", help::IMAGE);
     let path = make_optional_word(alloc, "PATH", help::PATH);
     let command = make_reader(alloc, "cat", help::CAT, epilogues::CAT);
-    let command = add_arg(add_arg(add_arg(command, decompress), ino), upto);
+    let command = add_arg(add_arg(command, decompress), strict);
+    let command = add_arg(add_arg(command, ino), upto);
     add_arg(add_arg(command, image), path)
 }
 
@@ -308,11 +310,12 @@ fn make_append<'a>(alloc: Global) -> Made<'a>
     ensures { MakesApp result append_app }
 {
     let decompress = make_flag(alloc, "decompress", help::DECOMPRESSED);
+    let force = make_flag(alloc, "force", help::FORCE);
     let image = make_word(alloc, "IMAGE", help::IMAGE);
     let listing = make_word(alloc, "LISTING", help::LISTING);
     let command = make_noting(alloc, "append", help::APPEND, epilogues::APPEND);
     let command = add_placing(alloc, add_auto(alloc, command));
-    let command = add_arg(command, decompress);
+    let command = add_arg(add_arg(command, decompress), force);
     add_output(alloc, add_arg(add_arg(command, image), listing))
 }
 
@@ -363,13 +366,15 @@ fn make_extract<'a>(alloc: Global) -> Made<'a>
     ensures { MakesApp result extract_app }
 {
     let decompress = make_flag(alloc, "decompress", help::DECOMPRESSED);
+    let deleted = make_flag(alloc, "deleted", help::DELETED);
     let owners = make_flag(alloc, "owners", help::OWNERS);
     let quiet = make_flag(alloc, "quiet", help::QUIET);
     let image = make_word(alloc, "IMAGE", help::IMAGE);
     let folder = make_word(alloc, "DIR", help::NEW_FOLDER);
     let path = make_optional_word(alloc, "PATH", help::PART);
     let command = make_reader(alloc, "extract", help::EXTRACT, epilogues::EXTRACT);
-    let command = add_arg(add_arg(add_arg(command, decompress), owners), quiet);
+    let command = add_arg(add_arg(command, decompress), deleted);
+    let command = add_arg(add_arg(command, owners), quiet);
     add_arg(add_arg(add_arg(command, image), folder), path)
 }
 
@@ -448,9 +453,12 @@ fn make_map<'a>(alloc: Global) -> Made<'a>
 fn make_history<'a>(alloc: Global) -> Made<'a>
     ensures { MakesApp result history_app }
 {
+    let since = make_optional(alloc, "since", "T", help::SINCE);
+    let until = make_optional(alloc, "until", "T", help::UNTIL);
     let image = make_word(alloc, "IMAGE", help::IMAGE);
     let path = make_optional_word(alloc, "PATH", help::FORMER);
     let command = make_printer(alloc, "history", help::HISTORY, epilogues::HISTORY);
+    let command = add_arg(add_arg(command, since), until);
     add_arg(add_arg(command, image), path)
 }
 

@@ -135,6 +135,10 @@ nodes, or with --upto V by those of version V and lower alone. The inode may be
 deleted: history prints all inodes. Its data are decompressed. A symlink gives
 where it leads.
 
+If IMAGE has findings, nodes of the file may be lost with them. Zeros are
+written for the bytes that no node has, and a note counts them. With --strict
+the exit status is 3 then.
+
 Examples:
   jffs2_image cat --endian big flash.img /etc/passwd
   jffs2_image cat --auto --ino 57 --upto 3 dump.img
@@ -142,7 +146,8 @@ Examples:
 Exit status:
   0  done
   1  a fault, which standard error names
-  2  the command line is wrong";
+  2  the command line is wrong
+  3  with --strict no node has some bytes of the file";
 
 pub(crate) const BUILD: &str = "\
 A listing has one operation per line; words are separated by single spaces.
@@ -235,7 +240,8 @@ and the new nodes may not fit it. A note on standard error reports it, as for
 ls.
 
 With --decompress, OUT begins with what decompress makes of IMAGE. A note counts
-extended attributes, which are left out.
+extended attributes, which are left out. If OUT is IMAGE, and IMAGE has findings
+or extended attributes, these would be lost: that is a fault without --force.
 
 IMAGE and OUT may be the same file, since IMAGE is held in memory before OUT is
 made. But if the power, the host or the disk fails while OUT is written, the old
@@ -407,6 +413,10 @@ With PATH, only the object there and all below it are made: a directory at its
 place, below the directories that lead to it, and any other object in DIR
 itself, by its last name.
 
+With --deleted, each regular file is made that no path leads to and that is not
+empty: as INO-NAME, by its inode number and the last name that it had. Its data
+are decompressed. 'jffs2_image history' prints its nodes.
+
 For any image, nothing is made outside of DIR: each thing is new, in directories
 that were made before it. Things that this host cannot hold are left out, each
 with a line 'left out PATH: REASON' on standard error: devices, FIFOs and
@@ -417,6 +427,7 @@ before, and all that the host refuses. The rest goes on.
 Examples:
   jffs2_image extract --block 131072 flash.img tree
   jffs2_image extract --block 131072 flash.img etc /etc
+  jffs2_image extract --auto --deleted dump.img removed
 
 Exit status:
   0  done, and nothing was left out
@@ -642,10 +653,13 @@ the fields of the node, as Linux names them.
 The last line has how many nodes have each word. Nothing of the image is
 changed. With PATH it prints the nodes of each object that an entry ever gave
 this name, and these entries; the folder of PATH is found in the tree as it is.
+With --since or --until it prints only nodes whose time is not before, or not
+after, that one: mctime of an entry, mtime of an inode node.
 
 Examples:
   jffs2_image history --auto dump.img
   jffs2_image history --auto dump.img /etc/passwd
+  jffs2_image history --auto --since 1700000000 dump.img
 
 Exit status:
   0  done

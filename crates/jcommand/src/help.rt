@@ -67,6 +67,8 @@ pub(crate) const OFFSET: &str = "Read the image from byte A of the file on, as 0
 
 pub(crate) const LENGTH: &str = "Read N bytes of the file as the image, as 4MiB";
 
+pub(crate) const STRICT: &str = "Status 3 if no node has some bytes of the file";
+
 pub(crate) const INO: &str = "Write the content of inode I, which may be deleted";
 
 pub(crate) const UPTO: &str = "Take its nodes of version V and lower alone";
@@ -117,11 +119,17 @@ pub(crate) const PART: &str = "Path from the root, as for cat: that object and a
 
 pub(crate) const FORMER: &str = "Path, as for cat: the objects that ever had this name";
 
+pub(crate) const SINCE: &str = "Print no node of an earlier time, in seconds since 1970";
+
+pub(crate) const UNTIL: &str = "Print no node of a later time, in seconds since 1970";
+
 pub(crate) const LISTING: &str = "File with the operations, one per line";
 
 pub(crate) const FOLDER: &str = "Folder to read";
 
 pub(crate) const NEW_FOLDER: &str = "Folder to make, which must not exist yet";
+
+pub(crate) const DELETED: &str = "Extract the removed files, as INO-NAME";
 
 pub(crate) const OWNERS: &str = "Set the owners recorded in the image";
 

@@ -90,6 +90,16 @@ pub fn known_requests()
         ≡ Some (command.Cat (record {
           options = no_options;
           decompress = false;
+          strict = false;
+          image = codes "a";
+          path = codes "/b";
+        })) }
+    ensures strict_content { parsed_from (codes "jffs2_image" ∷ codes "cat" ∷ codes "--strict"
+        ∷ codes "a" ∷ codes "/b" ∷ [])
+        ≡ Some (command.Cat (record {
+          options = no_options;
+          decompress = false;
+          strict = true;
           image = codes "a";
           path = codes "/b";
         })) }
@@ -126,6 +136,7 @@ pub fn known_requests()
             output = codes "c";
           };
           decompress = false;
+          force = false;
           image = codes "a";
           listing = codes "b";
         })) }
@@ -136,13 +147,15 @@ pub fn known_requests()
           listing = codes "a";
         })) }
     ensures extended_and_noted { parsed_from (codes "jffs2_image" ∷ codes "append" ∷ codes "a"
-        ∷ codes "b" ∷ codes "--decompress" ∷ codes "c" ∷ codes "--weak" ∷ codes "--blocks=2" ∷ [])
+        ∷ codes "b" ∷ codes "--decompress" ∷ codes "c" ∷ codes "--weak" ∷ codes "--blocks=2"
+        ∷ codes "--force" ∷ [])
         ≡ Some (command.Append (record {
           target = record two_blocks {
             weak = true;
             output = codes "c";
           };
           decompress = true;
+          force = true;
           image = codes "a";
           listing = codes "b";
         })) }
@@ -177,6 +190,9 @@ pub fn known_requests()
     ensures extracted_part { parsed_from (codes "jffs2_image" ∷ codes "extract" ∷ codes "a"
         ∷ codes "--quiet" ∷ codes "b" ∷ codes "/c" ∷ [])
         ≡ Some (command.Extract (record tree_of_a { quiet = true; path = Some (codes "/c") })) }
+    ensures extracted_deleted { parsed_from (codes "jffs2_image" ∷ codes "extract"
+        ∷ codes "--deleted" ∷ codes "a" ∷ codes "b" ∷ [])
+        ≡ Some (command.Extract (record tree_of_a { deleted = true })) }
     ensures listed { parsed_from (codes "jffs2_image" ∷ codes "listing" ∷ codes "--quiet"
         ∷ codes "a" ∷ [])
         ≡ Some (command.Listing (record {
@@ -307,13 +323,17 @@ pub fn known_requests()
         ∷ codes "a" ∷ [])
         ≡ Some (command.History (record {
           options = options_of 8192 Little;
+          since = None;
+          until = None;
           image = codes "a";
           path = None;
         })) }
     ensures traced_path { parsed_from (codes "jffs2_image" ∷ codes "history" ∷ codes "-b"
-        ∷ codes "a" ∷ codes "/b" ∷ [])
+        ∷ codes "a" ∷ codes "--until=9" ∷ codes "/b" ∷ codes "--since" ∷ codes "7" ∷ [])
         ≡ Some (command.History (record {
           options = options_of 65536 Big;
+          since = Some 7;
+          until = Some 9;
           image = codes "a";
           path = Some (codes "/b");
         })) }
@@ -359,6 +379,7 @@ pub fn known_placings()
             output = codes "c";
           };
           decompress = false;
+          force = false;
           image = codes "a";
           listing = codes "b";
         })) }
@@ -438,6 +459,10 @@ pub fn known_refusals()
         ≡ MissingRequiredArgument ∷ [] }
     ensures not_of_history { fault_of program (codes "jffs2_image" ∷ codes "history"
         ∷ codes "--decompress" ∷ codes "a" ∷ []) ≡ UnknownArgument ∷ [] }
+    ensures no_since { parsed_from (codes "jffs2_image" ∷ codes "history" ∷ codes "--since=x"
+        ∷ codes "a" ∷ []) ≡ None }
+    ensures deleted_part { parsed_from (codes "jffs2_image" ∷ codes "extract"
+        ∷ codes "--deleted" ∷ codes "a" ∷ codes "b" ∷ codes "/c" ∷ []) ≡ None }
     ensures not_of_update { fault_of program (codes "jffs2_image" ∷ codes "update"
         ∷ codes "--weak" ∷ codes "a" ∷ codes "b" ∷ codes "c" ∷ []) ≡ UnknownArgument ∷ [] }
     ensures not_updated { parsed_from (codes "jffs2_image" ∷ codes "update" ∷ codes "a"

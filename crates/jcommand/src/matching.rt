@@ -1,7 +1,7 @@
 //! What the matches of the program's command line ask for.
 ghost use Rattle.std.specs.Prelude.{◌≡◌, codes, map, option_map};
 ghost use Rattle.clap.specs.Words.{found_of, rows_of, all_of, first_of};
-ghost use Rattle.jcommand.specs.Parsed.{append_in, block_size_in, build_in, cat_in, check_in, command_view, compact_in, conversion_in, conversion_view, cuts_in, damage_in, decimal_number, decompress_in, diff_in, endian_of, extract_in, folder_in, folder_view, history_in, if_given, image_in, image_view, info_in, inode_content_in, is_apart, is_given, is_on_inode, is_on_path, log_cuts_in, ls_in, map_in, number_option, options_in, order_in, order_named, output_in, owner_number, owner_of, pack_in, page_of, parsed, path_content_in, placing_in, target_in, target_view, update_cuts_in, update_in, verify_in, version_by};
+ghost use Rattle.jcommand.specs.Parsed.{append_in, block_size_in, build_in, cat_in, check_in, command_view, compact_in, conversion_in, conversion_view, cuts_in, damage_in, decimal_number, decompress_in, diff_in, endian_of, extract_in, folder_in, folder_view, history_in, if_given, image_in, image_view, info_in, inode_content_in, is_apart, is_given, is_on_inode, is_on_path, is_path_beside_deleted, log_cuts_in, ls_in, map_in, number_option, options_in, order_in, order_named, output_in, owner_number, owner_of, pack_in, page_of, parsed, path_content_in, placing_in, target_in, target_view, tree_in, update_cuts_in, update_in, verify_in, version_by};
 ghost use Rattle.jcommand.specs.Requests.{are_options_given, has_no_second_read, is_contrary, is_region_given, region_in, request_of, request_view};
 
 use crate::parsed::{
@@ -207,6 +207,7 @@ fn path_content_at<'a>(found: &ArgMatches<'a>) -> Option<Command<&'a str>>
     Some(Command::Cat(FileContent {
         options,
         decompress: is_given(found, "decompress"),
+        strict: is_given(found, "strict"),
         image,
         path: text_at(found, "PATH")?,
     }))
@@ -242,13 +243,20 @@ pub(crate) fn is_on_path(found: &ArgMatches<'_>) -> bool
     text_at(found, "ino").is_none() && text_at(found, "upto").is_none()
 }
 
+/// Whether no word is given that says nothing beside an inode.
+fn is_on_inode(found: &ArgMatches<'_>) -> bool
+    ensures { result ≡ is_on_inode (rows_of (found_of found.now)) }
+{
+    text_at(found, "PATH").is_none() && !is_given(found, "decompress") && !is_given(found, "strict")
+}
+
 fn cat_at<'a>(found: &ArgMatches<'a>) -> Option<Command<&'a str>>
     ensures { option_map command_view result ≡ cat_in (rows_of (found_of found.now)) }
 {
     if is_on_path(found) {
         return path_content_at(found);
     }
-    if text_at(found, "PATH").is_none() && !is_given(found, "decompress") {
+    if is_on_inode(found) {
         inode_content_at(found)
     } else {
         None
@@ -303,6 +311,8 @@ fn history_at<'a>(found: &ArgMatches<'a>) -> Option<Command<&'a str>>
     let Image { options, image } = image_at(found)?;
     Some(Command::History(NodeHistory {
         options,
+        since: number_if_given(found, "since")?,
+        until: number_if_given(found, "until")?,
         image,
         path: text_at(found, "PATH"),
     }))
@@ -342,6 +352,7 @@ fn append_at<'a>(found: &ArgMatches<'a>) -> Option<Command<&'a str>>
     Some(Command::Append(Appending {
         target: target_at(found)?,
         decompress: is_given(found, "decompress"),
+        force: is_given(found, "force"),
         image: text_at(found, "IMAGE")?,
         listing: text_at(found, "LISTING")?,
     }))
@@ -467,19 +478,38 @@ fn compact_at<'a>(found: &ArgMatches<'a>) -> Option<Command<&'a str>>
     }
 }
 
-fn extract_at<'a>(found: &ArgMatches<'a>) -> Option<Command<&'a str>>
-    ensures { option_map command_view result ≡ extract_in (rows_of (found_of found.now)) }
+/// Whether a path is named beside the files that no path leads to.
+pub(crate) fn is_path_beside_deleted(found: &ArgMatches<'_>) -> bool
+    ensures { result ≡ is_path_beside_deleted (rows_of (found_of found.now)) }
+{
+    is_given(found, "deleted") && text_at(found, "PATH").is_some()
+}
+
+/// The tree of an image, or the files that no path leads to.
+fn tree_at<'a>(found: &ArgMatches<'a>) -> Option<Command<&'a str>>
+    ensures { option_map command_view result ≡ tree_in (rows_of (found_of found.now)) }
 {
     let Image { options, image } = image_at(found)?;
     Some(Command::Extract(Extraction {
         options,
         decompress: is_given(found, "decompress"),
+        deleted: is_given(found, "deleted"),
         owners: is_given(found, "owners"),
         quiet: is_given(found, "quiet"),
         image,
         folder: text_at(found, "DIR")?,
         path: text_at(found, "PATH"),
     }))
+}
+
+fn extract_at<'a>(found: &ArgMatches<'a>) -> Option<Command<&'a str>>
+    ensures { option_map command_view result ≡ extract_in (rows_of (found_of found.now)) }
+{
+    if is_path_beside_deleted(found) {
+        None
+    } else {
+        tree_at(found)
+    }
 }
 
 /// The values of an option, if it is given.

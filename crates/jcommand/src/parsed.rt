@@ -61,11 +61,13 @@ pub struct TreeListing<T> {
     pub path: Option<T>,
 }
 
-/// The content of a file of an image; with `decompress` in the same way.
+/// The content of a file of an image; with `decompress` in the same way. With `strict` bytes that no
+/// node has are found.
 #[derive(Clone, Copy)]
 pub struct FileContent<T> {
     pub options: Options,
     pub decompress: bool,
+    pub strict: bool,
     pub image: T,
     pub path: T,
 }
@@ -134,10 +136,14 @@ pub struct Mapping<T> {
     pub image: T,
 }
 
-/// What became of each node of an image, or of those of the objects that a path ever named.
+/// What became of each node of an image, or of those of the objects that a path ever named. Of the
+/// nodes only those count whose time, in seconds since 1970, is not before `since` and not after
+/// `until`, if these are given.
 #[derive(Clone, Copy)]
 pub struct NodeHistory<T> {
     pub options: Options,
+    pub since: Option<u32>,
+    pub until: Option<u32>,
     pub image: T,
     pub path: Option<T>,
 }
@@ -162,11 +168,12 @@ pub struct Building<T> {
 }
 
 /// An image with what a listing makes of its file system; with `decompress`, of what `decompress`
-/// makes of the image.
+/// makes of the image; with `force` also over that one where it has findings.
 #[derive(Clone, Copy)]
 pub struct Appending<T> {
     pub target: Target<T>,
     pub decompress: bool,
+    pub force: bool,
     pub image: T,
     pub listing: T,
 }
@@ -205,12 +212,14 @@ pub struct Compaction<T> {
     pub blocks: Option<u32>,
 }
 
-/// The tree of an image in a new folder of the host, or the part of it that a path names; with
-/// `owners`, its owners too, and with `decompress` that of what `decompress` makes of the image.
+/// The tree of an image in a new folder of the host, or the part of it that a path names, or with
+/// `deleted` the files that no path leads to; with `owners`, its owners too, and with `decompress`
+/// that of what `decompress` makes of the image. No path is named beside `deleted`.
 #[derive(Clone, Copy)]
 pub struct Extraction<T> {
     pub options: Options,
     pub decompress: bool,
+    pub deleted: bool,
     pub owners: bool,
     pub quiet: bool,
     pub image: T,

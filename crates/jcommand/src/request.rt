@@ -27,6 +27,7 @@ pub struct Request<T> {
 fn extended<'a>(asked: Appending<&'a str>, options: Options) -> Appending<&'a str>
     ensures target { result.target ≡ record asked.entry.target { options = options } }
     ensures decompress { result.decompress ≡ true }
+    ensures force { result.force ≡ asked.entry.force }
     ensures image { result.image ≡ asked.entry.image }
     ensures listing { result.listing ≡ asked.entry.listing }
 {

@@ -370,10 +370,10 @@ list_blames options decompress name word = then_blames _ _ (part_blames word) (�
     then_blames (loads name) _ (loads_blames name) (shows_blames _ decompress options.endian options.geometry.block _
     (λ (others : Option ℕ) (m : Mount). lists_unnamed m.state part (read_told options.endian options.geometry.block others m))))
 
-pub cat_blames : (options : Options) (decompress : Bool) (name word : List ℕ) → BlamesFailed (cat_act options decompress name word)
-cat_blames options decompress name word = then_blames _ _ (path_blames word) (λ (path : List ℕ).
+pub cat_blames : (options : Options) (decompress strict : Bool) (name word : List ℕ) → BlamesFailed (cat_act options decompress strict name word)
+cat_blames options decompress strict name word = then_blames _ _ (path_blames word) (λ (path : List ℕ).
     then_blames (loads name) _ (loads_blames name) (shows_blames _ decompress options.endian options.geometry.block _
-    (λ (others : Option ℕ) (m : Mount). contains_unnamed (content_of m.state path) (read_told options.endian options.geometry.block others m))))
+    (λ (others : Option ℕ) (m : Mount). contains_unnamed (content_of m.state path) _)))
 
 pub info_blames : (name : List ℕ) → BlamesFailed (info_act name)
 info_blames name = then_blames (loads name) _ (loads_blames name) (λ (image : List ℕ). then_blames _ _ (spare_blames image) (λ (spare : Option PageLayout). then_blames _ _ (regions_blame image) (λ (regions : Regions). whole_blames _ _)))
@@ -406,7 +406,7 @@ diff_blames x = then_blames (loads x.first) _ (loads_blames x.first) (λ (image 
 pub blamed_is_failed : BlamedIsFailed
 blamed_is_failed (Check options shape name) = check_blames options shape name
 blamed_is_failed (Ls options decompress name word) = list_blames options decompress name word
-blamed_is_failed (Cat options decompress name word) = cat_blames options decompress name word
+blamed_is_failed (Cat options decompress strict name word) = cat_blames options decompress strict name word
 blamed_is_failed (Info name) = info_blames name
 blamed_is_failed (Damage options decompress name) = damage_blames options decompress name
 blamed_is_failed (Diff asked) = diff_blames asked

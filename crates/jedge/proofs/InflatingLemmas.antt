@@ -1,6 +1,6 @@
 -- What `ls` and `cat` print of a tree depends on its outline, and on the bytes of what they show.
 use Rattle.std.proofs.Common.{◌≡◌, ℕ, ◌==◌, ◌&&◌, ◌||◌, not, cond, Bool, true, false, List, [], ◌∷◌, ◌++◌, map, Option, None, Some, Result, Ok, Err, refl, sym, ap, subst, ◌∙◌}
-use Rattle.std.specs.Prelude.{filter, option_map}
+use Rattle.std.specs.Prelude.{count_by, filter, option_map}
 use Rattle.std.specs.Cmp.{eq_by_cmp_equiv, nat_cmp_total, unsigned_tied}
 use Rattle.std.proofs.lemmas.Option.{same_Some, none-some}
 use Rattle.jnode.specs.declared.order.Endian.{Endian}
@@ -19,16 +19,19 @@ use Rattle.jlook.specs.Chosen.{is_that_object, object_by_path, symlinks_in}
 use Rattle.jlook.specs.Laws.{ShowsSame}
 use Rattle.jlook.proofs.ChosenLemmas.{object_is_the_same, tree_is_the_same}
 use Rattle.jreport.specs.Content.{content_found, content_of}
+use Rattle.jreport.specs.Notes.{is_noted, noted as findings}
 use Rattle.jreport.specs.TreeText.{AreLinesOf, IsTextFrom, Item, Met, items_of, line_if, line_of, met_after, none_met, object_start, tail_shown, todo_after}
 use Rattle.jreport.specs.declared.faults.ProgramFault.{ProgramFault}
 use Rattle.jreport.specs.declared.faults.ProgramFault.TheVariants as program
-use Rattle.jedge.specs.Commands.{cat_says, ls_says, read_told}
+use Rattle.jedge.specs.Commands.{cat_says, content_told, ls_says, read_told}
 use Rattle.jedge.specs.Images.{view_refusal}
 use Rattle.jedge.specs.Inflating.{CatIsAsThrough, LsIsAsThrough, SaysTheSame}
+use Rattle.jedge.specs.Missing.{bytes_missing_at, missing_bytes, missing_in}
 use Rattle.jedge.specs.Showing.{Contains, IsListed, Lists, NamesNothing}
 use Rattle.jedge.specs.Told.{Told}
 use Rattle.jedge.specs.declared.fault.Fault.{Fault}
 use Rattle.jedge.specs.declared.fault.Fault.TheVariants as fault
+use Rattle.jedge.proofs.MissingLemmas.{gaps_same}
 
 by_test : {P : Type 0} (b : Bool) → (b ≡ true → P) → (b ≡ false → P) → P
 by_test true yes_case no_case = yes_case refl
@@ -193,14 +196,31 @@ ls_same e size part others full looked same text result =
           (subst (λ (told : Told). Lists full.state part told text result) (sym told) says),
     )
 
-cat_same : (e : Endian) (size : ℕ) (path : List ℕ) (others : Option ℕ) (full looked : Mount) → ShowsSame (object_by_path path full.state) full looked
-    → SaysTheSame (cat_says e size path others) full (Ok looked)
-cat_same e size path others full looked same text result =
+-- the same bytes are missing of the file that a path leads to
+missing_by : (e : Endian) (size : ℕ) (full looked : Mount) (found : Result ℕ FindFault) → looked.image ≡ full.image
+    → ((i : ℕ) → is_that_object found i ≡ true → object looked.state i ≡ object full.state i) → bytes_missing_at e size looked found ≡ bytes_missing_at e size full found
+missing_by e size full looked (Ok i) image wanted =
+    ap missing_in (gaps_same e size i full looked image (wanted i (sym (unsigned_tied i i) ∙ (eq_by_cmp_equiv nat_cmp_total).refl i)))
+missing_by e size full looked (Err why) image wanted = refl
+
+missing_same : (e : Endian) (size : ℕ) (path : List ℕ) (full looked : Mount) → ShowsSame (object_by_path path full.state) full looked
+    → missing_bytes e size path looked ≡ missing_bytes e size path full
+missing_same e size path full looked same =
+    ap (λ (found : List Finding). cond (count_by (λ (f : Finding). is_noted f.kind) found == 0) 0 (bytes_missing_at e size looked (find looked.state path))) same.findings
+    ∙ ap (λ (n : ℕ). cond (findings full == 0) 0 n)
+    (ap (bytes_missing_at e size looked) (find_same looked.state full.state same.outline_is path) ∙ missing_by e size full looked (find full.state path) same.image same.wanted)
+
+cat_same : (e : Endian) (size : ℕ) (strict : Bool) (path : List ℕ) (others : Option ℕ) (full looked : Mount) → ShowsSame (object_by_path path full.state) full looked
+    → SaysTheSame (cat_says e size strict path others) full (Ok looked)
+cat_same e size strict path others full looked same text result =
     let contents : content_of looked.state path ≡ content_of full.state path = same_content looked.state full.state same.outline_is path same.wanted in
-    let told : read_told e size others looked ≡ read_told e size others full = told_same e size _ full looked others same in (
-      λ says. subst (λ (c : Result (List ℕ) ProgramFault). Contains c (read_told e size others full) text result) contents
+    let by : Mount → Told = λ m. content_told strict (missing_bytes e size path m) (read_told e size others m) in
+    let told : by looked ≡ by full =
+    ap (λ (n : ℕ). content_told strict n (read_told e size others looked)) (missing_same e size path full looked same)
+    ∙ ap (content_told strict (missing_bytes e size path full)) (told_same e size _ full looked others same) in (
+      λ says. subst (λ (c : Result (List ℕ) ProgramFault). Contains c (by full) text result) contents
           (subst (λ (answer : Told). Contains (content_of looked.state path) answer text result) told says),
-      λ says. subst (λ (c : Result (List ℕ) ProgramFault). Contains c (read_told e size others looked) text result) (sym contents)
+      λ says. subst (λ (c : Result (List ℕ) ProgramFault). Contains c (by looked) text result) (sym contents)
           (subst (λ (answer : Told). Contains (content_of full.state path) answer text result) (sym told) says),
     )
 
@@ -223,13 +243,13 @@ ls_is_as_through order block part others e size image full (Err fault.Output) th
 ls_is_as_through order block part others e size image full (Err fault.OutOfMemory) through chosen = absurd chosen
 
 pub cat_is_as_through : CatIsAsThrough
-cat_is_as_through order block path others e size image full (Ok looked) through chosen = cat_same order block path others full looked (object_is_the_same path e size image full (Ok looked) through chosen)
-cat_is_as_through order block path others e size image full (Err (fault.Refused why)) through (refused, is, chosen) =
-    refused_same (cat_says order block path others) full why refused is (object_is_the_same path e size image full (Err refused) through chosen)
-cat_is_as_through order block path others e size image full (Err (fault.File file)) through chosen = absurd chosen
-cat_is_as_through order block path others e size image full (Err (fault.NotRead file)) through chosen = absurd chosen
-cat_is_as_through order block path others e size image full (Err (fault.NoNodes of count)) through chosen = absurd chosen
-cat_is_as_through order block path others e size image full (Err (fault.NoSpace folder)) through chosen = absurd chosen
-cat_is_as_through order block path others e size image full (Err (fault.Findings of findings)) through chosen = absurd chosen
-cat_is_as_through order block path others e size image full (Err fault.Output) through chosen = absurd chosen
-cat_is_as_through order block path others e size image full (Err fault.OutOfMemory) through chosen = absurd chosen
+cat_is_as_through order block strict path others e size image full (Ok looked) through chosen = cat_same order block strict path others full looked (object_is_the_same path e size image full (Ok looked) through chosen)
+cat_is_as_through order block strict path others e size image full (Err (fault.Refused why)) through (refused, is, chosen) =
+    refused_same (cat_says order block strict path others) full why refused is (object_is_the_same path e size image full (Err refused) through chosen)
+cat_is_as_through order block strict path others e size image full (Err (fault.File file)) through chosen = absurd chosen
+cat_is_as_through order block strict path others e size image full (Err (fault.NotRead file)) through chosen = absurd chosen
+cat_is_as_through order block strict path others e size image full (Err (fault.NoNodes of count)) through chosen = absurd chosen
+cat_is_as_through order block strict path others e size image full (Err (fault.NoSpace folder)) through chosen = absurd chosen
+cat_is_as_through order block strict path others e size image full (Err (fault.Findings of findings)) through chosen = absurd chosen
+cat_is_as_through order block strict path others e size image full (Err fault.Output) through chosen = absurd chosen
+cat_is_as_through order block strict path others e size image full (Err fault.OutOfMemory) through chosen = absurd chosen

@@ -218,11 +218,11 @@ loads_silent name = then_silent (opens name) reads_whole (opens_silent name) rea
 pub views_silent : (e : Endian) (size : ℕ) (decompress : Bool) (name : List ℕ) → Silent (views e size decompress name)
 views_silent e size decompress name = then_silent (loads name) _ (loads_silent name) (λ (image : List ℕ). answers_silent _)
 
-pub cat_first : (options : Options) (decompress : Bool) (name word : List ℕ) → JudgesFirst (cat_act options decompress name word)
-cat_first options decompress name word = then_first _ _ (answers_silent _) (λ (path : List ℕ).
+pub cat_first : (options : Options) (decompress strict : Bool) (name word : List ℕ) → JudgesFirst (cat_act options decompress strict name word)
+cat_first options decompress strict name word = then_first _ _ (answers_silent _) (λ (path : List ℕ).
     then_first (loads name) _ (loads_silent name) (λ (image : List ℕ). then_first _ _ (answers_silent _) (λ (others : Option ℕ).
     then_first _ _ (answers_silent _) (λ (m : Mount).
-    prints_first _ (contains_unput (content_of m.state path) (read_told options.endian options.geometry.block others m))))))
+    prints_first _ (contains_unput (content_of m.state path) _)))))
 
 pub list_first : (options : Options) (decompress : Bool) (name : List ℕ) (word : Option (List ℕ)) → JudgesFirstBut (λ f. f ≡ fault.OutOfMemory) (list_act options decompress name word)
 list_first options decompress name word = then_first_but _ _ _ (answers_silent _) (λ (part : Option (List ℕ)).
@@ -262,7 +262,7 @@ damage_first options decompress name = then_first (loads name) _ (loads_silent n
 pub judged_first : JudgedFirst
 judged_first (Check options shape name) = check_first options shape name
 judged_first (Ls options decompress name word) = list_first options decompress name word
-judged_first (Cat options decompress name word) = λ events f not did. cat_first options decompress name word events f did
+judged_first (Cat options decompress strict name word) = λ events f not did. cat_first options decompress strict name word events f did
 judged_first (Info name) = λ events f not did. info_first name events f did
 judged_first (Damage options decompress name) = λ events f not did. damage_first options decompress name events f did
 judged_first (Diff asked) = diff_first asked

@@ -4,6 +4,7 @@ pub mod CostLemmas
 pub mod InflatingLemmas
 pub mod JudgingLemmas
 pub mod LookingLemmas
+pub mod MissingLemmas
 pub mod ShowingLemmas
 pub mod Steps
 pub mod ViewLemmas

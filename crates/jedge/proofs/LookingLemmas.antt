@@ -136,8 +136,8 @@ list_looks options decompress name word = then_looks _ _ (answers_looks _) (λ (
     then_looks (loads name) _ (loads_looks name) (λ (image : List ℕ). then_looks _ _ (answers_looks _) (λ (others : Option ℕ).
     then_looks _ _ (answers_looks _) (λ (m : Mount). prints_looks _))))
 
-pub cat_looks : (options : Options) (decompress : Bool) (name word : List ℕ) → MakesNothing (cat_act options decompress name word)
-cat_looks options decompress name word = then_looks _ _ (answers_looks _) (λ (path : List ℕ).
+pub cat_looks : (options : Options) (decompress strict : Bool) (name word : List ℕ) → MakesNothing (cat_act options decompress strict name word)
+cat_looks options decompress strict name word = then_looks _ _ (answers_looks _) (λ (path : List ℕ).
     then_looks (loads name) _ (loads_looks name) (λ (image : List ℕ). then_looks _ _ (answers_looks _) (λ (others : Option ℕ).
     then_looks _ _ (answers_looks _) (λ (m : Mount). prints_looks _))))
 
@@ -157,7 +157,7 @@ diff_looks x = then_looks (loads x.first) _ (loads_looks x.first) (λ (image : L
 pub reads_only : ReadsOnly
 reads_only (Check options shape name) = reported_looks _ (check_looks options shape name)
 reads_only (Ls options decompress name word) = reported_looks _ (list_looks options decompress name word)
-reads_only (Cat options decompress name word) = reported_looks _ (cat_looks options decompress name word)
+reads_only (Cat options decompress strict name word) = reported_looks _ (cat_looks options decompress strict name word)
 reads_only (Info name) = reported_looks _ (info_looks name)
 reads_only (Damage options decompress name) = reported_looks _ (damage_looks options decompress name)
 reads_only (Diff asked) = reported_looks _ (diff_looks asked)

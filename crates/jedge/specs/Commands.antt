@@ -26,6 +26,7 @@ use Rattle.jedge.specs.Calls.{Event}
 use Rattle.jedge.specs.Comparing.{Compares, compared}
 use Rattle.jedge.specs.Faults.{TellsFault}
 use Rattle.jedge.specs.Images.{HasNodes, MountsBoth, MountsFor, MountsWith, NotesNone}
+use Rattle.jedge.specs.Missing.{missing_bytes, missing_noted}
 use Rattle.jedge.specs.Showing.{Checks, Contains, Lists}
 use Rattle.jspare.specs.Showing.{spare_lines}
 use Rattle.jregions.specs.RegionText.{region_lines}
@@ -191,18 +192,26 @@ lists e size decompress name word =
 abbrev pub list_act : Options → Bool → List ℕ → Option (List ℕ) → Act Told
 list_act options = lists options.endian options.geometry.block
 
+-- what is told of a file of which no node has so many bytes: these are found if that is strict
+abbrev pub content_told : Bool → ℕ → Told → Told
+content_told strict missing told = record {
+  counted = if strict then missing else told.counted;
+  noted = missing_noted missing told.noted;
+}
+
 -- the bytes of the file that a path names, with that note
-abbrev pub cat_says : Endian → ℕ → List ℕ → Option ℕ → Mount → Saying Told
-cat_says e size path others m = Contains (content_of m.state path) (read_told e size others m)
+abbrev pub cat_says : Endian → ℕ → Bool → List ℕ → Option ℕ → Mount → Saying Told
+cat_says e size strict path others m = Contains (content_of m.state path)
+    (content_told strict (missing_bytes e size path m) (read_told e size others m))
 
 -- the same of those bytes; their data alone are chosen
-abbrev pub cats : Endian → ℕ → Bool → List ℕ → List ℕ → Act Told
-cats e size decompress name word =
+abbrev pub cats : Endian → ℕ → Bool → Bool → List ℕ → List ℕ → Act Told
+cats e size decompress strict name word =
     Then (answers (NamesPath word)) (λ path.
     Then (loads name)
-    (shows_mount (object_by_path path) decompress e size (cat_says e size path)))
+    (shows_mount (object_by_path path) decompress e size (cat_says e size strict path)))
 
-abbrev pub cat_act : Options → Bool → List ℕ → List ℕ → Act Told
+abbrev pub cat_act : Options → Bool → Bool → List ℕ → List ℕ → Act Told
 cat_act options = cats options.endian options.geometry.block
 
 -- ---- `diff`
@@ -228,7 +237,7 @@ diff_act x =
 pub data Command : Type 0 where
   Check : Options → Bool → List ℕ → Command
   Ls : Options → Bool → List ℕ → Option (List ℕ) → Command
-  Cat : Options → Bool → List ℕ → List ℕ → Command
+  Cat : Options → Bool → Bool → List ℕ → List ℕ → Command
   Info : List ℕ → Command
   Damage : Options → Bool → List ℕ → Command
   Diff : Comparison (List ℕ) → Command
@@ -236,7 +245,7 @@ pub data Command : Type 0 where
 abbrev pub act_of : Command → Act Told
 act_of (Check options shape name) = check_act options shape name
 act_of (Ls options decompress name word) = list_act options decompress name word
-act_of (Cat options decompress name word) = cat_act options decompress name word
+act_of (Cat options decompress strict name word) = cat_act options decompress strict name word
 act_of (Info name) = info_act name
 act_of (Damage options decompress name) = damage_act options decompress name
 act_of (Diff asked) = diff_act asked

@@ -32,5 +32,5 @@ LsIsAsThrough = (e : Endian) (size : ℕ) (part : Option (List ℕ)) (others : O
     → IsSaidAsThrough symlinks_in (ls_says e size part others)
 
 abbrev pub CatIsAsThrough : Type 0
-CatIsAsThrough = (e : Endian) (size : ℕ) (path : List ℕ) (others : Option ℕ)
-    → IsSaidAsThrough (object_by_path path) (cat_says e size path others)
+CatIsAsThrough = (e : Endian) (size : ℕ) (strict : Bool) (path : List ℕ) (others : Option ℕ)
+    → IsSaidAsThrough (object_by_path path) (cat_says e size strict path others)

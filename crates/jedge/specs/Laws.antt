@@ -6,6 +6,7 @@ use Rattle.jextract.specs.Folders.{Made}
 use Rattle.jmount.specs.declared.fault.MountFault.TheVariants as mount
 use Rattle.jreport.specs.declared.faults.ProgramFault.{ProgramFault}
 use Rattle.jreport.specs.declared.faults.ProgramFault.TheVariants as program
+use Rattle.jreport.specs.declared.image_fault.ImageFault.TheVariants as image
 use Rattle.jreport.specs.declared.reason.Reason.{Reason}
 use Rattle.jedge.specs.Acts.{Act}
 use Rattle.jedge.specs.Calls.{Call, Event, Did, Failed, Answers, Errors, Open, Read, ReadPart, ReadRegion, PrintJson, Find, Compare, Print, Create, OpenToWrite, Write, Sync, SyncFolder, Rename, Remove, Close, FillFolder, Fill, ReadFolder, LookThrough, Keep, Measure}
@@ -89,7 +90,11 @@ IsOfBytes program.OutOfMemory = ⊥
 IsOfBytes (program.NoSpace name) = ⊥
 IsOfBytes (program.Data addr) = Unit {0}
 IsOfBytes (program.TooLong addr) = Unit {0}
-IsOfBytes (program.Image why) = ⊥
+IsOfBytes (program.Image (image.NoNodes name others)) = ⊥
+IsOfBytes (program.Image (image.Findings name findings)) = ⊥
+IsOfBytes (program.Image image.Part) = Unit {0}
+IsOfBytes (program.Image (image.NoInode ino)) = Unit {0}
+IsOfBytes (program.Image (image.NoContent ino)) = Unit {0}
 
 -- A fault that names a file comes with a call on that file that failed, for the same reason; that
 -- of the output with a print that failed.
@@ -172,7 +177,7 @@ abbrev pub IsLate : Command → Fault → Type 0
 IsLate (Check options shape name) f =
     (f ≡ fault.OutOfMemory) ⊎ (f ≡ fault.Refused (program.Mount mount.OutOfMemory))
 IsLate (Ls options decompress name word) f = f ≡ fault.OutOfMemory
-IsLate (Cat options decompress name word) f = ⊥
+IsLate (Cat options decompress strict name word) f = ⊥
 IsLate (Info name) f = ⊥
 IsLate (Damage options decompress name) f = ⊥
 IsLate (Diff asked) f = f ≡ fault.OutOfMemory

@@ -6,6 +6,7 @@ pub mod Faults
 pub mod Images
 pub mod Inflating
 pub mod Laws
+pub mod Missing
 pub mod Parting
 pub mod Showing
 pub mod Sparing

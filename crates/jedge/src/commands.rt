@@ -67,16 +67,10 @@ pub fn run_list<E: Order, H: Host>(host: &mut H, asked: TreeListing<&str>) -> Ou
 pub fn run_cat<E: Order, H: Host>(host: &mut H, asked: FileContent<&str>) -> Outcome
     requires { asked.options.endian ≡ E.order }
     ensures { DoesFrom (H.history host.old) (H.history host.new)
-        (reported (cat_act asked.entry.options asked.entry.decompress asked.entry.image.now
-        asked.entry.path.now)) (Ok result) }
+        (reported (cat_act asked.entry.options asked.entry.decompress asked.entry.strict
+        asked.entry.image.now asked.entry.path.now)) (Ok result) }
 {
-    let FileContent {
-        options,
-        decompress,
-        image,
-        path,
-    } = asked;
-    let answer = cat::<E, H>(host, options, decompress, image, path);
+    let answer = cat::<E, H>(host, asked);
     report(host, answer)
 }
 

@@ -23,6 +23,8 @@ pub enum Note<'a> {
     Read(ReadNotes),
     /// Of an image that was written to.
     Left(BlankLeft),
+    /// Of a file that was printed, and lacks bytes.
+    Content(ContentNotes),
 }
 
 /// How many findings an image has that was extracted, how many objects lost bits of their modes,
@@ -43,6 +45,13 @@ pub struct ReadNotes {
     pub findings: u64,
     pub others: Option<u64>,
     pub hint: Option<Hint>,
+}
+
+/// How many bytes of a file no node has, and what is noted of its image.
+#[derive(Clone, Copy)]
+pub struct ContentNotes {
+    pub missing: u64,
+    pub read: Option<ReadNotes>,
 }
 
 /// What is noted of an image that was shown (`findings`, and `others` where no node is found in

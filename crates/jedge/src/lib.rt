@@ -17,6 +17,7 @@ pub mod host;
 pub mod info;
 pub mod laws;
 pub mod list;
+mod missing;
 pub mod mounting;
 pub mod parting;
 pub mod reading;

@@ -1,18 +1,20 @@
 //! What standard error is told of an answer, and how the program ends.
-ghost use Rattle.std.specs.Prelude.{◌≡◌, ◌++◌, ℕ, List, Ok, Err, Some, option_map};
+ghost use Rattle.std.specs.Prelude.{◌≡◌, ◌++◌, ℕ, List, [], Ok, Err, Some, option_map, unwrap_or};
 ghost use Rattle.flashbase.specs.Sinks.{PutsTo};
 ghost use Rattle.jhint.specs.Hints.{hint_lines};
 ghost use Rattle.jedge.specs.Acts.{DoesFrom, says, seen_as};
 ghost use Rattle.jedge.specs.Commands.{ends};
 ghost use Rattle.jedge.specs.Faults.{TellsFault};
-ghost use Rattle.jedge.specs.Told.{found_told, note_text, shown_notes};
+ghost use Rattle.jedge.specs.Missing.{bytes_missing_line};
+ghost use Rattle.jedge.specs.Told.{found_told, note_text, read_note_text, shown_notes};
 ghost use Rattle.jreport.specs.ExtractionNotes.{extraction_notes_of, line_of_count};
 ghost use Rattle.jreport.specs.Notes.{note_line_of};
 ghost use Rattle.jreserve.specs.Note.{reserve_line};
 
 use crate::fault::Fault;
-use crate::found::{BlankLeft, Extracted, Found, Note, ReadNotes};
+use crate::found::{BlankLeft, ContentNotes, Extracted, Found, Note, ReadNotes};
 use crate::host::Host;
+use crate::missing::put_missing;
 use flashbase::{DeviceFault, Sink};
 use jcommand::Outcome;
 use jhint::put_hint;
@@ -67,6 +69,18 @@ fn put_read<T: Sink>(of: ReadNotes, sink: &mut T) -> Result<(), DeviceFault>
     put_hint(of.hint, sink)
 }
 
+/// Puts the note on bytes that are missing, and those on the image.
+fn put_content<T: Sink>(of: ContentNotes, sink: &mut T) -> Result<(), DeviceFault>
+    ensures { PutsTo T.Sink sink.old sink.new (bytes_missing_line of.missing
+        ++ unwrap_or (option_map read_note_text of.read) []) result }
+{
+    put_missing(of.missing, sink)?;
+    match of.read {
+        Some(read) => put_read(read, sink),
+        None => Ok(()),
+    }
+}
+
 /// Puts the notes on an image that was extracted, and which options it shows.
 fn put_extracted<T: Sink>(of: Extracted, sink: &mut T) -> Result<(), DeviceFault>
     ensures { PutsTo T.Sink sink.old sink.new (extraction_notes_of of.findings of.lost_bits
@@ -103,6 +117,7 @@ pub fn put_noted<T: Sink>(note: Note<'_>, sink: &mut T) -> Result<(), DeviceFaul
         ),
         Note::Read(of) => put_read(of, sink),
         Note::Left(of) => put_left(of, sink),
+        Note::Content(of) => put_content(of, sink),
     }
 }
 

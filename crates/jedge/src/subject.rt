@@ -5,13 +5,14 @@ ghost use Rattle.jhint.specs.Hints.{hint_of};
 ghost use Rattle.jreport.specs.NoNodes.{TellsNone};
 ghost use Rattle.jreport.specs.Notes.{noted as findings};
 ghost use Rattle.jedge.specs.Acts.{DoesFrom, seen_as};
-ghost use Rattle.jedge.specs.Commands.{hint_if_found, left_noted, left_told, read_noted, read_told, shown_noted, shown_told};
-ghost use Rattle.jedge.specs.Told.{found_told, note_text};
+ghost use Rattle.jedge.specs.Commands.{content_told, hint_if_found, left_noted, left_told, read_noted, read_told, shown_noted, shown_told};
+ghost use Rattle.jedge.specs.Missing.{missing_noted};
+ghost use Rattle.jedge.specs.Told.{found_told, note_text, read_note_text};
 ghost use Rattle.jedge.specs.Views.{IsViewed, NamesPart, NamesPath, conversion_refusal, viewed, views};
 
 use crate::damage::findings_noted;
 use crate::fault::Fault;
-use crate::found::{BlankLeft, Found, Note, ReadNotes};
+use crate::found::{BlankLeft, ContentNotes, Found, Note, ReadNotes};
 use crate::host::Host;
 use crate::reading::load;
 use jcommand::Options;
@@ -192,7 +193,25 @@ pub fn hint_if_found(mounted: &Mounted<'_>, options: Options) -> Option<Hint>
     }
 }
 
-/// The notes on an image that was read.
+/// What is noted of an image that was read.
+fn read_notes(mounted: &Mounted<'_>, options: Options, others: Option<u64>) -> Option<ReadNotes>
+    ensures { option_map read_note_text result
+        ≡ read_noted (hint_of options.endian options.geometry.block mounted.now.image)
+        (findings mounted.now) others }
+{
+    let findings = noted(mounted);
+    if findings == 0 && others.is_none() {
+        return None;
+    }
+    let hint = hint_of(options.endian, options.geometry.block, mounted.image());
+    Some(ReadNotes {
+        findings,
+        others,
+        hint,
+    })
+}
+
+/// The notes on it.
 pub(crate) fn read_noted(
     mounted: &Mounted<'_>,
     options: Options,
@@ -202,16 +221,41 @@ pub(crate) fn read_noted(
         ≡ read_noted (hint_of options.endian options.geometry.block mounted.now.image)
         (findings mounted.now) others }
 {
-    let findings = noted(mounted);
-    if findings == 0 && others.is_none() {
-        return None;
+    match read_notes(mounted, options, others) {
+        Some(notes) => Some(Note::Read(notes)),
+        None => None,
     }
-    let hint = hint_of(options.endian, options.geometry.block, mounted.image());
-    Some(Note::Read(ReadNotes {
-        findings,
-        others,
-        hint,
-    }))
+}
+
+/// The notes on a file of which no node has so many bytes, beside those on its image.
+fn missing_noted(missing: u64, read: Option<ReadNotes>) -> Option<Note<'static>>
+    ensures { option_map note_text result ≡ missing_noted missing (option_map read_note_text read) }
+{
+    if missing == 0 {
+        return match read {
+            Some(notes) => Some(Note::Read(notes)),
+            None => None,
+        };
+    }
+    Some(Note::Content(ContentNotes { missing, read }))
+}
+
+/// What a command comes to that prints a file of a mounted image, of which no node has so many
+/// bytes. These are found if that is `strict`.
+pub(crate) fn content_found(
+    mounted: &Mounted<'_>,
+    options: Options,
+    others: Option<u64>,
+    missing: u64,
+    strict: bool,
+) -> Found<'static>
+    ensures { found_told result ≡ content_told strict missing
+        (read_told options.endian options.geometry.block others mounted.now) }
+{
+    Found {
+        counted: if strict { missing } else { 0 },
+        note: missing_noted(missing, read_notes(mounted, options, others)),
+    }
 }
 
 /// What a command comes to that only reads a mounted image. If no node is found in it, `others` is

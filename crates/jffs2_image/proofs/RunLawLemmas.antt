@@ -19,6 +19,7 @@ use Rattle.jedge.specs.Laws.{MakesNothing}
 use Rattle.jjson.specs.declared.lines.Lines.{Lines}
 use Rattle.jspare.specs.declared.region.Region.{Region}
 use Rattle.jedge.proofs.LookingLemmas as looking
+use Rattle.jinspects.specs.Inspecting.{period_asked}
 use Rattle.jinspects.specs.InspectLaws.{CatInode, CheckThrough, History, MapNodes}
 use Rattle.jinspects.proofs.InspectLookLemmas.{inspects_only}
 use Rattle.jreads.proofs.LookLemmas.{cuts_read_only}
@@ -27,15 +28,16 @@ use Rattle.jfolders.specs.Reading.{listing_settings}
 use Rattle.jfolders.proofs.ReadLaws.{reading_makes_nothing}
 use Rattle.jforetells.proofs.ForetellLaws.{cuts_through_reads_only, cuts_update_reads_only}
 use Rattle.jmakes.specs.Commands.{Append, Build}
+use Rattle.jmakes.specs.Keeping.{base_of}
 use Rattle.jmakes.specs.Writing.{image_asked}
 use Rattle.jmakes.specs.Leaving.{LeavesFiles}
 use Rattle.jmakes.proofs.CommandLaws.{atomic_leaves_files}
+use Rattle.jmakes.proofs.KeepingLemmas.{compares_looks}
 use Rattle.jmakes.proofs.LeavingLemmas.{looks_quiet, quiet_then}
 use Rattle.jpacks.proofs.PackLaws.{pack_compressed_leaves_files, pack_leaves_files}
 use Rattle.jverifies.proofs.VerifyLaws.{verify_makes_nothing}
 use Rattle.jupdates.proofs.UpdateLaws.{build_compressed_leaves_files, update_leaves_files}
 use Rattle.jremakes.specs.Laws.{Apart, Compact, CompactApart, Compress, Decompress}
-use Rattle.jremakes.proofs.JudgedLemmas.{compares_looks}
 use Rattle.jremakes.proofs.LeftLemmas.{remade_is_left}
 use Rattle.jffs2_image.specs.RunLaws.{AtomicCommandsLeaveFiles, AutoDoesAsGiven, IsAtomic, IsPrintedOnly, PrintingMakesNothing, Product, product_of}
 use Rattle.jffs2_image.specs.Running.{command_act, found_act, image_left, image_looked, json_act, lines_asked, keeps_file, read_act, refused_act, region_act, remaking_asked}
@@ -47,13 +49,13 @@ command_looks (command.Scan i) is = scan_reads_only i.options i.image
 command_looks (command.Check c) is = looking.reads_only (Check c.options c.shape c.image)
 command_looks (command.CheckThrough c) is = inspects_only (CheckThrough c.options c.shape c.image)
 command_looks (command.List l) is = looking.reads_only (Ls l.options l.decompress l.image l.path)
-command_looks (command.Cat c) is = looking.reads_only (Cat c.options c.decompress c.image c.path)
+command_looks (command.Cat c) is = looking.reads_only (Cat c.options c.decompress c.strict c.image c.path)
 command_looks (command.CatInode c) is = inspects_only (CatInode c.options (record { ino = c.ino; version = c.version }) c.image)
 command_looks (command.Info image) is = looking.reads_only (Info image)
 command_looks (command.Diff d) is = looking.reads_only (Diff d)
 command_looks (command.Damage x) is = looking.reads_only (Damage x.options x.decompress x.image)
 command_looks (command.Map m) is = inspects_only (MapNodes m.options m.svg m.image)
-command_looks (command.History h) is = inspects_only (History h.options h.image h.path)
+command_looks (command.History h) is = inspects_only (History h.options (period_asked h) h.image h.path)
 command_looks (command.Build b) is = absurd is
 command_looks (command.BuildCompressed b) is = absurd is
 command_looks (command.Append a) is = absurd is
@@ -160,7 +162,7 @@ command_leaves (command.Build b) events f atomic other did =
     atomic_leaves_files (Build (image_asked b.target.options.endian b.target) b.listing) events f atomic other did
 command_leaves (command.BuildCompressed b) events f atomic other did = build_compressed_leaves_files b.target.options.endian b events f atomic other did
 command_leaves (command.Append a) events f atomic other did =
-    atomic_leaves_files (Append (image_asked a.target.options.endian a.target) a.decompress a.image a.listing) events f atomic other did
+    atomic_leaves_files (Append (image_asked a.target.options.endian a.target) (base_of a) a.listing) events f atomic other did
 command_leaves (command.Update u) events f atomic other did = update_leaves_files u.options.endian u events f atomic other did
 command_leaves (command.Cuts c) events f atomic other did = absurd atomic
 command_leaves (command.CutsThrough c) events f atomic other did = absurd atomic

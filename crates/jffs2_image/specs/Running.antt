@@ -26,10 +26,11 @@ use Rattle.jjson.specs.declared.lines.Lines.TheVariants as lines
 use Rattle.jreport.specs.declared.faults.ProgramFault.TheVariants as program
 use Rattle.jreport.specs.declared.image_fault.ImageFault.TheVariants as image
 use Rattle.jspare.specs.declared.region.Region.{Region}
-use Rattle.jinspects.specs.Inspecting.{cat_inode_act, check_through_act, history_act, map_act}
+use Rattle.jinspects.specs.Inspecting.{cat_inode_act, check_through_act, history_act, map_act, period_asked}
 use Rattle.jreads.specs.Cutting.{cuts_act}
 use Rattle.jreads.specs.Scanning.{scan_act}
 use Rattle.jmakes.specs.Commands.{append_act, build_act}
+use Rattle.jmakes.specs.Keeping.{base_of}
 use Rattle.jmakes.specs.Making.{compares_names}
 use Rattle.jmakes.specs.Writing.{image_asked}
 use Rattle.jremakes.specs.Asked.{AskedRemaking}
@@ -63,20 +64,20 @@ command_act (command.Scan i) = scan_act i.options i.image
 command_act (command.Check c) = check_act c.options c.shape c.image
 command_act (command.CheckThrough c) = check_through_act c.options c.shape c.image
 command_act (command.List l) = list_act l.options l.decompress l.image l.path
-command_act (command.Cat c) = cat_act c.options c.decompress c.image c.path
+command_act (command.Cat c) = cat_act c.options c.decompress c.strict c.image c.path
 command_act (command.CatInode c) =
     cat_inode_act c.options (record { ino = c.ino; version = c.version }) c.image
 command_act (command.Info image) = info_act image
 command_act (command.Diff d) = diff_act d
 command_act (command.Damage x) = damage_act x.options x.decompress x.image
 command_act (command.Map m) = map_act m.options m.svg m.image
-command_act (command.History h) = history_act h.options h.image h.path
+command_act (command.History h) = history_act h.options (period_asked h) h.image h.path
 command_act (command.Build b) =
     build_act (image_asked b.target.options.endian b.target) b.listing
 command_act (command.BuildCompressed b) =
     build_compressed_act b.target.options.endian b
 command_act (command.Append a) =
-    append_act (image_asked a.target.options.endian a.target) a.decompress a.image a.listing
+    append_act (image_asked a.target.options.endian a.target) (base_of a) a.listing
 command_act (command.Update u) = update_act u.options.endian u
 command_act (command.Cuts c) = cuts_act c.options c.blocks c.page c.on c.listing
 command_act (command.CutsThrough c) = cuts_through_act c.options.endian c
@@ -139,16 +140,30 @@ printed_lines (command.Scan i) = Some lines.Report
 printed_lines (command.Check c) = Some lines.Report
 printed_lines (command.CheckThrough c) = Some lines.Report
 printed_lines (command.List l) = Some lines.Tree
+printed_lines (command.Cat c) = None
+printed_lines (command.CatInode c) = None
 printed_lines (command.Info image) = Some lines.Parameters
 printed_lines (command.Diff d) = Some lines.Differences
-printed_lines (command.Verify v) = Some lines.Differences
 printed_lines (command.Damage x) = Some lines.Damage
 printed_lines (command.Map m) = Some lines.Map
 printed_lines (command.History h) = Some lines.History
+printed_lines (command.Build b) = None
+printed_lines (command.BuildCompressed b) = None
+printed_lines (command.Append a) = None
+printed_lines (command.Update u) = None
 printed_lines (command.Cuts c) = Some lines.Cuts
 printed_lines (command.CutsThrough c) = Some lines.Cuts
 printed_lines (command.CutsUpdate c) = Some lines.Cuts
-printed_lines _ = None
+printed_lines (command.Decompress c) = None
+printed_lines (command.Apart c) = None
+printed_lines (command.Compress c) = None
+printed_lines (command.Compact c) = None
+printed_lines (command.CompactApart c) = None
+printed_lines (command.Extract x) = None
+printed_lines (command.Listing l) = None
+printed_lines (command.Pack p) = None
+printed_lines (command.PackCompressed p) = None
+printed_lines (command.Verify v) = Some lines.Differences
 
 abbrev pub lines_asked : Request Text → Option Lines
 lines_asked request = if request.json then printed_lines request.command else None

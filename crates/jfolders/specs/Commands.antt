@@ -7,11 +7,12 @@ use Rattle.jfolder.specs.declared.reading.FolderTree.{FolderTree}
 use Rattle.jcommand.specs.declared.parsed.Extraction.{Extraction}
 use Rattle.jedge.specs.Acts.{Act, Then, Whole, answers, loads, prints}
 use Rattle.jedge.specs.Commands.{hint_if_found}
-use Rattle.jedge.specs.Images.{HasNodes, MountsWith}
+use Rattle.jedge.specs.Images.{HasNodes}
 use Rattle.jedge.specs.Told.{Told}
 use Rattle.jedge.specs.Views.{NamesPart}
 use Rattle.jfolders.specs.Extracting.{HasPart, extracted_told, found_mounted}
 use Rattle.jfolders.specs.Filling.{fills_folder}
+use Rattle.jfolders.specs.Mounting.{MountsToExtract}
 use Rattle.jfolders.specs.Reading.{reads_tree}
 
 -- ---- `listing`
@@ -38,16 +39,17 @@ extracts_part x part m = Then (answers (HasPart m.state part)) (λ s.
     answers (λ result. result ≡ Ok (extracted_told
     (hint_if_found x.options.endian x.options.geometry.block m) (found_mounted m) totals))))
 
--- an image in which a node is found is mounted, with `--decompress` through its compression, and
--- the part of its tree that is asked for is made in the folder
+-- an image in which a node is found is mounted, with `--decompress` through its compression, or with
+-- `--deleted` as its deleted files, and the part of its tree that is asked for is made in the folder
 abbrev pub extracts_image : Extraction (List ℕ) → Option (List ℕ) → List ℕ → Act Told
 extracts_image x part image =
     Then (answers (HasNodes x.options.endian x.options.geometry.block None image)) (λ _.
-    Then (answers (MountsWith x.decompress x.options.endian x.options.geometry.block image))
-    (extracts_part x part))
+    Then (answers (MountsToExtract x.deleted x.decompress x.options.endian x.options.geometry.block
+    image)) (extracts_part x part))
 
 -- rule: Listings: What `extract` does as a command.
---   definitions: jfolders.Commands.extract_act, jfolders.Filling.fills_folder
+--   definitions: jfolders.Commands.extract_act, jfolders.Mounting.MountsToExtract,
+--   jfolders.Filling.fills_folder
 --   code: jfolders::extracting::extract
 --   laws: jfolders::laws::filled_last
 -- The word of a path is judged, where one is given; the file is read, its image mounted, and the

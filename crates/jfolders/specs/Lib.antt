@@ -1,5 +1,6 @@
 pub mod Commands
 pub mod Extracting
+pub mod Mounting
 pub mod Filling
 pub mod Keepers
 pub mod Keeping

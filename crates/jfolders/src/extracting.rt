@@ -1,4 +1,4 @@
-//! `extract`: the tree of an image, or a part of it, in a folder.
+//! `extract`: the tree of an image, a part of it, or its deleted files, in a folder.
 ghost use Rattle.std.specs.Prelude.{◌≡◌, IfOk, IfSome, option_map};
 ghost use Rattle.jextract.specs.PartsOf.{IsPart};
 ghost use Rattle.jcommand.specs.Parsed.{extraction_view};
@@ -6,14 +6,16 @@ ghost use Rattle.jedge.specs.Acts.{DoesFrom, seen_as};
 ghost use Rattle.jedge.specs.Told.{found_told, note_text};
 ghost use Rattle.jfolders.specs.Commands.{extract_act, extracts_part};
 ghost use Rattle.jfolders.specs.Extracting.{HasPart, extracted_told, extraction_noted, found_mounted, state_of_part};
+ghost use Rattle.jfolders.specs.Mounting.{MountsDeleted, MountsToExtract};
 
 use crate::filling::fill;
 use crate::host::FolderHost;
 use jcommand::Extraction;
+use jdeleted::{DeletedFile, mount_deleted};
 use jedge::damage::either;
 use jedge::fault::Fault;
 use jedge::found::{Extracted, Found, Note};
-use jedge::mounting::{judge_nodes, mounted_as};
+use jedge::mounting::{judge_nodes, mounted_as, view_refusal};
 use jedge::reading::load;
 use jedge::subject::{hint_if_found, part_named};
 use jextract::{Part, PartFault, Totals, part_at};
@@ -21,6 +23,7 @@ use jhint::Hint;
 use jmount::Mounted;
 use jnode::Order;
 use jreport::{ProgramFault, attribute_count, noted};
+use jscan::Geometry;
 use std::alloc::Global;
 
 /// The part of a tree that a path names, if one is given.
@@ -108,6 +111,42 @@ fn extract_mounted<H: FolderHost>(
     }
 }
 
+/// Mounts the deleted files of an image.
+fn mounted_deleted<'a, E: Order>(
+    alloc: Global,
+    image: &'a [u8],
+    geometry: Geometry,
+    contents: &'a mut Vec<u8>,
+    files: &'a mut Vec<DeletedFile>,
+) -> Result<Mounted<'a>, Fault>
+    ensures { MountsDeleted E.order geometry.block image.now result }
+{
+    match mount_deleted::<E>(alloc, image, geometry, contents, files) {
+        Ok(mounted) => Ok(mounted),
+        Err(fault) => Err(Fault::Refused(view_refusal(fault))),
+    }
+}
+
+/// Mounts what is extracted of an image: its tree, through its compression if that is asked for; or
+/// its deleted files.
+fn mounted_for<'a, E: Order>(
+    alloc: Global,
+    image: &'a [u8],
+    asked: Extraction<&str>,
+    contents: &'a mut Vec<u8>,
+    files: &'a mut Vec<DeletedFile>,
+) -> Result<Mounted<'a>, Fault>
+    ensures { MountsToExtract asked.deleted asked.decompress E.order
+        asked.options.geometry.block image.now result }
+{
+    let geometry = asked.options.geometry;
+    if asked.deleted {
+        mounted_deleted::<E>(alloc, image, geometry, contents, files)
+    } else {
+        mounted_as::<E>(alloc, image, geometry, asked.decompress, contents)
+    }
+}
+
 /// `extract`.
 pub fn extract<E: Order, H: FolderHost>(
     host: &mut H,
@@ -127,19 +166,13 @@ pub fn extract<E: Order, H: FolderHost>(
         Err(fault) => return Err(fault),
     };
     let bytes = image.as_slice();
-    let geometry = asked.options.geometry;
-    match judge_nodes::<E>(host.alloc(), bytes, geometry, None) {
+    match judge_nodes::<E>(host.alloc(), bytes, asked.options.geometry, None) {
         Ok(()) => {}
         Err(fault) => return Err(fault),
     }
     let mut contents = Vec::new(host.alloc());
-    match mounted_as::<E>(
-        host.alloc(),
-        bytes,
-        geometry,
-        asked.decompress,
-        &mut contents,
-    ) {
+    let mut files = Vec::new(host.alloc());
+    match mounted_for::<E>(host.alloc(), bytes, asked, &mut contents, &mut files) {
         Ok(mounted) => extract_mounted(host, &mounted, &path, asked),
         Err(fault) => Err(fault),
     }

@@ -1,11 +1,12 @@
 -- The bytes of a file that no node has. Those who write an image leave none: a hole is in the range
 -- of a node of zeros (Linux, fs/jffs2/file.c: `jffs2_write_begin` writes one of JFFS2_COMPR_ZERO).
 -- So a gap is left where nodes were lost, also where nothing of them can be read.
-use Rattle.std.specs.Prelude.{ℕ, zero, suc, ◌-◌, ◌==◌, ◌&&◌, Bool, true, not, nat_lt, nat_le, if◌then◌else◌, List, [], ◌∷◌, map, filter}
+use Rattle.std.specs.Prelude.{ℕ, zero, suc, ◌-◌, ◌==◌, ◌&&◌, Bool, true, not, nat_lt, nat_le, if◌then◌else◌, List, [], ◌∷◌, map, filter, Option, None, Some, option_map}
 use Rattle.std.specs.List.{list_any, flat_map}
 use Rattle.jnode.specs.declared.order.Endian.{Endian}
 use Rattle.jmount.specs.Mount.{Mount}
-use Rattle.jmount.specs.Shown.{objects_in}
+use Rattle.jmount.specs.Shown.{objects_in, shown}
+use Rattle.jmount.specs.Tree.{object}
 use Rattle.jmount.specs.declared.object.Object.{Object}
 use Rattle.jmount.specs.declared.object.Kind.{Kind}
 use Rattle.jmount.specs.declared.object.Kind.TheVariants.{Regular}
@@ -69,10 +70,20 @@ gaps_by_kind sound ino size _ = []
 abbrev pub gaps_of_object : List Stretch → ℕ × Object → List Gap
 gaps_of_object sound (ino, o) = gaps_by_kind sound ino o.size o.kind
 
+abbrev pub gaps_if_there : List Stretch → ℕ → Option Object → List Gap
+gaps_if_there sound ino None = []
+gaps_if_there sound ino (Some o) = gaps_of_object sound (ino, o)
+
 -- rule: What is printed: Bytes of a file that no node has.
---   definitions: jgaps.Gaps.gaps_of, jgaps.Gaps.gaps_below, jgaps.Gaps.is_covered
---   code: jgaps::finding::gaps_of
+--   definitions: jgaps.Gaps.gaps_of, jgaps.Gaps.gaps_of_file, jgaps.Gaps.gaps_below,
+--   jgaps.Gaps.is_covered
+--   code: jgaps::finding::gaps_of, jgaps::finding::gaps_of_file
 --   laws: jgaps::laws::no_gap_where_covered, jgaps::laws::gaps_are_maximal
+-- those of the object of a number in a mounted image
+unfoldable pub gaps_of_file : Endian → ℕ → Mount → ℕ → List Gap
+gaps_of_file e size m ino =
+    gaps_if_there (stretches e size m.image) ino (option_map shown (object m.state ino))
+
 -- all gaps of a mounted image, in order of the object's number and then of the place
 unfoldable pub gaps_of : Endian → ℕ → Mount → List Gap
 gaps_of e size m = flat_map (gaps_of_object (stretches e size m.image)) (objects_in m.state)

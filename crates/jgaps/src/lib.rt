@@ -16,5 +16,5 @@ mod sorted;
 mod sweep;
 
 pub use crate::fields::{Stretch, field_at, stretch_at, stretch_of, stretch_sighted};
-pub use crate::finding::gaps_of;
+pub use crate::finding::{gaps_of, gaps_of_file};
 pub use crate::gap::Gap;

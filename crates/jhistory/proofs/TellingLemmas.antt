@@ -31,7 +31,7 @@ use Rattle.jscan.proofs.ExtentLaws.{extents_are_few}
 use Rattle.jscan.proofs.FitLaws.{nodes_writable}
 use Rattle.jscan.proofs.ImageLemmas.{image_sighted, starts_small}
 use Rattle.jscan.proofs.PartLemmas.{block_length}
-use Rattle.jhistory.specs.HistoryText.{PutsHistory, Subjects, WordLine, extent_told, word_line_if, word_told, words_told}
+use Rattle.jhistory.specs.HistoryText.{PutsHistory, Selection, WordLine, extent_told, word_line_if, word_told, words_told}
 use Rattle.jhistory.specs.NodeWords.{Words}
 use Rattle.jhistory.specs.declared.fault.HistoryFault.{HistoryFault}
 use Rattle.jhistory.specs.declared.fault.HistoryFault.TheVariants.{Output}
@@ -120,8 +120,8 @@ length_filter_map {B = B} f (x ∷ xs) = by (f x) refl (length_filter_map f xs)
     by None is rest = rw is (omega (arith, rest))
     by (Some y) is rest = rw is (omega (arith, rest))
 
-pub words_few : (e : Endian) (size : ℕ) (image : List ℕ) (words : Words) (subjects : Subjects) (ss : List Extent) → length (words_told e size image words subjects ss) ≤ length ss
-words_few e size image words subjects ss = length_filter_map (λ s. word_told (extent_told e size image words subjects s)) ss
+pub words_few : (e : Endian) (size : ℕ) (image : List ℕ) (words : Words) (selected : Selection) (ss : List Extent) → length (words_told e size image words selected ss) ≤ length ss
+words_few e size image words selected ss = length_filter_map (λ s. word_told (extent_told e size image words selected s)) ss
 
 -- ---- the words of extents
 
@@ -139,19 +139,19 @@ filter_map_more {A} {B} f (y ∷ ys) x = by (f y) (filter_map_more f ys x)
     by (Some z) rest = ap (λ (l : List B). z ∷ l) rest
 
 -- an extent of which nothing is told, and one that has a word
-pub word_none : (e : Endian) (size : ℕ) (image : List ℕ) (words : Words) (subjects : Subjects) (ss : List Extent) (s : Extent) → extent_told e size image words subjects s ≡ None
-    → words_told e size image words subjects (ss ++ s ∷ []) ≡ words_told e size image words subjects ss
-word_none e size image words subjects ss s is =
-    filter_map_more (λ s. word_told (extent_told e size image words subjects s)) ss s
-    ∙ ap (λ (o : Option WordLine). words_told e size image words subjects ss ++ option_to_list (word_told o)) is
-    ∙ append-nil (words_told e size image words subjects ss)
+pub word_none : (e : Endian) (size : ℕ) (image : List ℕ) (words : Words) (selected : Selection) (ss : List Extent) (s : Extent) → extent_told e size image words selected s ≡ None
+    → words_told e size image words selected (ss ++ s ∷ []) ≡ words_told e size image words selected ss
+word_none e size image words selected ss s is =
+    filter_map_more (λ s. word_told (extent_told e size image words selected s)) ss s
+    ∙ ap (λ (o : Option WordLine). words_told e size image words selected ss ++ option_to_list (word_told o)) is
+    ∙ append-nil (words_told e size image words selected ss)
 
-pub word_some : (e : Endian) (size : ℕ) (image : List ℕ) (words : Words) (subjects : Subjects) (ss : List Extent) (s : Extent) (t : WordLine)
-    → extent_told e size image words subjects s ≡ Some t
-    → words_told e size image words subjects (ss ++ s ∷ []) ≡ words_told e size image words subjects ss ++ t.0 ∷ []
-word_some e size image words subjects ss s t is =
-    filter_map_more (λ s. word_told (extent_told e size image words subjects s)) ss s
-    ∙ ap (λ (o : Option WordLine). words_told e size image words subjects ss ++ option_to_list (word_told o)) is
+pub word_some : (e : Endian) (size : ℕ) (image : List ℕ) (words : Words) (selected : Selection) (ss : List Extent) (s : Extent) (t : WordLine)
+    → extent_told e size image words selected s ≡ Some t
+    → words_told e size image words selected (ss ++ s ∷ []) ≡ words_told e size image words selected ss ++ t.0 ∷ []
+word_some e size image words selected ss s t is =
+    filter_map_more (λ s. word_told (extent_told e size image words selected s)) ss s
+    ∙ ap (λ (o : Option WordLine). words_told e size image words selected ss ++ option_to_list (word_told o)) is
 
 -- ---- a whole history
 

@@ -1,6 +1,6 @@
 -- The text that `history` prints of an image, and what a call puts. The words for fields are those
 -- of Linux, include/uapi/linux/jffs2.h: `struct jffs2_raw_dirent`, `struct jffs2_raw_inode`.
-use Rattle.std.specs.Prelude.{◌≡◌, ℕ, ◌<◌, Bool, true, false, IsTrue, List, [], ◌++◌, length, filter_map, codes, decimal, Option, Some, None, option_map, Result, Ok, Err}
+use Rattle.std.specs.Prelude.{◌≡◌, ℕ, ◌<◌, ◌&&◌, nat_le, Bool, true, false, IsTrue, List, [], ◌++◌, length, filter_map, codes, decimal, Option, Some, None, is_none, option_map, Result, Ok, Err, if◌then◌else◌}
 use Rattle.std.specs.Borrow.{Bor}
 use Rattle.std.specs.BTreeMap.{get}
 use Rattle.std.specs.BTreeSet.{BTreeSet, contains}
@@ -27,6 +27,7 @@ use Rattle.jline.specs.Words.{escaped, hex, octal}
 use Rattle.jhistory.specs.NodeWords.{Words}
 use Rattle.jhistory.specs.declared.fault.HistoryFault.{HistoryFault}
 use Rattle.jhistory.specs.declared.fault.HistoryFault.TheVariants as fault
+use Rattle.jhistory.specs.declared.period.Period.{Period}
 use Rattle.jhistory.specs.declared.totals.Totals.{Totals}
 use Rattle.jhistory.specs.declared.word.NodeWord.{NodeWord}
 use Rattle.jhistory.specs.declared.word.NodeWord.TheVariants.{Live, Superseded, Deleted, Deletion, Unreached, Obsolete}
@@ -101,13 +102,44 @@ history_line addr word fields =
 abbrev pub Subjects : Type 0
 Subjects = Option (BTreeSet ℕ)
 
--- as a call is lent them
-abbrev pub lent : Option (Bor (BTreeSet ℕ)) → Subjects
-lent subjects = option_map (λ numbers. numbers.now) subjects
-
 abbrev pub is_subject : Subjects → ℕ → Bool
 is_subject None i = true
 is_subject (Some numbers) i = contains nat_cmp numbers i
+
+-- at a time or later, and at a time or earlier
+abbrev pub is_since : Option ℕ → ℕ → Bool
+is_since None time = true
+is_since (Some first) time = nat_le first time
+
+abbrev pub is_until : Option ℕ → ℕ → Bool
+is_until None time = true
+is_until (Some last) time = nat_le time last
+
+abbrev pub is_in_period : Period → ℕ → Bool
+is_in_period period time = is_since period.since time && is_until period.until time
+
+-- no time is left out, so it is not asked for
+abbrev pub is_always : Period → Bool
+is_always period = is_none period.since && is_none period.until
+
+-- whose nodes are told, and of which times
+pub record Selection : Type 0 where
+  pub subjects : Subjects
+  pub period : Period
+
+-- as a call is lent it
+abbrev pub selection : Option (Bor (BTreeSet ℕ)) → Period → Selection
+selection subjects period =
+    record { subjects = option_map (λ numbers. numbers.now) subjects; period = period }
+
+-- a node of an object and of a time is told
+abbrev pub is_selected : Selection → ℕ → ℕ → Bool
+is_selected selected i time =
+    is_in_period selected.period time && is_subject selected.subjects i
+
+-- all nodes are told
+abbrev pub is_of_all : Selection → Bool
+is_of_all selected = is_always selected.period && is_none selected.subjects
 
 -- a word and its line
 abbrev pub WordLine : Type 0
@@ -117,44 +149,45 @@ abbrev pub line_by : ℕ → List ℕ → Bool → Option NodeWord → Option Wo
 line_by addr fields true word = option_map (λ w. (w, history_line addr w fields)) word
 line_by addr fields false word = None
 
--- A node is told if it has a word, and if the object that it is of, or that its name stands for, is
--- a subject.
-abbrev pub node_told : Words → Subjects → ℕ → ℕ → List ℕ → Option WordLine
-node_told words subjects addr ino fields =
-    line_by addr fields (is_subject subjects ino) (get nat_cmp words addr)
+-- A node is told if it has a word, if the object that it is of, or that its name stands for, is a
+-- subject, and if its time is in the period: `mtime` of an inode node, `mctime` of an entry.
+abbrev pub node_told : Words → Selection → ℕ → ℕ → ℕ → List ℕ → Option WordLine
+node_told words selected addr ino time fields =
+    line_by addr fields (is_selected selected ino time) (get nat_cmp words addr)
 
--- of a node that is marked obsolete it is not known which object it was of
-abbrev pub obsolete_told : Subjects → ℕ → ℕ → Option WordLine
-obsolete_told None addr len = Some (Obsolete, history_line addr Obsolete (obsolete_fields len))
-obsolete_told (Some numbers) addr len = None
+-- of a node that is marked obsolete it is not known which object it was of, nor its time
+abbrev pub obsolete_told : Selection → ℕ → ℕ → Option WordLine
+obsolete_told selected addr len = if is_of_all selected
+    then Some (Obsolete, history_line addr Obsolete (obsolete_fields len)) else None
 
-abbrev pub seen_told : Endian → ℕ → List ℕ → Words → Subjects → ℕ → ℕ → Seen → Option WordLine
-seen_told e size image words subjects addr len (seen.Entry d) =
-    node_told words subjects addr d.ino (entry_fields d)
-seen_told e size image words subjects addr len (seen.Inode i) =
-    node_told words subjects addr i.ino (inode_fields i (compr_of_fill i.fill))
-seen_told e size image words subjects addr len (seen.Compressed compr) =
+abbrev pub seen_told : Endian → ℕ → List ℕ → Words → Selection → ℕ → ℕ → Seen → Option WordLine
+seen_told e size image words selected addr len (seen.Entry d) =
+    node_told words selected addr d.ino d.mctime (entry_fields d)
+seen_told e size image words selected addr len (seen.Inode i) =
+    node_told words selected addr i.ino i.mtime (inode_fields i (compr_of_fill i.fill))
+seen_told e size image words selected addr len (seen.Compressed compr) =
     let node = inode_with (compressed_node_at e size image addr) fill.Zero in
-    node_told words subjects addr node.ino (inode_fields node compr)
-seen_told e size image words subjects addr len seen.Obsolete = obsolete_told subjects addr len
-seen_told e size image words subjects addr len _ = None
+    node_told words selected addr node.ino node.mtime (inode_fields node compr)
+seen_told e size image words selected addr len seen.Obsolete = obsolete_told selected addr len
+seen_told e size image words selected addr len _ = None
 
-abbrev pub kind_told : Endian → ℕ → List ℕ → Words → Subjects → ℕ → ℕ → ExtentKind → Option WordLine
-kind_told e size image words subjects addr len (Tiled what) =
-    seen_told e size image words subjects addr len what
-kind_told e size image words subjects addr len _ = None
+abbrev pub kind_told : Endian → ℕ → List ℕ → Words → Selection → ℕ → ℕ → ExtentKind
+    → Option WordLine
+kind_told e size image words selected addr len (Tiled what) =
+    seen_told e size image words selected addr len what
+kind_told e size image words selected addr len _ = None
 
 -- what is told of an extent
-abbrev pub extent_told : Endian → ℕ → List ℕ → Words → Subjects → Extent → Option WordLine
-extent_told e size image words subjects s =
-    kind_told e size image words subjects s.addr s.len s.kind
+abbrev pub extent_told : Endian → ℕ → List ℕ → Words → Selection → Extent → Option WordLine
+extent_told e size image words selected s =
+    kind_told e size image words selected s.addr s.len s.kind
 
 abbrev pub word_line_if : Option WordLine → List ℕ
 word_line_if None = []
 word_line_if (Some t) = t.1
 
-abbrev pub told_line : Endian → ℕ → List ℕ → Words → Subjects → Extent → List ℕ
-told_line e size image words subjects s = word_line_if (extent_told e size image words subjects s)
+abbrev pub told_line : Endian → ℕ → List ℕ → Words → Selection → Extent → List ℕ
+told_line e size image words selected s = word_line_if (extent_told e size image words selected s)
 
 -- ---- totals
 
@@ -162,9 +195,9 @@ abbrev pub word_told : Option WordLine → Option NodeWord
 word_told t = option_map (λ x. x.0) t
 
 -- the words of these extents, as far as they are told
-abbrev pub words_told : Endian → ℕ → List ℕ → Words → Subjects → List Extent → List NodeWord
-words_told e size image words subjects ss =
-    filter_map (λ s. word_told (extent_told e size image words subjects s)) ss
+abbrev pub words_told : Endian → ℕ → List ℕ → Words → Selection → List Extent → List NodeWord
+words_told e size image words selected ss =
+    filter_map (λ s. word_told (extent_told e size image words selected s)) ss
 
 abbrev pub is_live_word : NodeWord → Bool
 is_live_word Live = true
@@ -211,12 +244,12 @@ word_totals_line t =
 --   definitions: jhistory.HistoryText.history_text, jhistory.HistoryText.extent_told
 --   code: jhistory::history::put_history
 --   laws: jhistory::laws::totals_are_all, jhistory::examples::entry_is_told
--- what `history` prints of an image whose nodes have these words, of these objects alone
-unfoldable pub history_text : Endian → ℕ → List ℕ → Words → Subjects → List ℕ
-history_text e size image words subjects =
+-- what `history` prints of an image whose nodes have these words, of these alone
+unfoldable pub history_text : Endian → ℕ → List ℕ → Words → Selection → List ℕ
+history_text e size image words selected =
     let ss = image_extents e size image in
-    flat_map (told_line e size image words subjects) ss
-    ++ word_totals_line (word_totals (words_told e size image words subjects ss))
+    flat_map (told_line e size image words selected) ss
+    ++ word_totals_line (word_totals (words_told e size image words selected ss))
 
 -- ---- what a call puts
 

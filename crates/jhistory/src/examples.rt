@@ -9,7 +9,7 @@ ghost use Rattle.jnode.specs.declared.order.Endian.TheVariants.{Little};
 ghost use Rattle.jcompact.specs.Examples.{file_row, folder_row, name_row, two_reached};
 ghost use Rattle.jhistory.specs.HistoryText.{history_text};
 ghost use Rattle.jhistory.specs.NodeWords.{Words};
-ghost use Rattle.jhistory.specs.WordExamples.{words_of_rows};
+ghost use Rattle.jhistory.specs.WordExamples.{all_since, words_of_rows};
 ghost use Rattle.jhistory.specs.declared.word.NodeWord.TheVariants.{Live, Superseded, Deleted, Deletion, Unreached};
 
 /// Names: of an entry that a newer one replaced, of a deletion and what it took away, of one name
@@ -47,8 +47,16 @@ pub fn objects_have_words()
 pub fn entry_is_told()
     ensures { (words : Words) → get nat_cmp words 12 ≡ Some Live
         → history_text Little 200 (little_marker ++ (entry_a ++ 0 ∷ 0 ∷ 0 ∷ []) ++ obsolete_a)
-        words None ≡
+        words (all_since None) ≡
         codes "0000000c live entry pino 1 version 1 ino 2 mctime 0 type 8 name a\n"
         ++ codes "00000038 obsolete length 44\n"
         ++ codes "total live 1 superseded 0 deleted 0 deletion 0 unreached 0 obsolete 1\n" }
+{}
+
+/// The same image: no node has a time after 0, and of the obsolete one that is not known.
+pub fn entry_is_earlier()
+    ensures { (words : Words)
+        → history_text Little 200 (little_marker ++ (entry_a ++ 0 ∷ 0 ∷ 0 ∷ []) ++ obsolete_a)
+        words (all_since (Some 1)) ≡
+        codes "total live 0 superseded 0 deleted 0 deletion 0 unreached 0 obsolete 0\n" }
 {}

@@ -1,22 +1,20 @@
 -- A fault is an event.
-use Rattle.std.proofs.Common.{◌≡◌, ℕ, Bool, List, Option, Err, inl, inr, subst, sym}
-use Rattle.std.specs.Prelude.{◌⊎◌}
+use Rattle.std.proofs.Common.{ℕ, Bool, List, Option, inl, inr}
 use Rattle.jnode.specs.declared.order.Endian.{Endian}
 use Rattle.jcommand.specs.declared.parsed.Options.{Options}
+use Rattle.jhistory.specs.declared.period.Period.{Period}
 use Rattle.jversions.specs.declared.revision.Revision.{Revision}
-use Rattle.jedge.specs.Acts.{Ends, GoesOn, answers, loads, opens, reads_whole}
-use Rattle.jedge.specs.Calls.{Event}
-use Rattle.jedge.specs.Laws.{BlamesEvent, BlamesFailed}
-use Rattle.jedge.specs.declared.fault.Fault.{Fault}
+use Rattle.jedge.specs.Acts.{answers, loads, opens, reads_whole}
+use Rattle.jedge.specs.Laws.{BlamesFailed}
 use Rattle.jedge.specs.declared.fault.Fault.TheVariants as fault
-use Rattle.jedge.proofs.BlamingLemmas.{Unnamed, blames_after, loads_blames, notes_blame, of_bytes, opens_blames, part_blames, prints_blames, reads_blames, same, size_blames, then_blames, view_of, whole_blames}
+use Rattle.jedge.proofs.BlamingLemmas.{Unnamed, loads_blames, notes_blame, of_bytes, opens_blames, part_blames, prints_blames, reads_blames, size_blames, then_blames, view_of, whole_blames}
 use Rattle.jinspects.specs.Inspecting.{cat_inode_act, check_through_act, history_act, map_act}
 use Rattle.jinspects.specs.InspectLaws.{CatInode, CheckThrough, History, InspectedBlamesFailed, MapNodes}
-use Rattle.jinspects.specs.Recalling.{IsOfInode, recalled_told}
+use Rattle.jinspects.specs.Recalling.{recalled_told}
 use Rattle.jinspects.specs.Surveying.{Surveyed, Surveys}
 use Rattle.jinspects.specs.Tracing.{Traced, Traces}
 use Rattle.jinspects.specs.ThroughVerdict.{ChecksThrough}
-use Rattle.jinspects.proofs.RecallLemmas.{prints_recalled_blames}
+use Rattle.jinspects.proofs.RecallLemmas.{recalls_unnamed}
 
 checks_unnamed : (e : Endian) (size : ℕ) (asked : Bool) (image : List ℕ) → Unnamed (ChecksThrough e size asked image)
 checks_unnamed e size asked image text (fault.File file) is = absurd is
@@ -60,24 +58,18 @@ trace_blames path e size image others events (fault.Refused why) (none, inr (m, 
 trace_blames path e size image others events fault.Output is = absurd is.1
 trace_blames path e size image others events fault.OutOfMemory is = tt
 
-history_blames : (options : Options) (name : List ℕ) (word : Option (List ℕ)) → BlamesFailed (history_act options name word)
-history_blames options name word = then_blames _ _ (part_blames word) (λ (path : Option (List ℕ)).
+history_blames : (options : Options) (period : Period) (name : List ℕ) (word : Option (List ℕ)) → BlamesFailed (history_act options period name word)
+history_blames options period name word = then_blames _ _ (part_blames word) (λ (path : Option (List ℕ)).
     then_blames (loads name) _ (loads_blames name) (λ (image : List ℕ).
     then_blames _ _ (notes_blame options.endian options.geometry.block image) (λ (others : Option ℕ).
     then_blames _ _ (trace_blames path options.endian options.geometry.block image others) (λ (t : Traced). whole_blames _ _))))
 
-inode_blames : (options : Options) (r : Revision) (name : List ℕ) (events : List Event) (f : Fault) → cat_inode_act options r name events (Err f) → IsOfInode r.ino f ⊎ BlamesEvent f events
-inode_blames options r name events f (Ends g did is) = let alike : f ≡ g = cc in
-    inr (subst (λ (h : Fault). BlamesEvent h events) (sym alike) (loads_blames name events g did))
-inode_blames options r name events f (GoesOn image before after did more is) =
-    by (prints_recalled_blames r options.endian options.geometry.block (recalled_told options.endian options.geometry.block image) image after f more)
-  where
-    by : IsOfInode r.ino f ⊎ BlamesEvent f after → IsOfInode r.ino f ⊎ BlamesEvent f events
-    by (inl lost) = inl lost
-    by (inr blamed) = inr (same f is (blames_after f before after blamed))
+inode_blames : (options : Options) (r : Revision) (name : List ℕ) → BlamesFailed (cat_inode_act options r name)
+inode_blames options r name = then_blames (loads name) _ (loads_blames name) (λ (image : List ℕ).
+    prints_blames _ (recalls_unnamed r options.endian options.geometry.block (recalled_told options.endian options.geometry.block image) image))
 
 pub inspected_blames_failed : InspectedBlamesFailed
-inspected_blames_failed (CheckThrough options shape name) events f did = inr (check_blames options shape name events f did)
-inspected_blames_failed (MapNodes options svg name) events f did = inr (map_blames options svg name events f did)
-inspected_blames_failed (History options name word) events f did = inr (history_blames options name word events f did)
-inspected_blames_failed (CatInode options r name) events f did = inode_blames options r name events f did
+inspected_blames_failed (CheckThrough options shape name) = check_blames options shape name
+inspected_blames_failed (MapNodes options svg name) = map_blames options svg name
+inspected_blames_failed (History options period name word) = history_blames options period name word
+inspected_blames_failed (CatInode options r name) = inode_blames options r name

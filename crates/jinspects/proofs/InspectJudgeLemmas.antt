@@ -2,6 +2,7 @@
 use Rattle.std.proofs.Common.{ℕ, Bool, List, Option, Err, ap, inl, inr, refl}
 use Rattle.jnode.specs.declared.order.Endian.{Endian}
 use Rattle.jcommand.specs.declared.parsed.Options.{Options}
+use Rattle.jhistory.specs.declared.period.Period.{Period}
 use Rattle.jversions.specs.declared.revision.Revision.{Revision}
 use Rattle.jreport.specs.declared.faults.ProgramFault.{ProgramFault}
 use Rattle.jedge.specs.Acts.{loads, opens, reads_whole}
@@ -37,8 +38,8 @@ map_first : (options : Options) (svg : Bool) (name : List ℕ) → JudgesFirst (
 map_first options svg name = then_first (loads name) _ (loads_silent name) (λ (image : List ℕ).
     then_first _ _ (answers_silent _) (λ (others : Option ℕ). then_first _ _ (answers_silent _) (λ (s : Surveyed). whole_first _ _)))
 
-history_first : (options : Options) (name : List ℕ) (word : Option (List ℕ)) → JudgesFirst (history_act options name word)
-history_first options name word = then_first _ _ (answers_silent _) (λ (path : Option (List ℕ)).
+history_first : (options : Options) (period : Period) (name : List ℕ) (word : Option (List ℕ)) → JudgesFirst (history_act options period name word)
+history_first options period name word = then_first _ _ (answers_silent _) (λ (path : Option (List ℕ)).
     then_first (loads name) _ (loads_silent name) (λ (image : List ℕ). then_first _ _ (answers_silent _) (λ (others : Option ℕ).
     then_first _ _ (answers_silent _) (λ (t : Traced). whole_first _ _))))
 
@@ -49,5 +50,5 @@ inode_first options r name = then_first (loads name) _ (loads_silent name) (λ (
 pub inspected_judged_first : InspectedJudgedFirst
 inspected_judged_first (CheckThrough options shape name) = check_first options shape name
 inspected_judged_first (MapNodes options svg name) = λ events f not is. map_first options svg name events f is
-inspected_judged_first (History options name word) = λ events f not is. history_first options name word events f is
+inspected_judged_first (History options period name word) = λ events f not is. history_first options period name word events f is
 inspected_judged_first (CatInode options r name) = λ events f not is. inode_first options r name events f is

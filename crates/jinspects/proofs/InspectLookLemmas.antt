@@ -1,6 +1,7 @@
 -- What makes nothing.
 use Rattle.std.proofs.Common.{ℕ, Bool, List, Option}
 use Rattle.jcommand.specs.declared.parsed.Options.{Options}
+use Rattle.jhistory.specs.declared.period.Period.{Period}
 use Rattle.jversions.specs.declared.revision.Revision.{Revision}
 use Rattle.jedge.specs.Acts.{loads, opens, reads_whole}
 use Rattle.jedge.specs.Laws.{MakesNothing}
@@ -18,8 +19,8 @@ map_looks : (options : Options) (svg : Bool) (name : List ℕ) → MakesNothing 
 map_looks options svg name = then_looks (loads name) _ (loads_looks name) (λ (image : List ℕ).
     then_looks _ _ (answers_looks _) (λ (others : Option ℕ). then_looks _ _ (answers_looks _) (λ (s : Surveyed). prints_looks _)))
 
-history_looks : (options : Options) (name : List ℕ) (word : Option (List ℕ)) → MakesNothing (history_act options name word)
-history_looks options name word = then_looks _ _ (answers_looks _) (λ (path : Option (List ℕ)). then_looks (loads name) _ (loads_looks name)
+history_looks : (options : Options) (period : Period) (name : List ℕ) (word : Option (List ℕ)) → MakesNothing (history_act options period name word)
+history_looks options period name word = then_looks _ _ (answers_looks _) (λ (path : Option (List ℕ)). then_looks (loads name) _ (loads_looks name)
     (λ (image : List ℕ). then_looks _ _ (answers_looks _) (λ (others : Option ℕ). then_looks _ _ (answers_looks _) (λ (t : Traced). prints_looks _))))
 
 inode_looks : (options : Options) (r : Revision) (name : List ℕ) → MakesNothing (cat_inode_act options r name)
@@ -28,5 +29,5 @@ inode_looks options r name = then_looks (loads name) _ (loads_looks name) (λ (i
 pub inspects_only : InspectsOnly
 inspects_only (CheckThrough options shape name) = reported_looks _ (check_looks options shape name)
 inspects_only (MapNodes options svg name) = reported_looks _ (map_looks options svg name)
-inspects_only (History options name word) = reported_looks _ (history_looks options name word)
+inspects_only (History options period name word) = reported_looks _ (history_looks options period name word)
 inspects_only (CatInode options r name) = reported_looks _ (inode_looks options r name)

@@ -1,23 +1,20 @@
 -- What an object was, as it is printed.
-use Rattle.std.proofs.Common.{◌≡◌, ◌∙◌, ℕ, List, [], Option, None, Some, Result, Ok, Err, ap, inl, inr, refl, subst, sym}
-use Rattle.std.specs.Prelude.{◌⊎◌, take}
+use Rattle.std.proofs.Common.{◌≡◌, ℕ, List, [], Option, None, Some, Result, Ok, Err, inl, inr, refl, subst}
+use Rattle.std.specs.Prelude.{take}
 use Rattle.jnode.specs.declared.order.Endian.{Endian}
 use Rattle.flashbase.specs.Sinks.{SinkChange}
 use Rattle.jversions.specs.Answers.{PutsRevision}
 use Rattle.jversions.specs.declared.fault.RevisionFault.{RevisionFault}
 use Rattle.jversions.specs.declared.fault.RevisionFault.TheVariants as revision
 use Rattle.jversions.specs.declared.revision.Revision.{Revision}
-use Rattle.jreport.specs.declared.faults.ProgramFault.{ProgramFault}
-use Rattle.jedge.specs.Acts.{CountsOutput, PutsBy, and_closed, closes, prints}
-use Rattle.jedge.specs.Calls.{Answers, Event}
-use Rattle.jedge.specs.Laws.{BlamesEvent}
+use Rattle.jedge.specs.Acts.{PutsBy}
 use Rattle.jedge.specs.Told.{Told}
 use Rattle.jedge.specs.declared.fault.Fault.{Fault}
 use Rattle.jedge.specs.declared.fault.Fault.TheVariants as fault
-use Rattle.jedge.proofs.BlamingLemmas.{closed_blames, failed_blames, of_bytes, view_of}
+use Rattle.jedge.proofs.BlamingLemmas.{Unnamed, of_bytes, view_of}
 use Rattle.jedge.proofs.CostLemmas.{none_put}
 use Rattle.jedge.proofs.JudgingLemmas.{IsUnput}
-use Rattle.jinspects.specs.Recalling.{IsOfInode, Recalls, recall_fault, recalled_as}
+use Rattle.jinspects.specs.Recalling.{Recalls, recall_fault, recalled_as}
 
 pub recalls_put : (r : Revision) (e : Endian) (size : ℕ) (told : Told) (image : List ℕ) (s : SinkChange) (put : Result Unit RevisionFault)
     → PutsRevision {T = Unit} r e size image s put → PutsBy (Recalls r e size told image) s (recalled_as r.ino told put)
@@ -71,31 +68,16 @@ recalls_unput r e size told image text (fault.Refused why) is = is.1
 recalls_unput r e size told image text fault.Output is = tt
 recalls_unput r e size told image text fault.OutOfMemory is = absurd is
 
--- ---- a fault is an event, but for an inode that is not there
+-- ---- a fault is an event
 
-recall_blames : (r : Revision) (e : Endian) (size : ℕ) (told : Told) (image text : List ℕ) (failures : ℕ) (events : List Event) (f : Fault) (answer : Result Told Fault) (closed : Result Unit Fault)
-    → Recalls r e size told image text answer → CountsOutput 0 failures answer → closes Answers failures text events closed → Err f ≡ and_closed answer closed
-    → IsOfInode r.ino f ⊎ BlamesEvent f events
-recall_blames r e size told image text failures events f (Ok y) (Ok _) says counts out is = let no : ⊥ = cc in absurd no
-recall_blames r e size told image text failures events f (Ok y) (Err g) says counts out is = let alike : f ≡ g = cc in
-    inr (subst (λ (h : Fault). BlamesEvent h events) (sym alike) (closed_blames failures text events g out))
-recall_blames r e size told image text failures events f (Err (fault.File file)) closed says counts out is = absurd says
-recall_blames r e size told image text failures events f (Err (fault.NotRead file)) closed says counts out is = absurd says
-recall_blames r e size told image text failures events f (Err (fault.NoNodes of others)) closed says counts out is = absurd says
-recall_blames r e size told image text failures events f (Err (fault.NoSpace folder)) closed says counts out is = absurd says
-recall_blames r e size told image text failures events f (Err (fault.Findings of found)) closed says counts out is = absurd says
-recall_blames r e size told image text failures events f (Err (fault.Refused why)) closed (inl view, none) counts out is = let alike : f ≡ fault.Refused why = cc in
-    inr (subst (λ (h : Fault). BlamesEvent h events) (sym alike) (of_bytes why view.1 (view_of view.0)))
-recall_blames r e size told image text failures events f (Err (fault.Refused why)) closed (inr (inl lost), none) counts out is =
-    let alike : f ≡ fault.Refused why = cc in inl (inl (alike ∙ ap (λ (x : ProgramFault). fault.Refused x) lost.0))
-recall_blames r e size told image text failures events f (Err (fault.Refused why)) closed (inr (inr other), none) counts out is =
-    let alike : f ≡ fault.Refused why = cc in inl (inr (alike ∙ ap (λ (x : ProgramFault). fault.Refused x) other.0))
-recall_blames r e size told image text failures events f (Err fault.Output) closed says counts out is =
-    let alike : f ≡ fault.Output = cc in inr (subst (λ (h : Fault). BlamesEvent h events) (sym alike) (failed_blames failures text events closed counts out))
-recall_blames r e size told image text failures events f (Err fault.OutOfMemory) closed says counts out is = absurd says
-
-pub prints_recalled_blames : (r : Revision) (e : Endian) (size : ℕ) (told : Told) (image : List ℕ) (events : List Event) (f : Fault)
-    → prints (Recalls r e size told image) events (Err f) → IsOfInode r.ino f ⊎ BlamesEvent f events
-prints_recalled_blames r e size told image events f (inl put) =
-    recall_blames r e size told image put.text put.failures events f put.answer put.closed put.says put.counts put.out put.comes_to
-prints_recalled_blames r e size told image events f (inr none) = let alike : f ≡ fault.OutOfMemory = cc in inr (subst (λ (h : Fault). BlamesEvent h events) (sym alike) tt)
+pub recalls_unnamed : (r : Revision) (e : Endian) (size : ℕ) (told : Told) (image : List ℕ) → Unnamed (Recalls r e size told image)
+recalls_unnamed r e size told image text (fault.File file) is = absurd is
+recalls_unnamed r e size told image text (fault.NotRead file) is = absurd is
+recalls_unnamed r e size told image text (fault.NoNodes of others) is = absurd is
+recalls_unnamed r e size told image text (fault.NoSpace folder) is = absurd is
+recalls_unnamed r e size told image text (fault.Findings of findings) is = absurd is
+recalls_unnamed r e size told image text (fault.Refused why) (inl view, none) = of_bytes why view.1 (view_of view.0)
+recalls_unnamed r e size told image text (fault.Refused why) (inr (inl lost), none) = of_bytes why lost.0 tt
+recalls_unnamed r e size told image text (fault.Refused why) (inr (inr other), none) = of_bytes why other.0 tt
+recalls_unnamed r e size told image text fault.Output is = tt
+recalls_unnamed r e size told image text fault.OutOfMemory is = absurd is

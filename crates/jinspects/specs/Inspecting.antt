@@ -1,12 +1,14 @@
 -- What each command does: read it as the manual page. The order is that of the steps.
 use Rattle.std.specs.Prelude.{ℕ, Bool, true, false, List, Option}
 use Rattle.jnode.specs.declared.order.Endian.{Endian}
+use Rattle.jcommand.specs.declared.parsed.NodeHistory.{NodeHistory}
 use Rattle.jcommand.specs.declared.parsed.Options.{Options}
 use Rattle.jedge.specs.Acts.{Act, Then, Whole, answers, loads, opens, prints, reads_whole}
 use Rattle.jedge.specs.Images.{NotesNone}
 use Rattle.jedge.specs.Told.{Told}
 use Rattle.jedge.specs.Views.{HasBlockSize, NamesPart}
-use Rattle.jhistory.specs.HistoryText.{history_text}
+use Rattle.jhistory.specs.HistoryText.{Selection, Subjects, history_text}
+use Rattle.jhistory.specs.declared.period.Period.{Period}
 use Rattle.jversions.specs.declared.revision.Revision.{Revision}
 use Rattle.jmap.specs.MapText.{map_text}
 use Rattle.jmap.specs.Picture.{picture_text}
@@ -55,21 +57,30 @@ map_act options = maps options.endian options.geometry.block
 
 -- ---- `history`
 
+-- the times that are asked for
+abbrev pub period_asked : {T : Type 0} → NodeHistory T → Period
+period_asked asked = record { since = asked.since; until = asked.until }
+
+-- the nodes of these objects and of these times
+abbrev pub nodes_asked : Subjects → Period → Selection
+nodes_asked numbers period = record { subjects = numbers; period = period }
+
 -- An image is mounted through its compression, what became of each node is found out, and with a
--- path the objects that it ever named; and the lines of their nodes are printed. Nothing of the
--- image is found; what `ls` notes of it is noted.
-abbrev pub tells_history : Endian → ℕ → Option (List ℕ) → List ℕ → Act Told
-tells_history e size path image =
+-- path the objects that it ever named; and the lines of their nodes are printed, if their times are
+-- asked for. Nothing of the image is found; what `ls` notes of it is noted.
+abbrev pub tells_history : Endian → ℕ → Period → Option (List ℕ) → List ℕ → Act Told
+tells_history e size period path image =
     Then (answers (NotesNone e size image)) (λ others.
     Then (answers (Traces path e size image others)) (λ trace.
-    prints (Whole (history_text e size image trace.words trace.numbers) trace.told)))
+    prints (Whole (history_text e size image trace.words (nodes_asked trace.numbers period))
+    trace.told)))
 
 -- the word of a path is judged, where one is given; the file is read, and that is done of its image
-abbrev pub traces : Endian → ℕ → List ℕ → Option (List ℕ) → Act Told
-traces e size name word = Then (answers (NamesPart word)) (λ path.
-    Then (loads name) (tells_history e size path))
+abbrev pub traces : Endian → ℕ → Period → List ℕ → Option (List ℕ) → Act Told
+traces e size period name word = Then (answers (NamesPart word)) (λ path.
+    Then (loads name) (tells_history e size period path))
 
-abbrev pub history_act : Options → List ℕ → Option (List ℕ) → Act Told
+abbrev pub history_act : Options → Period → List ℕ → Option (List ℕ) → Act Told
 history_act options = traces options.endian options.geometry.block
 
 -- ---- `cat --ino`

@@ -47,11 +47,6 @@ IsForgotten r e size image why =
     × IsTrue (is_some (object_upto r (expanded_nodes e size image)))
     × (content_upto r (expanded_nodes e size image) ≡ None))
 
--- an inode that is not there, or has no content
-abbrev pub IsOfInode : ℕ → Fault → Type 0
-IsOfInode ino f = (f ≡ fault.Refused (program.Image (wrong.NoInode ino)))
-    ⊎ (f ≡ fault.Refused (program.Image (wrong.NoContent ino)))
-
 -- its bytes
 abbrev pub IsRecalled : Revision → Endian → ℕ → List ℕ → List ℕ → Type 0
 IsRecalled r e size image bytes = IsRevision r e size image

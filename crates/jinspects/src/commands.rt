@@ -2,7 +2,7 @@
 ghost use Rattle.std.specs.Prelude.{◌≡◌, Ok, option_map};
 ghost use Rattle.jedge.specs.Acts.{DoesFrom};
 ghost use Rattle.jedge.specs.Commands.{reported};
-ghost use Rattle.jinspects.specs.Inspecting.{cat_inode_act, check_through_act, history_act, map_act};
+ghost use Rattle.jinspects.specs.Inspecting.{cat_inode_act, check_through_act, history_act, map_act, period_asked};
 
 use crate::check::check_through;
 use crate::history::history;
@@ -40,7 +40,7 @@ pub fn run_map<E: Order, H: Host>(host: &mut H, asked: Mapping<&str>) -> Outcome
 pub fn run_history<E: Order, H: Host>(host: &mut H, asked: NodeHistory<&str>) -> Outcome
     requires { asked.options.endian ≡ E.order }
     ensures { DoesFrom (H.history host.old) (H.history host.new)
-        (reported (history_act asked.entry.options asked.entry.image.now
+        (reported (history_act asked.entry.options (period_asked asked.entry) asked.entry.image.now
         (option_map (λ p. p.now) asked.entry.path))) (Ok result) }
 {
     let answer = history::<E, H>(host, asked);

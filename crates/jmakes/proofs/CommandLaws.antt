@@ -13,8 +13,10 @@ use Rattle.jreads.specs.Named.{NoneRead, loads_named}
 use Rattle.jreads.proofs.BlameLemmas.{loads_named_blames}
 use Rattle.jreads.proofs.LookLemmas.{loads_named_looks}
 use Rattle.jmakes.specs.Commands.{Append, Build, writes_listing, writes_text}
+use Rattle.jmakes.specs.Keeping.{keeps_base}
 use Rattle.jmakes.specs.Laws.{AtomicLeavesFiles, BlamesMade, BlamesMaking, JudgedBeforeMade, JudgesBeforeMaking, LeavesAtFault}
 use Rattle.jmakes.specs.Writing.{ImageWanted, ReadsListingLines}
+use Rattle.jmakes.proofs.KeepingLemmas.{keeps_blames, keeps_looks}
 use Rattle.jmakes.proofs.LawLemmas.{failed_blamed, lines_blamed, lines_judge, lines_leave, then_blamed, then_judges, then_leaves}
 
 -- ---- the text of a listing is written
@@ -55,18 +57,21 @@ listing_blamed wanted base text = then_blamed wanted.file _ _ (failed_blamed {A 
 
 pub atomic_leaves_files : AtomicLeavesFiles
 atomic_leaves_files (Build wanted listing) = then_leaves wanted.file _ _ (loads_looks listing) (λ (text : List ℕ). listing_leaves wanted None text)
-atomic_leaves_files (Append wanted decompress image listing) =
-    then_leaves wanted.file _ _ (views_looks wanted.order wanted.flash.geometry.block decompress image) (λ (view : Viewed).
-    then_leaves wanted.file _ _ (loads_looks listing) (λ (text : List ℕ). listing_leaves wanted (Some view) text))
+atomic_leaves_files (Append wanted base listing) =
+    then_leaves wanted.file _ _ (views_looks wanted.order wanted.flash.geometry.block base.decompress base.image) (λ (view : Viewed).
+    then_leaves wanted.file _ _ (keeps_looks base wanted.file.name view) (λ _.
+    then_leaves wanted.file _ _ (loads_looks listing) (λ (text : List ℕ). listing_leaves wanted (Some view) text)))
 
 pub judged_before_made : JudgedBeforeMade
 judged_before_made (Build wanted listing) = then_judges wanted.file _ _ (loads_looks listing) (λ (text : List ℕ). listing_judges wanted None text)
-judged_before_made (Append wanted decompress image listing) =
-    then_judges wanted.file _ _ (views_looks wanted.order wanted.flash.geometry.block decompress image) (λ (view : Viewed).
-    then_judges wanted.file _ _ (loads_looks listing) (λ (text : List ℕ). listing_judges wanted (Some view) text))
+judged_before_made (Append wanted base listing) =
+    then_judges wanted.file _ _ (views_looks wanted.order wanted.flash.geometry.block base.decompress base.image) (λ (view : Viewed).
+    then_judges wanted.file _ _ (keeps_looks base wanted.file.name view) (λ _.
+    then_judges wanted.file _ _ (loads_looks listing) (λ (text : List ℕ). listing_judges wanted (Some view) text)))
 
 pub blames_made : BlamesMade
 blames_made (Build wanted listing) = then_blamed wanted.file _ _ (failed_blamed {A = List ℕ} wanted.file (loads listing) (loads_blames listing)) (λ (text : List ℕ). listing_blamed wanted None text)
-blames_made (Append wanted decompress image listing) =
-    then_blamed wanted.file _ _ (failed_blamed {A = Viewed} wanted.file (views wanted.order wanted.flash.geometry.block decompress image) (views_blames wanted.order wanted.flash.geometry.block decompress image)) (λ (view : Viewed).
-    then_blamed wanted.file _ _ (failed_blamed {A = List ℕ} wanted.file (loads listing) (loads_blames listing)) (λ (text : List ℕ). listing_blamed wanted (Some view) text))
+blames_made (Append wanted base listing) =
+    then_blamed wanted.file _ _ (failed_blamed {A = Viewed} wanted.file (views wanted.order wanted.flash.geometry.block base.decompress base.image) (views_blames wanted.order wanted.flash.geometry.block base.decompress base.image)) (λ (view : Viewed).
+    then_blamed wanted.file _ _ (failed_blamed wanted.file (keeps_base base wanted.file.name view) (keeps_blames base wanted.file.name view)) (λ _.
+    then_blamed wanted.file _ _ (failed_blamed {A = List ℕ} wanted.file (loads listing) (loads_blames listing)) (λ (text : List ℕ). listing_blamed wanted (Some view) text)))

@@ -3,6 +3,7 @@ pub mod BlamingLemmas
 pub mod CommandLaws
 pub mod EmissionLemmas
 pub mod EndingLemmas
+pub mod KeepingLemmas
 pub mod LawLemmas
 pub mod LeavingLemmas
 pub mod LineLemmas

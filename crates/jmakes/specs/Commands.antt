@@ -1,12 +1,13 @@
 -- What each command does that writes an image: read it as the manual page. The order is that of the
 -- steps.
-use Rattle.std.specs.Prelude.{ℕ, Bool, List, Option, Some, None}
+use Rattle.std.specs.Prelude.{ℕ, List, Option, Some, None}
 use Rattle.jbuild.specs.HostFiles.{part_contents}
 use Rattle.jbuild.specs.declared.host_files.HostFiles.{HostFiles}
 use Rattle.jreads.specs.Named.{NoneRead, loads_named}
 use Rattle.jedge.specs.Acts.{Act, Then, answers, loads}
 use Rattle.jedge.specs.Told.{Told}
 use Rattle.jedge.specs.Views.{Viewed, views}
+use Rattle.jmakes.specs.Keeping.{AskedBase, keeps_base}
 use Rattle.jmakes.specs.Making.{WantedFile}
 use Rattle.jmakes.specs.Writing.{ImageWanted, ReadsListingLines, writes_lines}
 
@@ -27,23 +28,25 @@ writes_listing wanted base text =
 abbrev pub build_act : ImageWanted → List ℕ → Act Told
 build_act wanted listing = Then (loads listing) (writes_listing wanted None)
 
--- `append`: The image's file is read, and with `--decompress` its image decompressed; the listing's
--- file is read, and its lines are written on that base.
-abbrev pub append_act : ImageWanted → Bool → List ℕ → List ℕ → Act Told
-append_act wanted decompress image listing =
-    Then (views wanted.order wanted.flash.geometry.block decompress image) (λ view.
-    Then (loads listing) (writes_listing wanted (Some view)))
+-- `append`: The image's file is read, and with `--decompress` its image decompressed, which
+-- replaces none with findings unless that is forced; the listing's file is read, and its lines are
+-- written on that base.
+abbrev pub append_act : ImageWanted → AskedBase → List ℕ → Act Told
+append_act wanted base listing =
+    Then (views wanted.order wanted.flash.geometry.block base.decompress base.image) (λ view.
+    Then (keeps_base base wanted.file.name view) (λ _.
+    Then (loads listing) (writes_listing wanted (Some view))))
 
 -- a command, and what it is given
 pub data ImageCommand : Type 0 where
   Build : ImageWanted → List ℕ → ImageCommand
-  Append : ImageWanted → Bool → List ℕ → List ℕ → ImageCommand
+  Append : ImageWanted → AskedBase → List ℕ → ImageCommand
 
 abbrev pub image_act : ImageCommand → Act Told
 image_act (Build wanted listing) = build_act wanted listing
-image_act (Append wanted decompress image listing) = append_act wanted decompress image listing
+image_act (Append wanted base listing) = append_act wanted base listing
 
 -- the file that it makes
 abbrev pub file_by : ImageCommand → WantedFile
 file_by (Build wanted listing) = wanted.file
-file_by (Append wanted decompress image listing) = wanted.file
+file_by (Append wanted base listing) = wanted.file

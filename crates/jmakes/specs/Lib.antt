@@ -1,5 +1,6 @@
 pub mod Blaming
 pub mod Commands
+pub mod Keeping
 pub mod Laws
 pub mod Leaving
 pub mod Making

@@ -1,13 +1,14 @@
 //! An image that is asked for.
 ghost use Rattle.std.specs.Prelude.{◌≡◌};
 ghost use Rattle.jnode.specs.declared.order.Endian.{Endian};
-ghost use Rattle.jcommand.specs.Parsed.{target_view};
+ghost use Rattle.jcommand.specs.Parsed.{appending_view, target_view};
+ghost use Rattle.jmakes.specs.Keeping.{base_asked, base_of};
 ghost use Rattle.jmakes.specs.Making.{wanted_file};
 ghost use Rattle.jmakes.specs.Seen.{image_to_write};
 ghost use Rattle.jmakes.specs.Writing.{file_asked, filling_asked, flash_of_asked, image_asked};
 
 use crate::wanted::{Filling, Wanted};
-use jcommand::Target;
+use jcommand::{Appending, Target};
 use jlog::Flash;
 
 /// The flash that is written, the file that is made, and whether weak nodes are noted.
@@ -16,6 +17,26 @@ pub struct ImageToWrite<'a> {
     pub flash: Flash,
     pub file: Wanted<'a>,
     pub weak: bool,
+}
+
+/// The image that is gone on from. With `decompress` a base is made of it, which replaces it only
+/// with `force` if it lacks something.
+#[derive(Clone, Copy)]
+pub struct Base<'a> {
+    pub image: &'a str,
+    pub decompress: bool,
+    pub force: bool,
+}
+
+/// The one of `append`.
+pub(crate) fn base_of<'a>(asked: &Appending<&'a str>) -> Base<'a>
+    ensures { base_asked result ≡ base_of (appending_view asked.now) }
+{
+    Base {
+        image: asked.image,
+        decompress: asked.decompress,
+        force: asked.force,
+    }
 }
 
 /// The flash that is written.

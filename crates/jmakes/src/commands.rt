@@ -1,15 +1,17 @@
 //! `build` and `append`.
 ghost use Rattle.std.specs.Prelude.{◌≡◌, None, Ok, Some, option_map};
-ghost use Rattle.jcommand.specs.Parsed.{target_view};
+ghost use Rattle.jcommand.specs.Parsed.{appending_view, target_view};
 ghost use Rattle.jedge.specs.Acts.{DoesFrom, seen_as};
 ghost use Rattle.jedge.specs.Commands.{reported};
 ghost use Rattle.jedge.specs.Views.{viewed};
 ghost use Rattle.jmakes.specs.Commands.{append_act, build_act, writes_listing};
+ghost use Rattle.jmakes.specs.Keeping.{base_asked, base_of};
 ghost use Rattle.jmakes.specs.Seen.{image_to_write, told_seen};
 ghost use Rattle.jmakes.specs.Writing.{image_asked};
 
-use crate::asked::{ImageToWrite, image_of};
+use crate::asked::{Base, ImageToWrite, base_of, image_of};
 use crate::host::FileHost;
+use crate::keeping::keep_base;
 use crate::reporting::report_written;
 use crate::texts::write_text;
 use crate::written::Written;
@@ -57,19 +59,23 @@ pub fn build<E: Order, H: FileHost + FilesHost>(
 pub fn append<E: Order, H: FileHost + FilesHost>(
     host: &mut H,
     target: Target<&str>,
-    decompress: bool,
-    image: &str,
+    asked: Base<'_>,
     listing: &str,
 ) -> Result<Written, Fault>
     ensures { DoesFrom (H.history host.old) (H.history host.new)
-        (append_act (image_asked E.order (target_view target.entry)) decompress image.now
+        (append_act (image_asked E.order (target_view target.entry)) (base_asked asked.entry)
         listing.now)
         (seen_as told_seen result) }
 {
-    let base = match view::<E, H>(host, target.options.geometry, decompress, image) {
+    let geometry = target.options.geometry;
+    let base = match view::<E, H>(host, geometry, asked.decompress, asked.image) {
         Ok(base) => base,
         Err(fault) => return Err(fault),
     };
+    match keep_base(host, asked, target.output, &base) {
+        Ok(()) => {}
+        Err(fault) => return Err(fault),
+    }
     match load(host, listing) {
         Ok(text) => write_listing::<E, H>(host, image_of(target), Some(&base), text.as_slice()),
         Err(fault) => Err(fault),
@@ -93,14 +99,8 @@ pub fn run_append<E: Order, H: FileHost + FilesHost>(
 ) -> Outcome
     ensures { DoesFrom (H.history host.old) (H.history host.new)
         (reported (append_act (image_asked E.order (target_view asked.entry.target))
-        asked.entry.decompress asked.entry.image.now asked.entry.listing.now)) (Ok result) }
+        (base_of (appending_view asked.entry)) asked.entry.listing.now)) (Ok result) }
 {
-    let Appending {
-        target,
-        decompress,
-        image,
-        listing,
-    } = asked;
-    let answer = append::<E, H>(host, target, decompress, image, listing);
+    let answer = append::<E, H>(host, asked.target, base_of(&asked), asked.listing);
     report_written(host, answer)
 }

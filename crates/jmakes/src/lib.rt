@@ -10,6 +10,7 @@ pub mod commands;
 pub mod emitting;
 pub mod ending;
 pub mod host;
+pub mod keeping;
 pub mod laws;
 pub mod notes;
 pub mod numbered;

@@ -26,12 +26,13 @@ use Rattle.jedge.specs.Views.{conversion_refusal}
 use Rattle.jedge.specs.declared.fault.Fault.{Fault}
 use Rattle.jedge.specs.declared.fault.Fault.TheVariants as fault
 use Rattle.jmakes.proofs.BlamingLemmas.{IsUncreated, made_blamed, makes_blamed}
+use Rattle.jmakes.proofs.KeepingLemmas.{compares_blames, findings_blame}
 use Rattle.jmakes.specs.Blaming.{HasFailedMaking, IsEndBlamed, IsFileBlamed}
 use Rattle.jmakes.specs.Making.{Beside, EndsInPlace, FileMade, FilePlace, FileSaying, InPlace, WantedFile, closes_file, compares_names, makes}
 use Rattle.jmakes.specs.declared.wanted.CloseFault.{CloseFault}
 use Rattle.jmakes.specs.declared.wanted.CloseFault.TheVariants as close
 use Rattle.jmakes.specs.declared.wanted.Filling.{Filling}
-use Rattle.jremakes.specs.Asked.{AskedRemaking, IsFindingsOf, MayBeReplaced, gives, takes_original}
+use Rattle.jremakes.specs.Asked.{AskedRemaking, MayBeReplaced, gives, takes_original}
 use Rattle.jremakes.specs.Judging.{ArePartedOf, IsCompressible, IsConvertible}
 use Rattle.jremakes.specs.Compacting.{IsCompactable, collect_refusal, compact_blocks}
 use Rattle.jremakes.specs.CompactingApart.{IsCompactableApart, apart_refusal}
@@ -63,19 +64,6 @@ by_event : {A : Type 0} (name : List ℕ) (act : Act A) → BlamesFailed act →
 by_event name act blames events f did = inl (blames events f did)
 
 -- ---- the image is taken and judged
-
-compares_blames : (first second : List ℕ) → BlamesFailed (compares_names first second)
-compares_blames first second events f is = absurd is
-
-findings_blame : (name : List ℕ) (n : ℕ) (events : List Event) (f : Fault) → IsFindingsOf name n f → BlamesEvent f events
-findings_blame name n events (fault.File file) is = absurd is
-findings_blame name n events (fault.NotRead file) is = absurd is
-findings_blame name n events (fault.NoNodes of others) is = absurd is
-findings_blame name n events (fault.NoSpace folder) is = absurd is
-findings_blame name n events (fault.Findings of findings) is = tt
-findings_blame name n events (fault.Refused why) is = absurd is
-findings_blame name n events fault.Output is = absurd is
-findings_blame name n events fault.OutOfMemory is = tt
 
 replaced_blames : (e : Endian) (asked : AskedRemaking) (over : Bool) (image : List ℕ) → BlamesFailed (answers (MayBeReplaced e asked over image))
 replaced_blames e asked over image events f is = findings_blame asked.image _ events f is.1.1

@@ -11,6 +11,7 @@ use Rattle.jedge.specs.Laws.{Happened, LooksOnly, MakesNothing}
 use Rattle.jedge.specs.Told.{Told}
 use Rattle.jedge.specs.declared.fault.Fault.{Fault}
 use Rattle.jmakes.specs.Making.{compares_names}
+use Rattle.jmakes.proofs.KeepingLemmas.{compares_looks}
 use Rattle.jremakes.specs.Asked.{AskedRemaking, MayBeReplaced, WouldReplace, gives, takes_original}
 use Rattle.jremakes.specs.Judging.{IsCompressible, IsConvertible}
 use Rattle.jremakes.specs.Compacting.{IsCompactable, compact_blocks}
@@ -18,10 +19,6 @@ use Rattle.jremakes.specs.CompactingApart.{IsCompactableApart}
 use Rattle.jremakes.specs.Laws.{Apart, Compact, CompactApart, Compress, Decompress, IsAcceptedBy, JudgedIsRemade, MakesJudged, RemakeCommand, asked_by}
 
 -- ---- the image is taken
-
-pub compares_looks : (first second : List ℕ) → MakesNothing (compares_names first second)
-compares_looks first second events (Ok is) did = same did (tt, tt)
-compares_looks first second events (Err f) did = absurd did
 
 pub takes_looks : (e : Endian) (asked : AskedRemaking) → MakesNothing (takes_original e asked)
 takes_looks e asked = then_looks (compares_names asked.image asked.output.name) _ (compares_looks asked.image asked.output.name) (λ (over : Bool).

@@ -1,12 +1,12 @@
 -- What is asked of a command that makes an image of another one, and the image that it takes.
-use Rattle.std.specs.Prelude.{◌≡◌, ℕ, Bool, IsFalse, IsTrue, List, None, Result, Ok, Err, string_bytes}
+use Rattle.std.specs.Prelude.{◌≡◌, ℕ, Bool, IsFalse, IsTrue, List, None, Result, Ok, Err}
 use Rattle.jnode.specs.declared.order.Endian.{Endian}
 use Rattle.jcommand.specs.declared.parsed.Options.{Options}
 use Rattle.jreport.specs.FoundIn.{HasFindings, found_count, found_in}
 use Rattle.jedge.specs.Acts.{Act, Then, answers, loads}
 use Rattle.jedge.specs.Images.{HasNodes}
 use Rattle.jedge.specs.declared.fault.Fault.{Fault}
-use Rattle.jedge.specs.declared.fault.Fault.TheVariants as fault
+use Rattle.jmakes.specs.Keeping.{IsFindingsOf}
 use Rattle.jmakes.specs.Making.{WantedFile, compares_names, wanted_file}
 use Rattle.jremakes.specs.declared.asked.Remaking.{Remaking}
 
@@ -32,17 +32,6 @@ pub record WouldReplace (e : Endian) (asked : AskedRemaking) (over : Bool) (imag
     pub is_over : IsTrue over
     pub unforced : IsFalse asked.force
     pub has : HasFindings e asked.options.geometry.block image
-
--- so many findings are in the image of this name; or there is no memory for the name
-abbrev pub IsFindingsOf : List ℕ → ℕ → Fault → Type 0
-IsFindingsOf name n (fault.File file) = ⊥
-IsFindingsOf name n (fault.NotRead file) = ⊥
-IsFindingsOf name n (fault.NoNodes of others) = ⊥
-IsFindingsOf name n (fault.NoSpace folder) = ⊥
-IsFindingsOf name n (fault.Findings told findings) = (string_bytes told ≡ name) × (findings ≡ n)
-IsFindingsOf name n (fault.Refused why) = ⊥
-IsFindingsOf name n fault.Output = ⊥
-IsFindingsOf name n fault.OutOfMemory = Unit {0}
 
 -- rule: What is printed: An image with findings is not replaced, as an act.
 --   definitions: jremakes.Asked.WouldReplace, jremakes.Asked.MayBeReplaced

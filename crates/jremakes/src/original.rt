@@ -1,7 +1,7 @@
 //! The image that a command takes to make another one of it.
 ghost use Rattle.std.specs.Prelude.{◌≡◌, Ok};
 ghost use Rattle.jedge.specs.Acts.{DoesFrom, seen_as};
-ghost use Rattle.jremakes.specs.Asked.{IsFindingsOf, MayBeReplaced, remaking_of, takes_original};
+ghost use Rattle.jremakes.specs.Asked.{MayBeReplaced, remaking_of, takes_original};
 
 use crate::asked::Remaking;
 use jedge::fault::Fault;
@@ -9,19 +9,10 @@ use jedge::host::Host;
 use jedge::mounting::judge_nodes;
 use jedge::reading::load;
 use jmakes::host::FileHost;
+use jmakes::keeping::findings_of;
 use jnode::Order;
 use jreport::{found_in, refuse_findings};
 use std::alloc::Global;
-
-/// The fault of an image of this name with so many findings.
-fn findings_of(alloc: Global, name: &str, findings: u64) -> Fault
-    ensures { IsFindingsOf name.now findings result }
-{
-    match name.to_string(alloc) {
-        Ok(name) => Fault::Findings { name, findings },
-        Err(_) => Fault::OutOfMemory,
-    }
-}
 
 /// Refuses an image with findings that would be replaced: it is the file that is made if `over` is
 /// so.

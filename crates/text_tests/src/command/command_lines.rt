@@ -76,11 +76,13 @@ fn shown_appending(alloc: Global, asked: Appending<&str>) -> Result<String, Allo
     let Appending {
         target,
         decompress,
+        force,
         image,
         listing,
     } = asked;
     let between = format!(in alloc; "{image} {listing}")?;
-    shown_target(alloc, "append", target, between.as_str(), decompress)
+    let name = if force { "forced append" } else { "append" };
+    shown_target(alloc, name, target, between.as_str(), decompress)
 }
 
 fn shown_scan(alloc: Global, asked: Image<&str>) -> Result<String, AllocError> {
@@ -118,10 +120,12 @@ fn shown_content(alloc: Global, asked: FileContent<&str>) -> Result<String, Allo
     let FileContent {
         options,
         decompress,
+        strict,
         image,
         path,
     } = asked;
-    let command = shown_options(alloc, "cat", options)?;
+    let name = if strict { "strict cat" } else { "cat" };
+    let command = shown_options(alloc, name, options)?;
     let mark = mark(decompress);
     format!(in alloc; "{command} {image} {path}{mark}")
 }
@@ -188,6 +192,7 @@ fn shown_extraction(alloc: Global, asked: Extraction<&str>) -> Result<String, Al
     let Extraction {
         options,
         decompress,
+        deleted,
         owners,
         quiet,
         image,
@@ -199,7 +204,8 @@ fn shown_extraction(alloc: Global, asked: Extraction<&str>) -> Result<String, Al
     let mark = mark(decompress);
     let flags = format!(in alloc; "{is_big} {owners} {quiet}")?;
     let path = path.unwrap_or("");
-    format!(in alloc; "extract {block} {flags} {image} {folder}{path}{mark}")
+    let which = if deleted { " deleted" } else { "" };
+    format!(in alloc; "extract {block} {flags} {image} {folder}{path}{mark}{which}")
 }
 
 fn shown_listing(alloc: Global, asked: FolderListing<&str>) -> Result<String, AllocError> {

@@ -5,7 +5,7 @@ use crate::command::command_lines::{answer_to, is_text, is_wrong};
 use std::test::Fail;
 
 /// Lines, and what they ask for.
-const ASKED: [(&str, &str); 19] = [
+const ASKED: [(&str, &str); 22] = [
     (
         "t check --decompress a.img",
         "check 65536 little a.img decompressed",
@@ -60,12 +60,24 @@ const ASKED: [(&str, &str); 19] = [
         "cat 65536 little a.img /b decompressed",
     ),
     (
+        "t cat --strict a.img --decompress /b",
+        "strict cat 65536 little a.img /b decompressed",
+    ),
+    (
+        "t cat -b a.img /b --strict",
+        "strict cat 65536 big a.img /b",
+    ),
+    (
         "t cat a.img -- --decompress",
         "cat 65536 little a.img --decompress",
     ),
     (
         "t append --decompress a.img b.txt c.img --blocks 8",
         "append 65536 little 8 4096 a.img b.txt c.img decompressed",
+    ),
+    (
+        "t append a.img b.txt --force a.img --blocks 8",
+        "forced append 65536 little 8 4096 a.img b.txt a.img",
     ),
     (
         "t extract a.img b --decompress",
@@ -95,7 +107,7 @@ fn args_that_decompress(rt: HostRuntime) -> Result<(), Fail> {
 }
 
 /// Lines that ask for nothing, and a part of the text that says why.
-const WRONG: [(&str, &str); 20] = [
+const WRONG: [(&str, &str); 22] = [
     ("t decompress --clashes higher a.img", "<OUT>"),
     (
         "t decompress --clashes lower a b",
@@ -118,12 +130,17 @@ const WRONG: [(&str, &str); 20] = [
     ("t check --decompress", "<IMAGE>"),
     ("t check --decompress --decompress a.img", "--decompress"),
     ("t compress --force --force a.img b.img", "--force"),
-    ("t append --force --blocks 8 a.img b.txt c.img", "--force"),
+    ("t update --force a.img b.txt c.img", "--force"),
     (
         "t build --decompress --blocks 8 a.txt b.img",
         "--decompress",
     ),
     ("t listing --decompress a", "--decompress"),
+    ("t ls --strict a.img", "--strict"),
+    (
+        "t cat --strict --ino 7 a.img",
+        "the argument '--ino <I>' cannot be used with '--strict'",
+    ),
     ("t ls --decompress --decompress a.img", "--decompress"),
 ];
 

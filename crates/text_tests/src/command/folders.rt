@@ -19,6 +19,14 @@ fn asked() -> &'static [(&'static str, &'static str)] {
             "t extract a.img b /c --owners",
             "extract 65536 false true false a.img b/c",
         ),
+        (
+            "t extract --deleted a.img b",
+            "extract 65536 false false false a.img b deleted",
+        ),
+        (
+            "t extract a.img b --decompress --quiet --deleted -b",
+            "extract 65536 true false true a.img b decompressed deleted",
+        ),
         ("t listing a", "listing 1 1 1 false a"),
         (
             "t listing --owner 0 65535 --time 4294967295 a",
@@ -58,6 +66,18 @@ fn wrong() -> &'static [(&'static str, &'static str)] {
         ("t listing --block 4096 a", "--block"),
         ("t extract a.img", "DIR"),
         ("t extract a.img b /c /d", "'/d'"),
+        (
+            "t extract --deleted a.img b /c",
+            "the argument '--deleted' cannot be used with '[PATH]'",
+        ),
+        (
+            "t history --since x a.img",
+            "invalid value 'x' for '--since <T>'",
+        ),
+        (
+            "t history --since 1 --until 4294967296 a.img",
+            "invalid value '4294967296' for '--until <T>'",
+        ),
         ("t extract --owner 1 2 a.img b", "--owner"),
         (
             "t extract --block x a.img b",

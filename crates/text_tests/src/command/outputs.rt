@@ -10,17 +10,38 @@ use std::test::Fail;
 pub(crate) fn shown_history(alloc: Global, asked: NodeHistory<&str>) -> Result<String, AllocError> {
     let NodeHistory {
         options,
+        since,
+        until,
         image,
         path,
     } = asked;
     let command = shown_options(alloc, "history", options)?;
     let path = path.unwrap_or("all");
-    format!(in alloc; "{command} {image} {path}")
+    match (since, until) {
+        (None, None) => format!(in alloc; "{command} {image} {path}"),
+        (Some(since), None) => format!(in alloc; "{command} {image} {path} since {since}"),
+        (None, Some(until)) => format!(in alloc; "{command} {image} {path} until {until}"),
+        (Some(since), Some(until)) => {
+            format!(in alloc; "{command} {image} {path} since {since} until {until}")
+        }
+    }
 }
 
 /// Lines, and what they ask for.
-const ASKED: [(&str, &str); 13] = [
+const ASKED: [(&str, &str); 16] = [
     ("t history a.img", "history 65536 little a.img all"),
+    (
+        "t history --since=7 a.img",
+        "history 65536 little a.img all since 7",
+    ),
+    (
+        "t history a.img --until 0 /b",
+        "history 65536 little a.img /b until 0",
+    ),
+    (
+        "t history --until 9 a.img --since 4294967295",
+        "history 65536 little a.img all since 4294967295 until 9",
+    ),
     (
         "t history a.img /b -e 128K -b",
         "history 131072 big a.img /b",

@@ -180,6 +180,14 @@ pub returns-clause-two_outputs : goal.returns-clause-two_outputs
 unfolding clap_on_literals program parsed parsed_from
 returns-clause-two_outputs c = refl
 
+pub returns-clause-no_since : goal.returns-clause-no_since
+unfolding clap_on_literals program parsed parsed_from
+returns-clause-no_since c = refl
+
+pub returns-clause-deleted_part : goal.returns-clause-deleted_part
+unfolding clap_on_literals program parsed parsed_from
+returns-clause-deleted_part c = refl
+
 pub returns-clause-not_of_history : goal.returns-clause-not_of_history
 unfolding clap_on_literals program parsed parsed_from
 returns-clause-not_of_history c = refl

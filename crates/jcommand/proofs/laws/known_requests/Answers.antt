@@ -44,6 +44,14 @@ pub returns-clause-extracted : goal.returns-clause-extracted
 unfolding clap_on_literals program parsed parsed_from
 returns-clause-extracted c = refl
 
+pub returns-clause-strict_content : goal.returns-clause-strict_content
+unfolding clap_on_literals program parsed parsed_from
+returns-clause-strict_content c = refl
+
+pub returns-clause-extracted_deleted : goal.returns-clause-extracted_deleted
+unfolding clap_on_literals program parsed parsed_from
+returns-clause-extracted_deleted c = refl
+
 pub returns-clause-extracted_part : goal.returns-clause-extracted_part
 unfolding clap_on_literals program parsed parsed_from
 returns-clause-extracted_part c = refl

@@ -1,12 +1,10 @@
-use Rattle.std.proofs.Common.{ℕ, List, ◌∙◌, ap, sym}
+use Rattle.std.proofs.Common.{ℕ, List, ap, subst, sym}
 use Rattle.jnode.specs.declared.order.Endian.{Endian}
-use Rattle.jreport.specs.Content.{content_of}
 use Rattle.jlook.specs.Chosen.{object_by_path}
 use Rattle.jedge.specs.Acts.{prints}
-use Rattle.jedge.specs.Commands.{cat_says, cats, read_told, shows_mount}
+use Rattle.jedge.specs.Commands.{cat_says, cats, shows_mount}
 use Rattle.jedge.specs.Images.{MountsFor}
-use Rattle.jedge.specs.Showing.{Contains}
-use Rattle.jedge.specs.Told.{Told, found_told}
+use Rattle.jedge.proofs.MissingLemmas.{scannable_for}
 use Rattle.jedge.proofs.Steps.{answered, answered_at, does_at, then_err, then_ok}
 use Rattle.jedge.proofs.cat.cat.Goals as goal
 
@@ -15,34 +13,40 @@ returns-in-Err g c = then_err (answered c.in-Err.ensures)
 
 pub returns-in-Err-load : goal.returns-in-Err-load
 returns-in-Err-load g c =
-    does_at (λ (e : Endian). cats e c.args.options.geometry.block c.args.decompress c.args.image.now c.args.path.now)
+    let asked = c.args.asked in
+    does_at (λ (e : Endian). cats e asked.options.geometry.block asked.decompress asked.strict asked.image.now asked.path.now)
     (sym c.requires) (then_ok (answered c.in-Ok.ensures) (then_err c.in-Err-load.ensures))
+
+pub print_content-requires-clause-scannable : goal.print_content-requires-clause-scannable
+print_content-requires-clause-scannable g c =
+    scannable_for (object_by_path c.as_slice-names.result.now) c.args.asked.decompress g.E.Order.order c.args.asked.options.geometry.block c.as_slice-bytes.result.now
+    c.in-Ok-mounted_object.mounted c.in-Ok-mounted_object.ensures
 
 pub returns-in-Ok-mounted_object : goal.returns-in-Ok-mounted_object
 returns-in-Ok-mounted_object g c =
-    let size = c.args.options.geometry.block in
+    let asked = c.args.asked in
+    let size = asked.options.geometry.block in
     let path = c.in-Ok.path.items in
     let m = c.in-Ok-mounted_object.mounted in
-    does_at (λ (e : Endian). cats e size c.args.decompress c.args.image.now c.args.path.now)
+    does_at (λ (e : Endian). cats e size asked.decompress asked.strict asked.image.now asked.path.now)
     (sym c.requires) (then_ok (answered c.in-Ok.ensures) (then_ok c.in-Ok-load.ensures
-    (does_at (shows_mount (object_by_path path) c.args.decompress g.E.Order.order size (cat_says g.E.Order.order size path))
+    (does_at (shows_mount (object_by_path path) asked.decompress g.E.Order.order size (cat_says g.E.Order.order size asked.strict path))
     c.as_slice-bytes.ensures.value
     (then_ok (answered c.others_if_none-others.ensures) (then_ok
-    (answered_at (λ (p : List ℕ). MountsFor (object_by_path p) c.args.decompress g.E.Order.order size c.as_slice-bytes.result.now)
+    (answered_at (λ (p : List ℕ). MountsFor (object_by_path p) asked.decompress g.E.Order.order size c.as_slice-bytes.result.now)
     c.as_slice-names.ensures.value c.in-Ok-mounted_object.ensures)
-    (does_at (λ (told : Told). prints (Contains (content_of m.state path) told))
-    (c.read_found.ensures ∙ ap (λ (e : Endian). read_told e size c.others_if_none-others.result m) c.requires)
-    (does_at (λ (p : List ℕ). prints (Contains (content_of m.state p) (found_told c.read_found.result)))
-    c.as_slice-names.ensures.value c.print_bytes.ensures)))))))
+    (does_at (λ (p : List ℕ). prints (cat_says g.E.Order.order size asked.strict p c.others_if_none-others.result m))
+    c.as_slice-names.ensures.value c.print_content.ensures))))))
 
 pub returns : goal.returns
 returns g c =
-    let size = c.args.options.geometry.block in
+    let asked = c.args.asked in
+    let size = asked.options.geometry.block in
     let path = c.in-Ok.path.items in
-    does_at (λ (e : Endian). cats e size c.args.decompress c.args.image.now c.args.path.now)
+    does_at (λ (e : Endian). cats e size asked.decompress asked.strict asked.image.now asked.path.now)
     (sym c.requires) (then_ok (answered c.in-Ok.ensures) (then_ok c.in-Ok-load.ensures
-    (does_at (shows_mount (object_by_path path) c.args.decompress g.E.Order.order size (cat_says g.E.Order.order size path))
+    (does_at (shows_mount (object_by_path path) asked.decompress g.E.Order.order size (cat_says g.E.Order.order size asked.strict path))
     c.as_slice-bytes.ensures.value
     (then_ok (answered c.others_if_none-others.ensures) (then_err
-    (answered_at (λ (p : List ℕ). MountsFor (object_by_path p) c.args.decompress g.E.Order.order size c.as_slice-bytes.result.now)
+    (answered_at (λ (p : List ℕ). MountsFor (object_by_path p) asked.decompress g.E.Order.order size c.as_slice-bytes.result.now)
     c.as_slice-names.ensures.value c.in-Err-mounted_object.ensures))))))

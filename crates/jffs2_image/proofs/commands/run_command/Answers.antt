@@ -1,12 +1,13 @@
 use Rattle.std.proofs.Common.{ℕ, List, ◌∙◌, ap, sym}
 use Rattle.std.specs.Borrow.{Bor}
 use Rattle.jnode.specs.declared.order.Endian.{Endian}
-use Rattle.jcommand.specs.Parsed.{command_view, order_asked, packing_view, target_view, update_cuts_view, updating_view}
+use Rattle.jcommand.specs.Parsed.{appending_view, command_view, order_asked, packing_view, target_view, update_cuts_view, updating_view}
 use Rattle.jcommand.specs.declared.parsed.Command.{Command}
 use Rattle.jedge.specs.Commands.{reported}
 use Rattle.jedge.proofs.Steps.{does_at}
 use Rattle.jforetells.specs.Foretelling.{cuts_update_act}
 use Rattle.jmakes.specs.Commands.{append_act, build_act}
+use Rattle.jmakes.specs.Keeping.{base_of}
 use Rattle.jmakes.specs.Writing.{image_asked}
 use Rattle.jpacks.specs.Packing.{pack_act}
 use Rattle.jremakes.specs.Asked.{AskedRemaking}
@@ -79,7 +80,7 @@ returns-in-Build g c =
 pub returns-in-Append : goal.returns-in-Append
 returns-in-Append g c =
     does_at (λ (k : Command (Bor (List ℕ))). reported (command_act (command_view k))) (sym c.in-Append.is)
-    (does_at (λ (e : Endian). reported (append_act (image_asked e (target_view c.in-Append.asked.target)) c.in-Append.asked.decompress c.in-Append.asked.image.now c.in-Append.asked.listing.now))
+    (does_at (λ (e : Endian). reported (append_act (image_asked e (target_view c.in-Append.asked.target)) (base_of (appending_view c.in-Append.asked)) c.in-Append.asked.listing.now))
     (sym (ap order_asked (sym c.in-Append.is) ∙ c.requires)) c.run_append.ensures)
 
 pub returns-in-Update : goal.returns-in-Update

@@ -28,15 +28,15 @@ returns-in-Err-judge_nodes g c =
     (does_at (extracts_image (in_order g.E.Order.order c.args.asked) part) c.as_slice-bytes.ensures.value
     (then_err (answered c.in-Err-judge_nodes.ensures)))))
 
-pub returns-in-Ok-mounted_as : goal.returns-in-Ok-mounted_as
-returns-in-Ok-mounted_as g c =
+pub returns-in-Ok-mounted_for : goal.returns-in-Ok-mounted_for
+returns-in-Ok-mounted_for g c =
     let part = option_map (λ path. path.items) c.in-Ok.path in
     does_at (λ (e : Endian). extract_act (in_order e c.args.asked)) (sym c.requires)
     (then_ok (answered c.in-Ok.ensures) (then_ok c.in-Ok-load.ensures
     (does_at (extracts_image (in_order g.E.Order.order c.args.asked) part) c.as_slice-bytes.ensures.value
     (then_ok (answered c.in-Ok-judge_nodes.ensures)
-    (then_ok (answered c.in-Ok-mounted_as.ensures)
-    (does_at (λ (e : Endian). extracts_part (in_order e c.args.asked) part c.in-Ok-mounted_as.mounted)
+    (then_ok (answered c.in-Ok-mounted_for.ensures)
+    (does_at (λ (e : Endian). extracts_part (in_order e c.args.asked) part c.in-Ok-mounted_for.mounted)
     c.requires c.extract_mounted.ensures))))))
 
 pub returns : goal.returns
@@ -46,4 +46,4 @@ returns g c =
     (then_ok (answered c.in-Ok.ensures) (then_ok c.in-Ok-load.ensures
     (does_at (extracts_image (in_order g.E.Order.order c.args.asked) part) c.as_slice-bytes.ensures.value
     (then_ok (answered c.in-Ok-judge_nodes.ensures)
-    (then_err (answered c.in-Err-mounted_as.ensures))))))
+    (then_err (answered c.in-Err-mounted_for.ensures))))))

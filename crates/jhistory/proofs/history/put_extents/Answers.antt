@@ -5,7 +5,7 @@ use Rattle.jline.proofs.TurnLemmas.{item_failed}
 use Rattle.jscan.specs.ImageLeft.{image_left}
 use Rattle.jscan.specs.Scans.{image_extents}
 use Rattle.jscan.specs.declared.extent.Extent.{Extent}
-use Rattle.jhistory.specs.HistoryText.{lent, told_line, word_totals, words_told}
+use Rattle.jhistory.specs.HistoryText.{selection, told_line, word_totals, words_told}
 use Rattle.jhistory.proofs.TellingLemmas.{turn_of, all_given, extents_few, line_put}
 use Rattle.jhistory.proofs.history.put_extents.Goals as goal
 
@@ -31,7 +31,7 @@ loop-extent-preserved g c =
     let put = c.in_ok-put_extent.ensures.puts in
     let before = c.loop-extent.invariant in
     record {
-      put = line_put (told_line g.E.Order.order c.args.geometry.block c.args.image.now c.args.told.words.now (lent c.args.told.subjects)) c.loop-extent.yielded c.in-Some.extent _ _ _ before.put put.0;
+      put = line_put (told_line g.E.Order.order c.args.geometry.block c.args.image.now c.args.told.words.now (selection c.args.told.subjects c.args.told.period)) c.loop-extent.yielded c.in-Some.extent _ _ _ before.put put.0;
       failed = put.1 ∙ before.failed;
       totals = c.in_ok-put_extent.ensures.totals c.loop-extent.yielded before.totals;
     }
@@ -41,7 +41,7 @@ returns-in_err-put_extent-clause-puts g c =
     let put = c.in_err-put_extent.ensures.puts in
     let before = c.loop-extent.invariant in
     let xs = c.loop-extent.yielded in
-    let f = told_line g.E.Order.order c.args.geometry.block c.args.image.now c.args.told.words.now (lent c.args.told.subjects) in
+    let f = told_line g.E.Order.order c.args.geometry.block c.args.image.now c.args.told.words.now (selection c.args.told.subjects c.args.told.period) in
     let all = image_extents g.E.Order.order c.args.geometry.block c.args.image.now in
     let here = turn_of image_left _ _ c.next.new.self all xs _ c.in-Some.extent
     (ap image_left c.into_iter-extent-iterator.ensures.into_iter_gives ∙ c.in-Ok.ensures.extents) c.loop-extent.yielded_by c.in-Some.is c.next.ensures.steps in
@@ -55,7 +55,7 @@ returns-clause-puts g c =
     (ap image_left c.into_iter-extent-iterator.ensures.into_iter_gives ∙ c.in-Ok.ensures.extents) c.loop-extent.yielded_by c.in-None.is c.next.ensures.steps in
     let done = c.loop-extent.invariant in (
       subst (λ (ss : List Extent). Appends (g.T.Sink.taken c.args.sink.now) (g.T.Sink.taken c.loop-extent.sink)
-          (flat_map (told_line g.E.Order.order c.args.geometry.block c.args.image.now c.args.told.words.now (lent c.args.told.subjects)) ss)) given done.put,
+          (flat_map (told_line g.E.Order.order c.args.geometry.block c.args.image.now c.args.told.words.now (selection c.args.told.subjects c.args.told.period)) ss)) given done.put,
       done.failed,
     )
 
@@ -65,4 +65,4 @@ returns-clause-totals g c =
     let given = all_given image_left _ _ c.next.new.self all c.loop-extent.yielded _
     (ap image_left c.into_iter-extent-iterator.ensures.into_iter_gives ∙ c.in-Ok.ensures.extents) c.loop-extent.yielded_by c.in-None.is c.next.ensures.steps in
     c.loop-extent.invariant.totals
-    ∙ ap (λ (ss : List Extent). word_totals (words_told g.E.Order.order c.args.geometry.block c.args.image.now c.args.told.words.now (lent c.args.told.subjects) ss)) given
+    ∙ ap (λ (ss : List Extent). word_totals (words_told g.E.Order.order c.args.geometry.block c.args.image.now c.args.told.words.now (selection c.args.told.subjects c.args.told.period) ss)) given

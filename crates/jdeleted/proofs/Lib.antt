@@ -1,0 +1,6 @@
+pub mod ApartLemmas
+pub mod FindingLemmas
+pub mod FlatLemmas
+pub mod LastLemmas
+pub mod NamingLemmas
+pub mod ObjectLemmas
