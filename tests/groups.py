@@ -46,6 +46,15 @@ def write_lines(name, lines):
     write(name, "".join(line + "\n" for line in lines))
 
 
+def two_images(content):
+    """`folder`, which has a file of these bytes; `packed`, the image of this folder; and `made`, another image."""
+    os.makedirs("folder/x", exist_ok=True)
+    write("folder/x/file", content)
+    write_lines("first", ["mkdir 0755 /x"])
+    made = [run("pack", "folder", "packed"), run("build", "--blocks", "8", "first", "made")]
+    assert [status for status, _, _ in made] == [0, 0], made
+
+
 def run_all(groups):
     """Runs each group in one new folder, tells of it and then of all, and answers the status of the suite."""
     with tempfile.TemporaryDirectory(prefix="groups-") as folder:

@@ -15,7 +15,7 @@ import subprocess
 import sys
 
 import compressed_images as images
-from groups import PROGRAM, options_of, read, run, run_all, verdict, write, write_lines
+from groups import PROGRAM, options_of, read, run, run_all, two_images, verdict, write, write_lines
 from spare import LAYOUTS, PRINTED, WRITTEN, dump_of, layout_word, seen, small_images, tree_of
 
 # what is said of a file that does not have the part
@@ -110,12 +110,8 @@ def extended():
 
 
 def compared():
-    """The part is cut out of both images of `diff`; and `verify` has a folder beside the image."""
-    os.makedirs("folder/x", exist_ok=True)
-    write("folder/x/file", b"offset" * 1000)
-    assert run("pack", "folder", "packed")[0] == 0
-    write_lines("first", ["mkdir 0755 /x"])
-    assert run("build", "--blocks", "8", "first", "made")[0] == 0
+    """The part is cut out of both images of `diff`; and `verify` has a folder too."""
+    two_images(b"offset" * 1000)
     chance, length = random.Random(95), min(len(read("packed")), len(read("made")))
     for before, behind in PLACES:
         words = part_words(before, length, chance)

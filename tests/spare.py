@@ -15,7 +15,7 @@ import subprocess
 import sys
 
 import compressed_images as images
-from groups import BLOCK, PROGRAM, options_of, read, run, run_all, verdict, write, write_lines
+from groups import BLOCK, PROGRAM, options_of, read, run, run_all, two_images, verdict, write, write_lines
 
 LAYOUTS = (512, 16), (2048, 64), (4096, 128), (4096, 224), (1000, 7), (1, 3), (65536, 65536), (4, 0)
 PRINTED = (["check"], ["check", "--shape", "--decompress"], ["check", "--scan"], ["ls"], ["ls", "--decompress"], ["damage", "--decompress"],
@@ -111,12 +111,8 @@ def extended():
 
 
 def compared():
-    """Both images of `diff` have the layout; and `verify` has a folder beside the image."""
-    os.makedirs("folder/x", exist_ok=True)
-    write("folder/x/file", b"spare" * 1000)
-    assert run("pack", "folder", "packed")[0] == 0
-    write_lines("first", ["mkdir 0755 /x"])
-    assert run("build", "--blocks", "8", "first", "made")[0] == 0
+    """Both images of `diff` have the layout; and `verify` has a folder too."""
+    two_images(b"spare" * 1000)
     chance = random.Random(75)
     for page, spare in LAYOUTS:
         word = layout_word(page, spare)
