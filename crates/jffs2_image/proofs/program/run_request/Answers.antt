@@ -1,4 +1,4 @@
-use Rattle.std.proofs.Common.{Option, sym}
+use Rattle.std.proofs.Common.{Option}
 use Rattle.jjson.specs.declared.lines.Lines.{Lines}
 use Rattle.jedge.proofs.Steps.{does_at, step_reported}
 use Rattle.jffs2_image.specs.Running.{json_act}
