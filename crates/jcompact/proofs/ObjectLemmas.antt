@@ -21,7 +21,7 @@ use Rattle.jmount.specs.Collected.{without_addresses}
 use Rattle.jmount.specs.Tree.{ObjectOf}
 use Rattle.jmount.specs.StateOf.{inode_in, inodes, versions_of, latest, piece_of, contents, object_by, object_of, or_root}
 use Rattle.jmount.proofs.ObjectsLemmas.{in_versions, of_versions}
-use Rattle.jmount.proofs.StateLemmas.{AreVersions, versions-AreVersions, one_field, pieces_agree}
+use Rattle.jmount.proofs.StateLemmas.{AreVersions, versions-AreVersions, one_field, pieces_agree, same_device}
 use Rattle.jcompact.specs.Matters.{Placed, is_for_same, is_above, counts_above, is_newest, has_byte, shows_at, shows, size_if, latest_size, matters}
 use Rattle.jcompact.proofs.TopLemmas.{left_or, right_or, both, any_of, none_any, map_same, IsTopOf, top_of}
 
@@ -229,6 +229,7 @@ module _ (ns kept : List Placed) (reached : ℕ → Bool) (apart : NoneClash (wi
         atime = field (λ n. n.atime) j;
         mtime = field (λ n. n.mtime) j;
         ctime = field (λ n. n.ctime) j;
+        device = same_device z y field j;
         body = bytes j;
       })
 

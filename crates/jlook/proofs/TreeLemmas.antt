@@ -50,6 +50,10 @@ same_tree s t objects names next =
     ∙ ap (λ (n : FinMap key_cmp ℕ). tree_of t.objects n s.next) names
     ∙ ap (λ (k : ℕ). tree_of t.objects t.names k) next
 
+-- what an outline has of the object of a node: not what the node holds
+abbrev outlined : InodeNode → ℕ → ObjectOf ℕ
+outlined n size = record (with_bytes {B = ℕ} n size) { device = None }
+
 module _ (wants : Wants) where
   -- ---- a node
 
@@ -66,8 +70,8 @@ module _ (wants : Wants) where
   version_kept : (n : InodeNode) → (looked_inode wants n).version ≡ n.version
   version_kept n = kept (λ (m : InodeNode). m.version) n refl
 
-  size_kept : (n : InodeNode) → with_bytes {B = ℕ} (looked_inode wants n) (looked_inode wants n).isize ≡ with_bytes {B = ℕ} n n.isize
-  size_kept n = kept (λ (m : InodeNode). with_bytes {B = ℕ} m m.isize) n refl
+  size_kept : (n : InodeNode) → outlined (looked_inode wants n) (looked_inode wants n).isize ≡ outlined n n.isize
+  size_kept n = kept (λ (m : InodeNode). outlined m m.isize) n refl
 
   owner_kept : (n : NodeRef) → owner (looked_node wants n) ≡ owner n
   owner_kept (Entry entry) = refl
@@ -151,8 +155,8 @@ module _ (wants : Wants) where
 
   -- ---- objects
 
-  object_sized : (vs : List InodeNode) (n : InodeNode) → sized (object_by vs n) ≡ with_bytes {B = ℕ} n n.isize
-  object_sized vs n = ap (with_bytes {B = ℕ} n) (length-each_below n.isize (λ place. byte_at (visible (map piece_of vs) place)))
+  object_sized : (vs : List InodeNode) (n : InodeNode) → sized (object_by vs n) ≡ outlined n n.isize
+  object_sized vs n = ap (outlined n) (length-each_below n.isize (λ place. byte_at (visible (map piece_of vs) place)))
 
   from_looked : (i : ℕ) (vs : List InodeNode) → option_map sized (object_from i (map (looked_inode wants) vs)) ≡ option_map sized (object_from i vs)
   from_looked i vs =

@@ -2,7 +2,7 @@
 use Rattle.std.proofs.Common.{◌≡◌, ◌≢◌, ℕ, ◌+◌, ◌<◌, ◌≤◌, Bool, true, false, cond, List, [], map, length, Option, Some, None, refl, ap, sym, ◌∙◌, subst, inl, inr, ⊎_elim, arith}
 use Rattle.std.specs.Prelude.{◌⊎◌, Contains, option_map, is_some, slice_index, ◌==◌}
 use Rattle.std.specs.List.{Any}
-use Rattle.std.proofs.lemmas.Bool.{false≢true, true≢false, eq-eqb, eqb-true, eqb-false, false_from_ne_true}
+use Rattle.std.proofs.lemmas.Bool.{cond-false, false≢true, true≢false, eq-eqb, eqb-true, eqb-false, false_from_ne_true}
 use Rattle.std.proofs.lemmas.Option.{same_Some}
 use Rattle.std.proofs.lemmas.List.Elements.{All-contains}
 use Rattle.flashbase.proofs.ListLemmas.{newest_is_newest, newest_of_none, length-each_below}
@@ -15,7 +15,8 @@ use Rattle.jfrag.specs.Pieces.{body_len, covers, byte_of}
 use Rattle.jfrag.specs.Overlays.{Visible, GivesAt, IsHighestAt, visible, byte_at}
 use Rattle.jfrag.proofs.OverlaysLemmas.{visible_is_highest, content_is_visible}
 use Rattle.flashbase.proofs.MemberLemmas.{Contains-none, Contains-map, Contains-map_from, Contains-filter, Contains-filter_from}
-use Rattle.jmount.specs.Tree.{ObjectOf}
+use Rattle.jmount.specs.Device.{given_bytes, number_held, device_held}
+use Rattle.jmount.specs.Tree.{ObjectOf, is_device}
 use Rattle.jmount.specs.StateOf.{versions_of, latest, body_of, piece_of, default_root, or_root, object_by}
 use Rattle.jmount.specs.Laws as law
 use Rattle.jmount.specs.Laws.{IsLatest, HasAttributes, HasNone, IsHighestOver, NoneCovers}
@@ -53,7 +54,7 @@ is_latest nodes i node e =
 attributes : (versions : List InodeNode) (node : InodeNode) (o : ObjectOf (List ℕ)) → object_by versions node ≡ o → HasAttributes node o
 attributes versions node o e =
     subst (HasAttributes node) e
-    (record { mode = refl; uid = refl; gid = refl; atime = refl; mtime = refl; ctime = refl; size = length-each_below node.isize (λ place. byte_at (visible (map piece_of versions) place)) })
+    (record { mode = refl; uid = refl; gid = refl; atime = refl; mtime = refl; ctime = refl; device = refl; size = length-each_below node.isize (λ place. byte_at (visible (map piece_of versions) place)) })
 
 -- where no node makes an object, only the root has one
 root_alone : (i : ℕ) (b : Bool) (o : ObjectOf (List ℕ)) → (i == 1) ≡ b → cond b (Some default_root) None ≡ Some o → (i ≡ 1) × (o ≡ default_root)
@@ -76,6 +77,23 @@ object_is_of_latest nodes i o e =
     (λ found. inl (found.0, found.1, attributes (versions_of nodes i) found.0 o found.2))
     (λ root. inr root)
     (by_latest nodes i o (latest (versions_of nodes i)) refl e)
+
+-- ---- the number of a device
+
+pub held_none : (mode : ℕ) (bytes : List ℕ) → is_device mode ≡ false → device_held mode bytes ≡ None
+unfolding device_held
+held_none mode bytes plain = cond-false (is_device mode) (number_held bytes) None plain
+
+pub only_devices_have_numbers : law.OnlyDevicesHaveNumbers
+only_devices_have_numbers nodes i o e plain =
+    ⊎_elim
+    (λ (found : (node : InodeNode) × IsLatest nodes i node × HasAttributes node o).
+    let node = found.0 in
+    found.2.device ∙ held_none node.mode (given_bytes node.dsize node.fill) (ap is_device (sym found.2.mode) ∙ plain))
+    (λ (root : HasNone nodes i × (i ≡ 1) × (o ≡ default_root)). ap (λ (x : ObjectOf (List ℕ)). x.device) root.2)
+    (object_is_of_latest nodes i o e)
+
+-- ---- numbers without nodes
 
 without_nodes : (nodes : List InodeNode) (i : ℕ) (found : Option InodeNode) → latest (versions_of nodes i) ≡ found
     → or_root i (option_map (object_by (versions_of nodes i)) found) ≡ None → HasNone nodes i × (i ≢ 1)

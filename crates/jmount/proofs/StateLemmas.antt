@@ -1,7 +1,8 @@
 -- The file system that nodes make depends on which nodes there are.
-use Rattle.std.proofs.Common.{◌≡◌, ℕ, ◌+◌, List, ◌∷◌, map, get_or, Option, Some, None, refl, ap, sym, ◌∙◌, arith}
+use Rattle.std.proofs.Common.{◌≡◌, ℕ, ◌+◌, List, ◌∷◌, map, length, get_or, Option, Some, None, refl, ap, sym, ◌∙◌, arith}
 use Rattle.std.specs.Prelude.{Contains, filter, option_map, ◌==◌}
 use Rattle.std.proofs.lemmas.Bool.{eqb-true}
+use Rattle.std.proofs.lemmas.List.{ext_get_or}
 use Rattle.std.proofs.lemmas.List.Elements.{Contains-get_or}
 use Rattle.std.specs.List.{flat_map}
 use Rattle.flashbase.proofs.ListLemmas.{newest_is_newest}
@@ -13,6 +14,7 @@ use Rattle.jname.specs.Live.{live_names}
 use Rattle.jname.proofs.LawLemmas.{live_names-same}
 use Rattle.flashbase.proofs.MemberLemmas.{Contains-map_from, Contains-filter_from}
 use Rattle.jmount.specs.Clash.{NoInodesClash}
+use Rattle.jmount.specs.Device.{given_bytes, device_held}
 use Rattle.jmount.specs.StateOf.{inodes, entries, inode_in, entry_in, versions_of, latest, piece_of, contents, object_by, object_of, objects_of, or_root, numbers_in, next_of, owner, version_of, top}
 use Rattle.jmount.specs.Laws as law
 use Rattle.jmount.specs.Laws.{SameElements}
@@ -48,6 +50,14 @@ pieces_agree i versions are place j k d below l same covers_first covers_second 
 
 -- ---- an object
 
+-- nodes that show the same numbers have the same number of a device
+pub same_device : (y z : InodeNode) → ((f : InodeNode → ℕ) → f y ≡ f z) → device_held y.mode (given_bytes y.dsize y.fill) ≡ device_held z.mode (given_bytes z.dsize z.fill)
+same_device y z field =
+    let held : given_bytes y.dsize y.fill ≡ given_bytes z.dsize z.fill =
+    ext_get_or 0 (given_bytes y.dsize y.fill) (given_bytes z.dsize z.fill) (field (λ n. length (given_bytes n.dsize n.fill)))
+    (λ k h. field (λ n. get_or (given_bytes n.dsize n.fill) k 0)) in
+    ap (λ m. device_held m (given_bytes y.dsize y.fill)) (field (λ n. n.mode)) ∙ ap (device_held z.mode) held
+
 -- nodes of one version make one object
 one_object : (i : ℕ) (a b : List InodeNode) → SameElements a b → AreVersions i a → AreVersions i b → (y z : InodeNode) → Contains a y → Contains a z → y.version ≡ z.version
     → object_by a y ≡ object_by b z
@@ -55,6 +65,7 @@ one_object i a b same are others y z in_y in_z version =
     let field : (f : InodeNode → ℕ) → f y ≡ f z = one_field i a are y z in_y in_z version in
     let bytes : contents a y.isize ≡ contents b z.isize =
     ap (contents a) (field (λ n. n.isize)) ∙ content-same (map piece_of a) (map piece_of b) z.isize (same_mapped piece_of a b same) (pieces_agree i b others) in
+    let device : device_held y.mode (given_bytes y.dsize y.fill) ≡ device_held z.mode (given_bytes z.dsize z.fill) = same_device y z field in
     λ j. record {
       mode = field (λ n. n.mode) j;
       uid = field (λ n. n.uid) j;
@@ -62,6 +73,7 @@ one_object i a b same are others y z in_y in_z version =
       atime = field (λ n. n.atime) j;
       mtime = field (λ n. n.mtime) j;
       ctime = field (λ n. n.ctime) j;
+      device = device j;
       body = bytes j;
     }
 

@@ -1,6 +1,6 @@
 -- How the values that contracts see are told apart.
-use Rattle.std.specs.Prelude.{ℕ, Bool, List, refl}
-use Rattle.std.specs.Coded.{Coded, code_by, coded×, coded_ℕ, coded_bool, coded_list}
+use Rattle.std.specs.Prelude.{ℕ, Bool, List, Option, refl}
+use Rattle.std.specs.Coded.{Coded, code_by, coded×, coded_ℕ, coded_bool, coded_list, coded_option}
 use Rattle.std.specs.Ordering.{nat_cmp}
 use Rattle.std.specs.FinMap as finite
 use Rattle.std.specs.FinMap.{FinMap}
@@ -8,14 +8,20 @@ use Rattle.jname.specs.Live.{key_cmp}
 use Rattle.jscan.specs.contracts.finding.Finding as finding
 use Rattle.jscan.specs.declared.finding.Finding.{Finding}
 use Rattle.jmount.specs.Tree.{ObjectOf, Tree, State}
+use Rattle.jmount.specs.contracts.object.DeviceBytes as device
+use Rattle.jmount.specs.declared.object.DeviceBytes.{DeviceBytes}
 use Rattle.jmount.specs.Mount.{Mount}
 
 abbrev pub object_code : {B : Type 0} → Coded B → Coded (ObjectOf B)
 object_code {B} b =
-    code_by (ℕ × (ℕ × (ℕ × (ℕ × (ℕ × (ℕ × B))))))
+    code_by (ℕ × (ℕ × (ℕ × (ℕ × (ℕ × (ℕ × (Option DeviceBytes × B)))))))
     (coded× coded_ℕ
-    (coded× coded_ℕ (coded× coded_ℕ (coded× coded_ℕ (coded× coded_ℕ (coded× coded_ℕ b))))))
-    (λ o. (o.mode, (o.uid, (o.gid, (o.atime, (o.mtime, (o.ctime, o.body)))))))
+    (coded× coded_ℕ
+    (coded× coded_ℕ
+    (coded× coded_ℕ
+    (coded× coded_ℕ
+    (coded× coded_ℕ (coded× (coded_option (device.the_row).coded) b)))))))
+    (λ o. (o.mode, (o.uid, (o.gid, (o.atime, (o.mtime, (o.ctime, (o.device, o.body))))))))
     (λ p. record {
       mode = p.0;
       uid = p.1.0;
@@ -23,7 +29,8 @@ object_code {B} b =
       atime = p.1.1.1.0;
       mtime = p.1.1.1.1.0;
       ctime = p.1.1.1.1.1.0;
-      body = p.1.1.1.1.1.1;
+      device = p.1.1.1.1.1.1.0;
+      body = p.1.1.1.1.1.1.1;
     })
     (λ _. refl)
 

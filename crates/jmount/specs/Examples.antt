@@ -1,10 +1,12 @@
 -- The worked examples of file systems.
-use Rattle.std.specs.Prelude.{ℕ, List, [], ◌∷◌, codes, replicate}
+use Rattle.std.specs.Prelude.{ℕ, List, [], ◌∷◌, Option, option_map, codes, replicate}
 use Rattle.jnode.specs.declared.node.Dirent.{Dirent}
 use Rattle.jnode.specs.declared.node.Fill.{Fill}
 use Rattle.jnode.specs.declared.node.Fill.TheVariants.{Zero, Data}
 use Rattle.jnode.specs.declared.node.NodeRef.{NodeRef}
 use Rattle.jnode.specs.declared.node.NodeRef.TheVariants.{Inode}
+use Rattle.jmount.specs.StateOf.{inodes, object_of}
+use Rattle.jmount.specs.declared.object.DeviceBytes.{DeviceBytes}
 
 -- a version of a number, of a regular file of mode 0644
 abbrev pub version_node : ℕ → ℕ → ℕ → ℕ → ℕ → Fill → NodeRef
@@ -41,6 +43,31 @@ three_versions =
     ∷ version_node 2 2 60 50 10 (Data (replicate 10 22))
     ∷ version_node 2 1 100 0 100 (Data (replicate 100 11))
     ∷ []
+
+-- a version of number 2, of this mode, of no size and with these data
+abbrev pub version_with : ℕ → ℕ → ℕ → Fill → NodeRef
+version_with mode version dsize fill =
+    Inode (record {
+      ino = 2;
+      version = version;
+      mode = mode;
+      uid = 0;
+      gid = 0;
+      isize = 0;
+      atime = 0;
+      mtime = 0;
+      ctime = 0;
+      offset = 0;
+      dsize = dsize;
+      fill = fill;
+    })
+
+-- the number of a device of this mode that two versions make
+abbrev pub number_after : ℕ → Fill → Option (Option DeviceBytes)
+number_after mode fill =
+    option_map (λ o. o.device)
+    (object_of (inodes (version_with mode 1 2 (Data (1 ∷ 5 ∷ [])) ∷ version_with mode 2 2 fill ∷ []))
+    2)
 
 -- the entry "q" of the root, by its version
 abbrev pub named_node : ℕ → ℕ → Dirent

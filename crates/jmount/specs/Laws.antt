@@ -14,7 +14,8 @@ use Rattle.jnode.specs.declared.node.Dirent.{Dirent}
 use Rattle.jnode.specs.declared.node.NodeRef.{NodeRef}
 use Rattle.jnode.specs.declared.node.NodeRef.TheVariants.{Entry, Inode}
 use Rattle.jmount.specs.Clash.{NodesClash, NoInodesClash}
-use Rattle.jmount.specs.Tree.{ObjectOf, State, Outline, sized, outline, object, named, is_directory}
+use Rattle.jmount.specs.Device.{given_bytes, device_held}
+use Rattle.jmount.specs.Tree.{ObjectOf, State, Outline, sized, outline, object, named, is_directory, is_device}
 use Rattle.jmount.specs.StateOf.{inodes, entries, versions_of, piece_of, contents, default_root, object_by, object_of, objects_of, numbers_in, next_of, owner, version_of, top, tops_of, state_of}
 use Rattle.jmount.specs.Shown.{top_at}
 use Rattle.jmount.specs.Find.{IsPath, path_names, walk, find}
@@ -151,7 +152,8 @@ pub record IsLatest (nodes : List InodeNode) (i : ℕ) (node : InodeNode) : Type
   pub highest : (other : InodeNode) → Contains nodes other → other.ino ≡ i
       → other.version ≤ node.version
 
--- the object has the node's attributes, and as many bytes as its size
+-- the object has the node's attributes, what the node has of a device's number, and as many bytes as
+-- its size
 pub record HasAttributes (node : InodeNode) (o : ObjectOf (List ℕ)) : Type 0 where
   pub mode : o.mode ≡ node.mode
   pub uid : o.uid ≡ node.uid
@@ -159,6 +161,7 @@ pub record HasAttributes (node : InodeNode) (o : ObjectOf (List ℕ)) : Type 0 w
   pub atime : o.atime ≡ node.atime
   pub mtime : o.mtime ≡ node.mtime
   pub ctime : o.ctime ≡ node.ctime
+  pub device : o.device ≡ device_held node.mode (given_bytes node.dsize node.fill)
   pub size : length o.body ≡ node.isize
 
 -- no node is one of this number
@@ -172,6 +175,11 @@ ObjectIsOfLatest =
     (nodes : List InodeNode) (i : ℕ) (o : ObjectOf (List ℕ)) → object_of nodes i ≡ Some o
     → ((node : InodeNode) × IsLatest nodes i node × HasAttributes node o)
     ⊎ (HasNone nodes i × (i ≡ 1) × (o ≡ default_root))
+
+-- only a device has the number of one
+abbrev pub OnlyDevicesHaveNumbers : Type 0
+OnlyDevicesHaveNumbers = (nodes : List InodeNode) (i : ℕ) (o : ObjectOf (List ℕ))
+    → object_of nodes i ≡ Some o → is_device o.mode ≡ false → o.device ≡ None
 
 -- and no other number has an object without nodes
 abbrev pub NoObjectWithoutNodes : Type 0

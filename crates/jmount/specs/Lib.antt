@@ -3,6 +3,7 @@ pub mod Clash
 pub mod Codes
 pub mod Collected
 pub mod CollectedEntries
+pub mod Device
 pub mod Examples
 pub mod Find
 pub mod Inodes

@@ -31,10 +31,11 @@ shown_outline o = record {
   atime = o.atime;
   mtime = o.mtime;
   ctime = o.ctime;
+  device = o.device;
 }
 
 abbrev pub shown : ObjectOf (List ℕ) → Object
-shown o = shown_outline (sized o)
+shown o = record (shown_outline (sized o)) { device = o.device }
 
 -- all objects as callers see them, each with its number, in order
 abbrev pub objects_in : State → List (ℕ × Object)

@@ -14,6 +14,7 @@ use Rattle.jfrag.specs.declared.piece.Body.{Body}
 use Rattle.jfrag.specs.declared.piece.Body.TheVariants as body
 use Rattle.jfrag.specs.Overlays.{content}
 use Rattle.jname.specs.Live.{live_names}
+use Rattle.jmount.specs.Device.{given_bytes, device_held}
 use Rattle.jmount.specs.Tree.{ObjectOf, State}
 
 -- ---- the two kinds of node
@@ -55,7 +56,8 @@ piece_of node =
 abbrev pub contents : List InodeNode → ℕ → List ℕ
 contents versions size = content (map piece_of versions) size
 
--- an object with the attributes and the size that a node gives, and these bytes
+-- an object with the attributes and the size that a node gives, the number that it has of a device,
+-- and these bytes
 abbrev pub with_bytes : {B : Type 0} → InodeNode → B → ObjectOf B
 with_bytes node bytes = record {
   mode = node.mode;
@@ -64,6 +66,7 @@ with_bytes node bytes = record {
   atime = node.atime;
   mtime = node.mtime;
   ctime = node.ctime;
+  device = device_held node.mode (given_bytes node.dsize node.fill);
   body = bytes;
 }
 
@@ -76,8 +79,16 @@ object_by versions node = with_bytes node (contents versions node.isize)
 --   laws: jmount::examples::empty_image
 -- the root of an image that has no inode node for it (profile)
 abbrev pub default_root : ObjectOf (List ℕ)
-default_root =
-    record { mode = 0o040755; uid = 0; gid = 0; atime = 0; mtime = 0; ctime = 0; body = [] }
+default_root = record {
+  mode = 0o040755;
+  uid = 0;
+  gid = 0;
+  atime = 0;
+  mtime = 0;
+  ctime = 0;
+  device = None;
+  body = [];
+}
 
 abbrev pub or_root : ℕ → Option (ObjectOf (List ℕ)) → Option (ObjectOf (List ℕ))
 or_root i None = if i == 1 then Some default_root else None

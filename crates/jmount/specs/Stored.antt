@@ -26,6 +26,7 @@ stored_object stored = record {
   atime = stored.atime;
   mtime = stored.mtime;
   ctime = stored.ctime;
+  device = stored.device;
   body = each_below stored.size (λ place. byte_at (visible_in stored.bytes place));
 }
 

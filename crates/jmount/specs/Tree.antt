@@ -1,12 +1,14 @@
 -- A file system: its objects, its names, and the next number that is free.
-use Rattle.std.specs.Prelude.{ℕ, ◌/◌, ◌%◌, ◌==◌, Bool, false, List, length, map, filter, Option, Some, None, option_map, is_some, not, if◌then◌else◌}
+use Rattle.std.specs.Prelude.{ℕ, ◌/◌, ◌%◌, ◌==◌, ◌||◌, Bool, false, List, length, map, filter, Option, Some, None, option_map, is_some, not, if◌then◌else◌}
 use Rattle.std.specs.List.{find}
 use Rattle.std.specs.Ordering.{nat_cmp}
 use Rattle.std.specs.FinMap.{FinMap, get, keys, entries}
 use Rattle.flashbase.specs.Lists.{tabled}
 use Rattle.jname.specs.Live.{key_cmp}
+use Rattle.jmount.specs.declared.object.DeviceBytes.{DeviceBytes}
 
--- an object, with what represents its bytes: the bytes, or in an outline their number
+-- An object, with the number that a device has, as it lies, and with what represents its bytes: the
+-- bytes, or in an outline how many they are. An outline has no numbers of devices.
 pub record ObjectOf (B : Type 0) : Type 0 where
   pub mode : ℕ
   pub uid : ℕ
@@ -14,6 +16,7 @@ pub record ObjectOf (B : Type 0) : Type 0 where
   pub atime : ℕ
   pub mtime : ℕ
   pub ctime : ℕ
+  pub device : Option DeviceBytes
   pub body : B
 
 -- objects by their numbers, and what each name of a directory stands for
@@ -37,6 +40,7 @@ sized o = record {
   atime = o.atime;
   mtime = o.mtime;
   ctime = o.ctime;
+  device = None;
   body = length o.body;
 }
 
@@ -100,6 +104,17 @@ regular_bits = 8
 
 abbrev pub symlink_bits : ℕ
 symlink_bits = 10
+
+abbrev pub character_bits : ℕ
+character_bits = 2
+
+abbrev pub block_bits : ℕ
+block_bits = 6
+
+-- A character or a block device. What its node holds is its number, which is not among the bytes of
+-- a file system.
+abbrev pub is_device : ℕ → Bool
+is_device mode = (type_bits mode == character_bits) || (type_bits mode == block_bits)
 
 -- the greatest length of a symlink's target (Linux, include/uapi/linux/limits.h: PATH_MAX less the
 -- zero byte)

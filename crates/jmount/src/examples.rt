@@ -2,11 +2,15 @@
 
 ghost use Rattle.std.specs.Prelude.{◌≡◌, ℕ, List, [], ◌∷◌, ◌++◌, codes, replicate, option_map, Some, None, Ok, Err};
 ghost use Rattle.jname.specs.Live.{live};
+ghost use Rattle.jnode.specs.declared.node.Fill.TheVariants as fill;
 ghost use Rattle.jnode.specs.declared.node.NodeRef.TheVariants.{Entry, Inode};
+ghost use Rattle.jnode.specs.declared.order.Endian.TheVariants.{Little, Big};
 ghost use Rattle.jmount.specs.declared.fault.FindFault.TheVariants as fault;
+ghost use Rattle.jmount.specs.declared.object.DeviceBytes.TheVariants as device;
 ghost use Rattle.jmount.specs.declared.object.Kind.TheVariants as kind;
 ghost use Rattle.jmount.specs.Find.{find};
-ghost use Rattle.jmount.specs.Examples.{five_versions, three_versions, named_node};
+ghost use Rattle.jmount.specs.Device.{device_held, major_and_minor};
+ghost use Rattle.jmount.specs.Examples.{five_versions, three_versions, named_node, number_after};
 ghost use Rattle.jmount.specs.Shown.{kind_of};
 ghost use Rattle.jmount.specs.StateOf.{default_root, state_of, top};
 ghost use Rattle.jmount.specs.Tree.{dangling, object, type_bits};
@@ -52,6 +56,29 @@ pub fn empty_image()
     ensures find { find (state_of []) (codes "/") ≡ Ok 1 }
     ensures missing { find (state_of []) (codes "/q") ≡ Err fault.NotFound }
     ensures no_path { find (state_of []) (codes "/q/") ≡ Err fault.BadPath }
+{}
+
+/// The number of a device is that of its newest node; a file has none, nor has a device whose newest
+/// node has three bytes.
+#[tactic(auto, unfolding(crate::specs::Device::device_held))]
+pub fn numbers_of_devices()
+    ensures newest { number_after 0o020600 (fill.Data (3 ∷ 1 ∷ []))
+        ≡ Some (Some (device.Two (3 ∷ 1 ∷ []))) }
+    ensures new_form { number_after 0o060600 (fill.Data (1 ∷ 2 ∷ 3 ∷ 4 ∷ []))
+        ≡ Some (Some (device.Four (1 ∷ 2 ∷ 3 ∷ 4 ∷ []))) }
+    ensures zeros { number_after 0o060600 fill.Zero ≡ Some (Some (device.Two (0 ∷ 0 ∷ []))) }
+    ensures three { number_after 0o060600 (fill.Data (1 ∷ 2 ∷ 3 ∷ [])) ≡ Some None }
+    ensures regular { number_after 0o100600 (fill.Data (3 ∷ 1 ∷ [])) ≡ Some None }
+{}
+
+/// The numbers of /dev/null, /dev/sda15 and a device of a great number.
+#[tactic(auto, unfolding(jnode::specs::Order::number_in))]
+pub fn majors_and_minors()
+    ensures null { major_and_minor Little (device.Two (3 ∷ 1 ∷ [])) ≡ (1, 3) }
+    ensures big_null { major_and_minor Big (device.Two (1 ∷ 3 ∷ [])) ≡ (1, 3) }
+    ensures disk { major_and_minor Little (device.Two (15 ∷ 8 ∷ [])) ≡ (8, 15) }
+    ensures great { major_and_minor Big (device.Four (255 ∷ 255 ∷ 255 ∷ 255 ∷ []))
+        ≡ (4095, 1048575) }
 {}
 
 /// What a mode says.

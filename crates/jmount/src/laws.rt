@@ -36,10 +36,11 @@ pub fn tops_have_each()
 {}
 
 /// An object has the attributes and the size of its highest version, and each byte of the highest
-/// version that covers it.
+/// version that covers it. A device has its number of its highest version, and nothing else has one.
 pub fn objects_are_of_highest()
     ensures range { law.PieceIsRange }
     ensures attributes { law.ObjectIsOfLatest }
+    ensures devices { law.OnlyDevicesHaveNumbers }
     ensures none { law.NoObjectWithoutNodes }
     ensures bytes { law.ByteIsOfHighest }
 {}

@@ -11,6 +11,7 @@
 #![tactic(auto)]
 
 mod collecting;
+mod device;
 mod directories;
 pub mod examples;
 mod fault;
@@ -36,7 +37,9 @@ mod walk;
 pub use crate::fault::{FindFault, MountFault};
 pub use crate::mounted::{Mounted, ROOT};
 pub use crate::mounting::{mount, mount_nodes, mount_scanned, refuse_clashes};
-pub use crate::object::{GREATEST_TARGET, Kind, Object};
+pub use crate::object::{DeviceBytes, GREATEST_TARGET, Kind, Object};
 pub use crate::path::{after_slash, is_name};
-pub use crate::shown::{DIRECTORY_BITS, FIFO_BITS, REGULAR_BITS, SOCKET_BITS, kind_of, type_bits};
+pub use crate::shown::{
+    DIRECTORY_BITS, FIFO_BITS, REGULAR_BITS, SOCKET_BITS, is_device, kind_of, type_bits,
+};
 pub use crate::walk::Objects;

@@ -18,7 +18,16 @@ pub enum Kind {
 /// include/uapi/linux/limits.h: `PATH_MAX`).
 pub const GREATEST_TARGET: usize = 4095;
 
-/// An object: its kind, its whole mode, its owners, its size in bytes, and its times in seconds.
+/// The number of a device, as its bytes lie: two of the old form, major and then minor in 16 bits,
+/// or four of the new one (Linux, `include/linux/kdev_t.h`). They are in the order of the image.
+#[derive(Clone, Copy, Debug, PartialEq, Eq)]
+pub enum DeviceBytes {
+    Two([u8; 2]),
+    Four([u8; 4]),
+}
+
+/// An object: its kind, its whole mode, its owners, its size in bytes, its times in seconds, and if
+/// it is a device that has one, its number.
 #[derive(Clone, Copy, Debug, PartialEq, Eq)]
 pub struct Object {
     pub kind: Kind,
@@ -29,4 +38,5 @@ pub struct Object {
     pub atime: u32,
     pub mtime: u32,
     pub ctime: u32,
+    pub device: Option<DeviceBytes>,
 }

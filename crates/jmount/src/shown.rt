@@ -1,7 +1,7 @@
 //! An object as callers see it, and its bytes.
 
 ghost use Rattle.std.specs.Prelude.{◌≡◌, ◌==◌, ◌||◌};
-ghost use Rattle.jmount.specs.Tree.{type_bits, directory_bits, regular_bits, symlink_bits};
+ghost use Rattle.jmount.specs.Tree.{type_bits, directory_bits, regular_bits, symlink_bits, is_device};
 ghost use Rattle.jmount.specs.Shown.{kind_of, shown};
 ghost use Rattle.jmount.specs.Stored.{stored_object};
 
@@ -11,8 +11,14 @@ use crate::stored::Stored;
 /// Bits 12 to 15 of a FIFO's mode (Linux, include/uapi/linux/stat.h).
 pub const FIFO_BITS: u32 = 1;
 
+/// Those of a character device's.
+const CHARACTER_BITS: u32 = 2;
+
 /// Those of a directory's.
 pub const DIRECTORY_BITS: u32 = 4;
+
+/// Those of a block device's.
+const BLOCK_BITS: u32 = 6;
 
 /// Those of a regular file's.
 pub const REGULAR_BITS: u32 = 8;
@@ -36,6 +42,7 @@ pub fn shown(stored: &Stored<'_>) -> Object
         atime: stored.atime,
         mtime: stored.mtime,
         ctime: stored.ctime,
+        device: stored.device,
     }
 }
 
@@ -45,9 +52,9 @@ pub fn kind_of(mode: u32) -> Kind
 {
     match type_bits(mode) {
         FIFO_BITS => Kind::Fifo,
-        2 => Kind::CharacterDevice,
+        CHARACTER_BITS => Kind::CharacterDevice,
         DIRECTORY_BITS => Kind::Directory,
-        6 => Kind::BlockDevice,
+        BLOCK_BITS => Kind::BlockDevice,
         REGULAR_BITS => Kind::Regular,
         SYMLINK_BITS => Kind::Symlink,
         SOCKET_BITS => Kind::Socket,
@@ -67,6 +74,13 @@ pub fn has_bytes(mode: u32) -> bool
     ensures { result ≡ (type_bits mode == regular_bits || type_bits mode == symlink_bits) }
 {
     matches!(type_bits(mode), REGULAR_BITS | SYMLINK_BITS)
+}
+
+/// Whether a mode says that an object is a character or a block device.
+pub fn is_device(mode: u32) -> bool
+    ensures { result ≡ is_device mode }
+{
+    matches!(type_bits(mode), CHARACTER_BITS | BLOCK_BITS)
 }
 
 /// Bits 12 to 15 of a mode, which say the kind of an object (Linux, include/uapi/linux/stat.h).

@@ -1,9 +1,10 @@
 //! How an object of a mounted image is stored.
 
+use crate::object::DeviceBytes;
 use jfrag::FragOverlay;
 
-/// An object: the attributes and the size that its node of highest version gives, what its nodes
-/// overlay on one another, and the directory of its first name, or 0.
+/// An object: the attributes, the size and the number of a device that its node of highest version
+/// gives, what its nodes overlay on one another, and the directory of its first name, or 0.
 #[derive(Drop)]
 pub struct Stored<'a> {
     pub version: u32,
@@ -14,6 +15,7 @@ pub struct Stored<'a> {
     pub atime: u32,
     pub mtime: u32,
     pub ctime: u32,
+    pub device: Option<DeviceBytes>,
     pub directory: u32,
     pub bytes: FragOverlay<'a>,
 }

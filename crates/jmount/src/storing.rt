@@ -9,6 +9,7 @@ ghost use Rattle.jmount.specs.Kept.{HasNoDirectories, directory_kept};
 ghost use Rattle.jmount.specs.StateOf.{body_of, piece_of};
 ghost use Rattle.jmount.specs.Storing.{made_of_number, made_by, made_root, or_made_root, as_made};
 
+use crate::device::device_of;
 use crate::inodes::NodesByNumber;
 use crate::mounted::ROOT;
 use crate::stored::Stored;
@@ -51,6 +52,7 @@ fn default_root<'a>(alloc: Global) -> Stored<'a>
         atime: 0,
         mtime: 0,
         ctime: 0,
+        device: None,
         directory: 0,
         bytes: FragOverlay::new(alloc),
     }
@@ -95,6 +97,7 @@ fn object_of<'a>(alloc: Global, versions: &Versions<'a>) -> Result<Stored<'a>, A
         atime: latest.atime,
         mtime: latest.mtime,
         ctime: latest.ctime,
+        device: device_of(latest),
         directory: 0,
         bytes,
     })

@@ -88,7 +88,7 @@ pub new_file : (x : Indexed) (steps : List Step) (time mode uid gid i : ℕ) (ta
 new_file x [] time mode uid gid i target first is regular = cc
 new_file x (s ∷ steps) time mode uid gid i target first is regular =
     let same : s ≡ step.MakeObject time mode uid gid target = cc in
-    let made : ObjectOf ℕ = record { mode = mode; uid = uid; gid = gid; atime = time; mtime = time; ctime = time; body = length (own_bytes mode target) } in
+    let made : ObjectOf ℕ = record { mode = mode; uid = uid; gid = gid; atime = time; mtime = time; ctime = time; device = None; body = length (own_bytes mode target) } in
     subst (λ (t : Step). IsFileAt (advanced_all (advanced x t) steps) i) (sym same)
     (files_stay (advanced x (step.MakeObject time mode uid gid target)) steps i (record {
       taken = omega (arith, is);

@@ -117,7 +117,7 @@ pub filled_holds : (page : Page) (e : Endian) (size blocks accepted before now :
     (m : Mount) (to : Option Filling) → FitsListing root items → IsTree items → lines_of (listing_text root items) ≡ Ok lines
     → m.image ≡ [] → IsOk (resumes_by page e size blocks m) → FillsWithin (blocks * size) to
     → IsEmitted (paged_flash page e size blocks) m.image (ops_in e files lines) accepted places None (record { old = Some []; new = Some image; before = before; now = now })
-    → (s : State) × MountsAs e size (filled_to to image) s × HoldsTree files root items s × HaveDeviceNumbers e (plain_nodes e size (filled_to to image)) s items
+    → (s : State) × MountsAs e size (filled_to to image) s × HoldsTree e files root items s × HaveDeviceNumbers e (plain_nodes e size (filled_to to image)) s items
 filled_holds page e size blocks accepted before now places image files root items lines m to fits tree read none resumes fills was =
     let goes : Goes page size blocks [] = subst (Goes page size blocks) none (goes_on page e size blocks m resumes) in
     let emitted : IsEmitted (paged_flash page e size blocks) [] (ops_in e files lines) accepted places None (record { old = Some []; new = Some image; before = before; now = now }) =

@@ -320,10 +320,10 @@ folder_listed asked writes events told did =
     }
 
 -- a file system that holds its tree is shown, where the bytes are those of the files
-unfoldable pub folder_shown : {told : Told} (asked : Packing (List ℕ)) (writes : HostFiles → List ℕ → Act Told) (events : List Event) (of : IsFolderListed asked writes events told) (lines : List Line) (files : HostFiles) (state : State)
+unfoldable pub folder_shown : {told : Told} (e : Endian) (asked : Packing (List ℕ)) (writes : HostFiles → List ℕ → Act Told) (events : List Event) (of : IsFolderListed asked writes events told) (lines : List Line) (files : HostFiles) (state : State)
     → lines_of of.listed.text.items ≡ Ok lines → ((name : List ℕ) → Contains (files_named lines) name → IsFileKept of.before files of.during name)
-    → HoldsTree (part_contents files) of.folder.tree.root of.folder.tree.items.items state → ShowsFolder asked events state
-folder_shown asked writes events of lines files state listed kept holds = record {
+    → HoldsTree e (part_contents files) of.folder.tree.root of.folder.tree.items.items state → ShowsFolder e asked events state
+folder_shown e asked writes events of lines files state listed kept holds = record {
   known = of.folder.known;
   folder = of.folder.tree;
   lines = lines;
@@ -351,7 +351,7 @@ pack_holds_folder e asked events told did =
     let image : all_written events ≡ filled_to wanted.file.filling put.put.text = of.written ∙ put.put.written in
     record {
       state = is.0;
-      shows = folder_shown asked (writes_text wanted None) events of text.lines text.files is.0 text.listed text.kept is.2;
+      shows = folder_shown e asked (writes_text wanted None) events of text.lines text.files is.0 text.listed text.kept is.2;
       mounts = subst (λ (l : List ℕ). MountsAs e size l is.0) (sym image) is.1;
       numbered = subst (λ (l : List ℕ). HaveDeviceNumbers e (plain_nodes e size l) is.0 tree.items.items) (sym image) is.3;
     }
@@ -368,7 +368,7 @@ pack_compressed_holds_folder e asked events told did =
     let image : all_written events ≡ all_written of.during = of.written in
     record {
       state = is.0;
-      shows = folder_shown asked (updates_text e wanted []) events of ran.lines ran.files is.0 ran.lines_are
+      shows = folder_shown e asked (updates_text e wanted []) events of ran.lines ran.files is.0 ran.lines_are
           (λ name within. kept_in of.before ran.files ran.looked ran.last of.during name ran.all (ran.kept name within)) is.2;
       mounts = subst (λ (l : List ℕ). MountsThroughAs e size l is.0) (sym image) is.1;
     }

@@ -48,7 +48,7 @@ run_written e wanted image before text events told ran made =
 -- what was written mounts through its compression, and holds the tree.
 pub run_holds : (e : Endian) (wanted : DeviceWanted) (before : HostFiles) (text : List ℕ) (events : List Event) (told : Told) (root : Attributes) (items : List Item) → (ran : IsTextRun e wanted [] before text events told)
     → FitsListing root items → IsTree items → lines_of (listing_text root items) ≡ Ok ran.lines → FillsWithin (wanted.on.flash.blocks * wanted.on.flash.geometry.block) wanted.file.filling
-    → (s : State) × MountsThroughAs e wanted.on.flash.geometry.block (all_written events) s × HoldsTree (part_contents ran.files) root items s
+    → (s : State) × MountsThroughAs e wanted.on.flash.geometry.block (all_written events) s × HoldsTree e (part_contents ran.files) root items s
 run_holds e wanted before text events told root items ran fits tree read fills =
     let size : ℕ = wanted.on.flash.geometry.block in
     let blocks : ℕ = wanted.on.flash.blocks in

@@ -42,8 +42,8 @@ WasRead events name bytes = Happened (Did (Read name bytes)) events
 
 -- A folder was read, and a file system holds the tree that was found there, and nothing else. Its
 -- files have the bytes that were read of them.
-pub record ShowsFolder (asked : Packing (List ℕ)) (events : List Event) (state : State) : Type
-    0 where
+pub record ShowsFolder (e : Endian) (asked : Packing (List ℕ)) (events : List Event)
+    (state : State) : Type 0 where
   pub known : Known
   pub folder : FolderTree
   pub lines : List Line
@@ -53,7 +53,7 @@ pub record ShowsFolder (asked : Packing (List ℕ)) (events : List Event) (state
   pub listed : lines_of (listing_text folder.root folder.items.items) ≡ Ok lines
   pub read : (name : List ℕ) → Contains (files_named lines) name
       → WasRead events name (files name)
-  pub holds : HoldsTree files folder.root folder.items.items state
+  pub holds : HoldsTree e files folder.root folder.items.items state
 
 -- rule: Listings: The image that `pack` makes holds the tree of the folder.
 --   definitions: jpacks.Held.HoldsFolder, jpacks.Held.HoldsFolderPacked, jpacks.Held.ShowsFolder
@@ -64,7 +64,7 @@ pub record ShowsFolder (asked : Packing (List ℕ)) (events : List Event) (state
 pub record HoldsFolder (e : Endian) (asked : Packing (List ℕ)) (events : List Event) : Type
     0 where
   pub state : State
-  pub shows : ShowsFolder asked events state
+  pub shows : ShowsFolder e asked events state
   pub mounts : MountsAs e asked.options.geometry.block (all_written events) state
   pub numbered : HaveDeviceNumbers e
       (plain_nodes e asked.options.geometry.block (all_written events)) state
@@ -79,7 +79,7 @@ PackHoldsFolder = (e : Endian) (asked : Packing (List ℕ)) (events : List Event
 pub record HoldsFolderPacked (e : Endian) (asked : Packing (List ℕ)) (events : List Event) : Type
     0 where
   pub state : State
-  pub shows : ShowsFolder asked events state
+  pub shows : ShowsFolder e asked events state
   pub mounts : MountsThroughAs e asked.options.geometry.block (all_written events) state
 
 -- `pack --compress` that ends without a fault has written such an image.

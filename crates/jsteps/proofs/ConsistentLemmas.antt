@@ -179,7 +179,7 @@ advanced_keeps x (step.MakeObject time mode uid gid target) same ready room fits
     let root : 1 < x.tree.next = root_below x same in
     let number : x.tree.next ≤ 0xFFFFFFFF = room.number in
     let long : length (own_bytes mode target) ≤ 0xFFFFFFFF = room.size in
-    insert_keeps x x.tree.next (record { mode = mode; uid = uid; gid = gid; atime = time; mtime = time; ctime = time; body = length (own_bytes mode target) }) (x.tree.next + 1)
+    insert_keeps x x.tree.next (record { mode = mode; uid = uid; gid = gid; atime = time; mtime = time; ctime = time; device = None; body = length (own_bytes mode target) }) (x.tree.next + 1)
     (advanced x (step.MakeObject time mode uid gid target)).tops same (omega arith) (omega arith) (omega arith)
     (record { mode = fits.1; uid = fits.2; gid = fits.3; atime = fits.0; size = omega arith })
     (λ is. absurd (omega arith))

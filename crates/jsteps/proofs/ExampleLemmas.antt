@@ -12,6 +12,7 @@ use Rattle.jname.specs.Live.{Key, key_cmp}
 use Rattle.jname.proofs.NamingLemmas.{key_cmp-IsAntisymmetric}
 use Rattle.jname.proofs.SortedLemmas.{Contains-from_find}
 use Rattle.jnode.specs.declared.node.NodeRef.{NodeRef}
+use Rattle.jmount.specs.Device.{device_held}
 use Rattle.jmount.specs.Tree.{ObjectOf, Outline, outline, sized, object, named}
 use Rattle.jmount.specs.StateOf.{default_root, object_of, inodes, state_of, top}
 use Rattle.jmount.proofs.NumbersLemmas.{object-state_of, named-state_of}
@@ -29,12 +30,13 @@ top_is ns i = get_tops (state_of ns) (top ns) i ∙ ap (λ (o : Option (ObjectOf
 
 -- a file of four bytes
 abbrev pub four_bytes : ObjectOf ℕ
-four_bytes = record { mode = 0o100644; uid = 0; gid = 0; atime = 0; mtime = 0; ctime = 0; body = 4 }
+four_bytes = record { mode = 0o100644; uid = 0; gid = 0; atime = 0; mtime = 0; ctime = 0; device = None; body = 4 }
 
 pub small_root : object small.tree 1 ≡ Some (sized default_root)
 small_root = object_is small_nodes 1
 
 pub small_file : object small.tree 2 ≡ Some four_bytes
+unfolding device_held
 small_file = object_is small_nodes 2
 
 pub small_missing : object small.tree 57 ≡ None
@@ -65,9 +67,10 @@ pub nested_root : object nested.tree 1 ≡ Some (sized default_root)
 nested_root = object_is nested_nodes 1
 
 abbrev pub empty_directory : ObjectOf ℕ
-empty_directory = record { mode = 0o040755; uid = 0; gid = 0; atime = 0; mtime = 0; ctime = 0; body = 0 }
+empty_directory = record { mode = 0o040755; uid = 0; gid = 0; atime = 0; mtime = 0; ctime = 0; device = None; body = 0 }
 
 pub nested_directory : object nested.tree 2 ≡ Some empty_directory
+unfolding device_held
 nested_directory = object_is nested_nodes 2
 
 pub nested_d : named nested.tree 1 (codes "d") ≡ Some 2

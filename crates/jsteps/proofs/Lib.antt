@@ -1,6 +1,7 @@
 pub mod IndexLemmas
 pub mod StepsLemmas
 pub mod OwnLemmas
+pub mod NumberLemmas
 pub mod NodesLemmas
 pub mod AdvanceLemmas
 pub mod SeveralLemmas

@@ -1,20 +1,21 @@
 -- The steps of a plan are ready one after the other, and their nodes can be written.
-use Rattle.std.proofs.Common.{◌≡◌, ℕ, ◌+◌, ◌-◌, ◌<◌, ◌≤◌, Bool, true, false, cond, List, [], ◌∷◌, length, take, drop, length-take, length-drop, Some, Result, Ok, Err, refl, ap, sym, ◌∙◌, subst, arith}
-use Rattle.std.specs.Prelude.{◌&&◌, ◌||◌, is_some, is_ok, unwrap_or, option_map, min, nat_lt, ◌==◌}
+use Rattle.std.proofs.Common.{◌≡◌, ℕ, ◌+◌, ◌-◌, ◌<◌, ◌≤◌, Bool, true, false, cond, List, [], ◌∷◌, length, take, drop, length-take, length-drop, Some, None, Result, Ok, Err, refl, ap, sym, ◌∙◌, subst, arith}
+use Rattle.std.specs.Prelude.{◌&&◌, ◌||◌, not, is_some, is_ok, unwrap_or, option_map, min, nat_lt, ◌==◌}
 use Rattle.std.specs.List.{list_any, AllByRecursion}
 use Rattle.std.specs.Ordering.{eq_by_cmp, nat_cmp}
 use Rattle.std.specs.Cmp.{nat_cmp_total}
 use Rattle.std.specs.FinMap.{get, get-insert}
 use Rattle.std.proofs.lemmas.Bool.{cond-true, cond_both, eqb-true, eqb-false, or_parts, ltb-false, lt-ltb, true≢false, false≢true}
 use Rattle.flashbase.specs.Ranges.{IsHalf, IsWord}
-use Rattle.jmount.specs.Tree.{ObjectOf, Outline, object, directory_bits}
+use Rattle.jmount.specs.Tree.{ObjectOf, Outline, object, is_device, has_bits, directory_bits, regular_bits}
 use Rattle.jsteps.specs.Device.{device_mode}
-use Rattle.jsteps.specs.Steps.{is_device, own_bytes}
+use Rattle.jsteps.specs.Steps.{own_bytes}
 use Rattle.jsteps.specs.Nodes.{Indexed, object_at, advanced, advanced_all}
+use Rattle.jsteps.specs.Ready.{has_device}
 use Rattle.jscan.specs.Pages.{IsPage}
 use Rattle.jsteps.specs.Planning.{plain_page, spelling_len, first_len, size_named, write_steps, make_steps, bytes_steps, file_steps, move_steps, steps_of}
-use Rattle.jsteps.specs.Refusals.{paths, has_bad_path, is_bad_path, is_long, is_not_found, meets_nothing, meets_other, is_wrong_kind, is_into_itself, is_too_large, is_bad_mode, is_bad_target, greatest_size, is_exhausted, refusals, unless_refused, planned_by}
-use Rattle.jsteps.specs.Where.{last_name, above, parent, ends_in_directory, number_there, number_or_zero, object_named, is_missing, is_unnamed, number_reached, is_unreached, is_one_entry}
+use Rattle.jsteps.specs.Refusals.{paths, has_bad_path, is_bad_path, is_long, is_not_found, meets_nothing, meets_other, is_wrong_kind, takes_attributes, is_into_itself, is_too_large, is_bad_mode, is_bad_target, greatest_size, is_exhausted, refusals, unless_refused, planned_by}
+use Rattle.jsteps.specs.Where.{last_name, above, parent, ends_in_directory, number_there, number_or_zero, object_named, object_reached, is_missing, is_unnamed, number_reached, is_unreached, is_one_entry}
 use Rattle.jsteps.specs.Laws as law
 use Rattle.jsteps.specs.Laws.{IsConsistent, GivenFit, OpFits}
 use Rattle.jsteps.specs.declared.fault.OpFault.{OpFault}
@@ -24,7 +25,7 @@ use Rattle.jsteps.specs.declared.op.Op.TheVariants as op
 use Rattle.jsteps.specs.declared.step.Step.{Step}
 use Rattle.jsteps.specs.declared.step.Step.TheVariants as step
 use Rattle.jsteps.proofs.IndexLemmas.{with_some}
-use Rattle.jsteps.proofs.OwnLemmas.{own_short, own_of, regular_is_plain, device_mode_small}
+use Rattle.jsteps.proofs.OwnLemmas.{own_short, own_of, regular_is_plain, device_mode_small, is_plain, reached_plain}
 use Rattle.jsteps.proofs.ConsistentLemmas.{StepFits, root_below}
 use Rattle.jsteps.proofs.WhereLemmas.{HasLength, IsParent, IsTarget, last_name_length, bits_there, parent_is, target_is, not_missing, reached_is}
 use Rattle.jsteps.proofs.WrittenLemmas.{IsPiece}
@@ -131,17 +132,30 @@ led_both x old new same is_bad is_long_one is_found directory =
     let led_old = led x old same bad.0 long.0 nothing.0 other.0 in
     (led_old, led x new same bad.1 long.1 nothing.1 other.1, targeted x old same led_old (one_false (is_missing x.tree old) found.1))
 
--- the size of what is named
-sized_target : (x : Indexed) (path : List ℕ) → IsTarget x path → HasSize x (number_or_zero x.tree path) (size_named x.tree path) (size_named x.tree path)
-sized_target x path is =
+is_not_false : (b : Bool) → not b ≡ false → b ≡ true
+is_not_false true h = refl
+is_not_false false h = absurd (true≢false h)
+
+-- the size of a regular file that is named
+abbrev is_wrong_kind_at : Indexed → List ℕ → Bool
+is_wrong_kind_at x path = not (has_bits regular_bits (object_named x.tree path))
+
+sized_target : (x : Indexed) (path : List ℕ) → IsTarget x path → is_wrong_kind_at x path ≡ false → HasSize x (number_or_zero x.tree path) (size_named x.tree path) (size_named x.tree path)
+sized_target x path is kind =
     with_some (object_named x.tree path) is.there
     (λ o e.
     let size : size_named x.tree path ≡ o.body = ap (λ ob. unwrap_or (option_map (λ (o : ObjectOf ℕ). o.body) ob) 0) e in
-    record { o = o; is = is.same ∙ e; least = omega arith; most = omega arith })
+    record {
+      o = o;
+      is = is.same ∙ e;
+      least = omega arith;
+      most = omega arith;
+      plain = sym (ap has_device e) ∙ is_plain regular_bits refl (object_named x.tree path) (is_not_false (has_bits regular_bits (object_named x.tree path)) kind);
+    })
 
-size_is_word : (x : Indexed) (path : List ℕ) → IsConsistent x → IsTarget x path → size_named x.tree path ≤ 0xFFFFFFFF
-size_is_word x path same is =
-    let h = sized_target x path is in
+size_is_word : (x : Indexed) (path : List ℕ) → IsConsistent x → IsTarget x path → is_wrong_kind_at x path ≡ false → size_named x.tree path ≤ 0xFFFFFFFF
+size_is_word x path same is kind =
+    let h = sized_target x path is kind in
     let least : size_named x.tree path ≤ h.o.body = h.least in
     let word : IsWord h.o.body = (same.fits (number_or_zero x.tree path) h.o h.is).size in
     omega arith
@@ -152,19 +166,19 @@ set_fine : (page : ℕ) (x : Indexed) (time directory : ℕ) (name : List ℕ) (
     → IsFine page x (step.SetName time directory name ino)
 unfolding Shaped StepFits
 set_fine page x time directory name ino now positive long there some below =
-    record { ready = record { defined = there; number = (some, below) }; fits = now; shaped = (positive, long); size = omega arith }
+    record { ready = record { defined = there; number = (some, below); plain = tt }; fits = now; shaped = (positive, long); size = omega arith }
 
 clear_fine : (page : ℕ) (x : Indexed) (time directory : ℕ) (name : List ℕ) → IsWord time → 0 < directory → HasLength name → is_some (object x.tree directory) ≡ true
     → IsFine page x (step.ClearName time directory name)
 unfolding Shaped StepFits
 clear_fine page x time directory name now positive long there =
-    record { ready = record { defined = there; number = tt }; fits = now; shaped = (positive, long); size = omega arith }
+    record { ready = record { defined = there; number = tt; plain = tt }; fits = now; shaped = (positive, long); size = omega arith }
 
-attributes_fine : (page : ℕ) (x : Indexed) (time ino : ℕ) (attributes : Attributes) → IsConsistent x → IsWord time → GivenFit attributes → 0 < ino → is_some (object x.tree ino) ≡ true → IsFine page x (step.SetAttributes time ino attributes)
+attributes_fine : (page : ℕ) (x : Indexed) (time ino : ℕ) (attributes : Attributes) → IsConsistent x → IsWord time → GivenFit attributes → 0 < ino → is_some (object x.tree ino) ≡ true → has_device (object x.tree ino) ≡ false → IsFine page x (step.SetAttributes time ino attributes)
 unfolding Shaped StepFits
-attributes_fine page x time ino attributes same now given positive there =
+attributes_fine page x time ino attributes same now given positive there plain =
     let size : IsWord (object_at x ino).body = (object_fits x ino same there).size in
-    record { ready = record { defined = there; number = tt }; fits = (now, given); shaped = positive; size = omega arith }
+    record { ready = record { defined = there; number = tt; plain = plain }; fits = (now, given); shaped = positive; size = omega arith }
 
 parent_some : (x : Indexed) (path : List ℕ) → IsLed x path → is_some (object x.tree (parent x.tree path)) ≡ true
 parent_some x path is_led = bits_there directory_bits (object x.tree (parent x.tree path)) is_led.parent_there.there
@@ -173,7 +187,7 @@ parent_some x path is_led = bits_there directory_bits (object x.tree (parent x.t
 
 -- the object that a step makes
 made : ℕ → ℕ → ℕ → ℕ → List ℕ → ObjectOf ℕ
-made time mode uid gid bytes = record { mode = mode; uid = uid; gid = gid; atime = time; mtime = time; ctime = time; body = length (own_bytes mode bytes) }
+made time mode uid gid bytes = record { mode = mode; uid = uid; gid = gid; atime = time; mtime = time; ctime = time; device = None; body = length (own_bytes mode bytes) }
 
 make_fine : (page : ℕ) (x : Indexed) (time mode uid gid : ℕ) (bytes : List ℕ) → IsPage page → IsWord time → IsWord mode → IsHalf uid → IsHalf gid → IsPiece page (length bytes)
     → IsFine page x (step.MakeObject time mode uid gid bytes)
@@ -182,7 +196,7 @@ make_fine page x time mode uid gid bytes is_page now mode_fits uid_fits gid_fits
     let within : length bytes ≤ page = piece.within in
     let most : page ≤ 16384 = is_page.most in
     let own : length (own_bytes mode bytes) ≤ length bytes = own_short mode bytes in
-    record { ready = record { defined = tt; number = tt }; fits = (now, mode_fits, uid_fits, gid_fits); shaped = piece; size = omega arith }
+    record { ready = record { defined = tt; number = tt; plain = tt }; fits = (now, mode_fits, uid_fits, gid_fits); shaped = piece; size = omega arith }
 
 -- its directory is there after it is made
 parent_stays : (x : Indexed) (time mode uid gid : ℕ) (bytes path : List ℕ) → IsLed x path → is_some (object (advanced x (step.MakeObject time mode uid gid bytes)).tree (parent x.tree path)) ≡ true
@@ -228,14 +242,15 @@ first_taken_len page bytes is_page =
     length-take (first_len page (length bytes)) bytes ∙ omega arith
 
 -- the size of the object that a step makes
-made_size : (x : Indexed) (time mode uid gid : ℕ) (bytes : List ℕ) (size : ℕ) → length (own_bytes mode bytes) ≡ size → HasSize (advanced x (step.MakeObject time mode uid gid bytes)) x.tree.next size size
+made_size : (x : Indexed) (time mode uid gid : ℕ) (bytes : List ℕ) (size : ℕ) → is_device mode ≡ false → length (own_bytes mode bytes) ≡ size → HasSize (advanced x (step.MakeObject time mode uid gid bytes)) x.tree.next size size
 unfolding made
-made_size x time mode uid gid bytes size e = record {
+made_size x time mode uid gid bytes size plain e = record {
   o = made time mode uid gid bytes;
   is = get-insert nat_cmp_total x.tree.objects x.tree.next (made time mode uid gid bytes) x.tree.next
       ∙ cond-true (eq_by_cmp nat_cmp x.tree.next x.tree.next) (Some (made time mode uid gid bytes)) (get x.tree.objects x.tree.next) (itself x.tree.next);
   least = omega arith;
   most = omega arith;
+  plain = plain;
 }
 
 bytes_fine : (page : ℕ) (x : Indexed) (time mode uid gid : ℕ) (bytes : List ℕ) → is_device mode ≡ false → IsPage page → IsConsistent x → IsWord time → IsWord mode → IsHalf uid → IsHalf gid → length bytes ≤ 2147483647
@@ -250,7 +265,7 @@ bytes_fine page x time mode uid gid bytes plain is_page same now mode_fits uid_f
     let root : 1 < x.tree.next = root_below x same in
     AllFine-more page x make (write_steps page time x.tree.next first first (drop first bytes))
     (make_fine page x time mode uid gid (take first bytes) is_page now mode_fits uid_fits gid_fits (subst (IsPiece page) (sym len) is.piece))
-    (write_fine page (advanced x make) time x.tree.next first first (drop first bytes) is_page now (omega arith) (made_size x time mode uid gid (take first bytes) first (ap length (own_of mode (take first bytes) plain) ∙ len)) (omega arith) (λ some. omega arith))
+    (write_fine page (advanced x make) time x.tree.next first first (drop first bytes) is_page now (omega arith) (made_size x time mode uid gid (take first bytes) first plain (ap length (own_of mode (take first bytes) plain) ∙ len)) (omega arith) (λ some. omega arith))
 
 file_fine : (page : ℕ) (x : Indexed) (time : ℕ) (path : List ℕ) (mode uid gid : ℕ) (bytes : List ℕ) → is_device mode ≡ false → IsPage page → IsConsistent x → IsLed x path → IsWord time → IsWord mode → IsHalf uid → IsHalf gid
     → length bytes ≤ 2147483647 → AllFine page x (file_steps page x.tree time path mode uid gid bytes)
@@ -318,7 +333,7 @@ all_fine page x (op.Symlink time path link uid gid) steps is_page same fits is =
 all_fine page x (op.Write time path offset bytes) steps is_page same fits is =
     let leads = led_alone x path (is_missing x.tree path || false) false same is.bad is.long is.found is.directory in
     let is_target = targeted x path same leads.0 (one_false (is_missing x.tree path) leads.1) in
-    write_fine page x time (number_or_zero x.tree path) (size_named x.tree path) offset bytes is_page fits is_target.positive (sized_target x path is_target) (size_is_word x path same is_target)
+    write_fine page x time (number_or_zero x.tree path) (size_named x.tree path) offset bytes is_page fits is_target.positive (sized_target x path is_target is.kind) (size_is_word x path same is_target is.kind)
     (λ some. ends_within (nat_lt 0 (length bytes)) (offset + length bytes) (lt-ltb 0 (length bytes) some) is.large)
   where
     ends_within : (b : Bool) (n : ℕ) → b ≡ true → (b && nat_lt greatest_size n) ≡ false → n ≤ 0xFFFFFFFF
@@ -328,7 +343,7 @@ all_fine page x (op.Truncate time path size) steps is_page same fits is =
     let leads = led_alone x path (is_missing x.tree path || false) false same is.bad is.long is.found is.directory in
     let is_target = targeted x path same leads.0 (one_false (is_missing x.tree path) leads.1) in
     let least : size ≤ 2147483647 = ltb-false greatest_size size is.large in
-    resize_fine page x time (number_or_zero x.tree path) (size_named x.tree path) size fits is_target.positive (sized_target x path is_target) (size_is_word x path same is_target) (omega arith)
+    resize_fine page x time (number_or_zero x.tree path) (size_named x.tree path) size fits is_target.positive (sized_target x path is_target is.kind) (size_is_word x path same is_target is.kind) (omega arith)
 all_fine page x (op.Link time old new) steps is_page same fits is =
     let both = led_both x old new same is.bad is.long is.found is.directory in
     AllFine-one page x (step.SetName time (parent x.tree new) (last_name new) (number_or_zero x.tree old))
@@ -358,7 +373,8 @@ all_fine page x (op.SetAttributes time path attributes) steps is_page same fits 
     let above_it = parent_is x path same found.0 (one_false (meets_other x.tree (above x.tree path)) is.directory) in
     let reached = reached_is x path same above_it.1 found.1 in
     AllFine-one page x (step.SetAttributes time (unwrap_or (number_reached x.tree path) 0) attributes)
-    (attributes_fine page x time (unwrap_or (number_reached x.tree path) 0) attributes same fits.0 fits.1 reached.positive reached.there)
+    (attributes_fine page x time (unwrap_or (number_reached x.tree path) 0) attributes same fits.0 fits.1 reached.positive reached.there
+    (reached_plain x.tree (number_reached x.tree path) (is_not_false (takes_attributes (object_reached x.tree path)) is.kind)))
 
 pub planned_taken : (page : ℕ) (x : Indexed) (o : Op) (steps : List Step) → IsPage page → IsConsistent x → OpFits o → planned_by page x o ≡ Ok steps → AllTaken page x steps
 planned_taken page x o steps is_page same fits e =

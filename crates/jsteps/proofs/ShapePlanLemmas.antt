@@ -57,7 +57,7 @@ make_keeps_by : (x : Indexed) (time : ℕ) (path : List ℕ) (mode uid gid : ℕ
     → IsShaped (after sizes x.tree (step.MakeObject time mode uid gid target ∷ (puts ++ step.SetName time (parent x.tree path) (last_name path) x.tree.next ∷ [])))
 make_keeps_by x time path mode uid gid target puts all same there shape =
     let t = x.tree in
-    let v : ObjectOf ℕ = record { mode = mode; uid = uid; gid = gid; atime = time; mtime = time; ctime = time; body = length (own_bytes mode target) } in
+    let v : ObjectOf ℕ = record { mode = mode; uid = uid; gid = gid; atime = time; mtime = time; ctime = time; device = None; body = length (own_bytes mode target) } in
     let u : Outline = do_step sizes t (step.MakeObject time mode uid gid target) in
     let below : parent t path < t.next = with_some (object t (parent t path)) (bits_there directory_bits (object t (parent t path)) there) (λ o e. same.numbered (parent t path) o e) in
     let kept : IsShaped u =

@@ -1,16 +1,18 @@
 -- Laws of steps and their nodes. Each is a statement: it holds since a public function's contract
 -- names it.
-use Rattle.std.specs.Prelude.{◌≡◌, ◌≢◌, ℕ, ◌+◌, ◌<◌, ◌≤◌, ◌^◌, IsTrue, List, [], ◌∷◌, ◌++◌, length, map, take, Contains, Some, Ok}
+use Rattle.std.specs.Prelude.{◌≡◌, ◌≢◌, ℕ, ◌+◌, ◌<◌, ◌≤◌, ◌^◌, IsTrue, List, [], ◌∷◌, ◌++◌, length, map, take, Contains, option_map, Some, Ok}
 use Rattle.std.specs.List.{AllByRecursion}
 use Rattle.flashbase.specs.Ranges.{AreBytes, IsHalf, IsWord}
 use Rattle.jnode.specs.Writing.{canonical, Fits, is_writable}
 use Rattle.jnode.specs.declared.order.Endian.{Endian}
 use Rattle.jnode.specs.declared.node.NodeRef.{NodeRef}
 use Rattle.jmount.specs.Clash.{NodesClash, IsClashAt, NoneClash}
+use Rattle.jmount.specs.Device.{number_held, major_and_minor}
 use Rattle.jmount.specs.Mount.{Mount}
 use Rattle.jmount.specs.Mounts.{IsMountOf, plain_nodes}
 use Rattle.jmount.specs.Tree.{ObjectOf, State, outline, object, named, is_directory}
 use Rattle.jmount.specs.StateOf.{owner, version_of, top, state_of}
+use Rattle.jsteps.specs.Device.{device_number}
 use Rattle.jsteps.specs.Steps.{bytes, sizes, do_step, after, IsDefined}
 use Rattle.jsteps.specs.Nodes.{Indexed, indexed, index_of, node_of, nodes_of, advanced, advanced_all}
 use Rattle.jsteps.specs.Ready.{IsReady, AllReady, AllRoom}
@@ -107,6 +109,14 @@ IndexIsConsistent = (ns : List NodeRef) → AllFit ns → IsTrue (is_directory (
 abbrev pub IndexIsOfNodes : Type 0
 IndexIsOfNodes = (e : Endian) (size : ℕ) (m : Mount) → IsMountOf e size m
     → indexed m ≡ index_of (plain_nodes e size m.image)
+
+-- ---- devices
+
+-- the number of a device is read from its bytes as it was given
+abbrev pub DeviceNumberReadsBack : Type 0
+DeviceNumberReadsBack = (e : Endian) (major minor : ℕ) → major ≤ 4095 → minor ≤ 1048575
+    → option_map (major_and_minor e) (number_held (device_number e major minor))
+    ≡ Some (major, minor)
 
 -- ---- plans
 

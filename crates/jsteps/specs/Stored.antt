@@ -1,5 +1,5 @@
 -- How an index keeps its file system.
-use Rattle.std.specs.Prelude.{ℕ, ◌+◌, ◌==◌, Bool, false, Vec, List, length, map, Option, option_map, option_and_then, unwrap_or, bytes_eq}
+use Rattle.std.specs.Prelude.{ℕ, ◌+◌, ◌==◌, Bool, false, Vec, List, length, map, Option, None, option_map, option_and_then, unwrap_or, bytes_eq}
 use Rattle.std.specs.List.{flat_map, cons_option}
 use Rattle.std.specs.declared.alloc.Global.{Global}
 use Rattle.std.specs.declared.cmp.Ordering.{Ordering}
@@ -27,6 +27,7 @@ stored_outline stored = record {
   atime = stored.atime;
   mtime = stored.mtime;
   ctime = stored.ctime;
+  device = None;
   body = stored.size;
 }
 

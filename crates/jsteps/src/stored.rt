@@ -96,7 +96,7 @@ pub fn set_attributes(objects: &mut Objects, ino: u32, time: u32, attributes: At
     }
 }
 
-/// The object as callers see it.
+/// The object as callers see it, without the number of a device.
 pub fn shown(stored: Stored) -> Object
     ensures { result ≡ shown_outline (stored_outline stored) }
 {
@@ -109,5 +109,6 @@ pub fn shown(stored: Stored) -> Object
         atime: stored.atime,
         mtime: stored.mtime,
         ctime: stored.ctime,
+        device: None,
     }
 }

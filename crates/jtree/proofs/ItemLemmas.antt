@@ -5,6 +5,7 @@ use Rattle.std.specs.String.{string_bytes}
 use Rattle.std.proofs.lemmas.Bool.{eq-eqb}
 use Rattle.std.proofs.lemmas.List.{get_or_append_left, get_or-map, length-map}
 use Rattle.std.proofs.lemmas.List.Elements.{Contains-get_or}
+use Rattle.jnode.specs.declared.order.Endian.{Endian}
 use Rattle.jmount.specs.Tree.{ObjectOf, State, named, is_directory, has_bits, directory_bits, type_bits}
 use Rattle.jmount.specs.Find.{IsPath, path_text, is_name, walk}
 use Rattle.jmount.proofs.ShapePathLemmas.{one_path_to_each}
@@ -24,8 +25,8 @@ use Rattle.jtree.proofs.RunLemmas.{IsAt, at_walk, at_directory}
 abbrev pub names_of : Item → List (List ℕ)
 names_of i = names_on_path (string_bytes i.path)
 
-abbrev pub made_of : Files → Item → Made
-made_of files i = record { names = names_of i; origin = names_on_path (first_path_of i); object_is = object_of_what files i.attributes i.what }
+abbrev pub made_of : Endian → Files → Item → Made
+made_of e files i = record { names = names_of i; origin = names_on_path (first_path_of i); object_is = object_of_what e files i.attributes i.what }
 
 -- what is known of an item that stands
 pub record IsKnown (j : Item) : Type 0 where
@@ -36,9 +37,9 @@ pub record IsKnown (j : Item) : Type 0 where
   pub path : IsPath (string_bytes j.path) (names_of j)
   pub origin : IsPath (first_path_of j) (names_on_path (first_path_of j))
 
-pub record IsBuilt (files : Files) (root : ObjectOf (List ℕ)) (before : List Item) (n : ℕ) (x : Indexed) (s : State) : Type 0 where
+pub record IsBuilt (e : Endian) (files : Files) (root : ObjectOf (List ℕ)) (before : List Item) (n : ℕ) (x : Indexed) (s : State) : Type 0 where
   pub is_at : IsAt n x s
-  pub stands : Stands root (map (made_of files) before) s
+  pub stands : Stands root (map (made_of e files) before) s
   pub known : (j : Item) → Contains before j → IsKnown j
 
 -- ---- lists
@@ -71,28 +72,28 @@ pub record HasWay (s : State) (way : List (List ℕ)) : Type 0 where
 directory_mode : (mode : ℕ) → mode ≤ 0o7777 → (type_bits (0o040000 + mode) == directory_bits) ≡ true
 directory_mode mode fits = eq-eqb ((0o040000 + mode) / 4096 % 16) 4 (omega arith)
 
-way_of : (files : Files) (root : ObjectOf (List ℕ)) (before : List Item) (n : ℕ) (x : Indexed) (s : State) (way : List (List ℕ))
-    → IsBuilt files root before n x s
+way_of : (e : Endian) (files : Files) (root : ObjectOf (List ℕ)) (before : List Item) (n : ℕ) (x : Indexed) (s : State) (way : List (List ℕ))
+    → IsBuilt e files root before n x s
     → All (λ name. IsTrue (is_name name)) way → HasDirectory before way → HasWay s way
-way_of files root before n x s way built all has =
+way_of e files root before n x s way built all has =
     ⊎_elim
-    (λ (e : way ≡ []). record {
+    (λ (empty : way ≡ []). record {
       dir = 1;
-      leads = ap (λ ns. walk s ns (Ok 1)) e;
+      leads = ap (λ ns. walk s ns (Ok 1)) empty;
       directory = sym (at_directory n x s built.is_at 1) ∙ built.is_at.same.root;
-      short = ap has_long e;
+      short = ap has_long empty;
     })
     (λ (p : (i : Item) × Contains before i × (string_bytes i.path ≡ path_text way) × (i.what ≡ what.Directory)).
     let i = p.0 in
-    let m = made_of files i in
-    let h = built.stands.held m (Contains-mapped (made_of files) before i p.1) in
+    let m = made_of e files i in
+    let h = built.stands.held m (Contains-mapped (made_of e files) before i p.1) in
     let names : names_of i ≡ way = names_are (string_bytes i.path) way (p.2, all) in
     let origin : m.names ≡ m.origin = ap (λ w. names_on_path (first_path (string_bytes i.path) w)) (sym p.3) in
     let mode : i.attributes.mode ≤ 0o7777 = (built.known i p.1).fits.attributes.mode in
     record {
       dir = h.number;
       leads = ap (λ ns. walk s ns (Ok 1)) (sym names) ∙ h.leads;
-      directory = ap (has_bits directory_bits) (h.there origin ∙ ap (λ w. Some (object_of_what files i.attributes w)) p.3) ∙ directory_mode i.attributes.mode mode;
+      directory = ap (has_bits directory_bits) (h.there origin ∙ ap (λ w. Some (object_of_what e files i.attributes w)) p.3) ∙ directory_mode i.attributes.mode mode;
       short = ap has_long (sym names) ∙ h.short;
     })
     has
@@ -113,12 +114,12 @@ none_of : (o : Option ℕ) → ((k : ℕ) → o ≡ Some k → ⊥) → o ≡ No
 none_of None h = refl
 none_of (Some k) h = absurd (h k refl)
 
-pub ahead : (files : Files) (root : ObjectOf (List ℕ)) (before : List Item) (n : ℕ) (x : Indexed) (s : State) (i : Item) → IsBuilt files root before n x s
+pub ahead : (e : Endian) (files : Files) (root : ObjectOf (List ℕ)) (before : List Item) (n : ℕ) (x : Indexed) (s : State) (i : Item) → IsBuilt e files root before n x s
     → MayFollow before i → IsAhead (string_bytes i.path) s
-ahead files root before n x s i built may =
+ahead e files root before n x s i built may =
     let way = may.way in
     let name = may.name in
-    let at = way_of files root before n x s way built (All-front (λ name. IsTrue (is_name name)) way (name ∷ []) may.path.1) may.directory in
+    let at = way_of e files root before n x s way built (All-front (λ name. IsTrue (is_name name)) way (name ∷ []) may.path.1) may.directory in
     record {
       way = way;
       name = name;
@@ -127,10 +128,10 @@ ahead files root before n x s i built may =
       leads = at.leads;
       directory = at.directory;
       free = none_of (named s at.dir name)
-          (λ k e.
-          let is = built.stands.names_are at.dir name k e in
+          (λ k stood.
+          let is = built.stands.names_are at.dir name k stood in
           let one : is.way ≡ way = one_path_to_each s is.way way at.dir built.is_at.shape is.leads at.leads at.directory in
-          let from = Contains-from_map (made_of files) before is.m is.among in
+          let from = Contains-from_map (made_of e files) before is.m is.among in
           let j = from.0 in
           let names : names_of j ≡ way ++ name ∷ [] = ap (λ (m : Made). m.names) from.2 ∙ is.names ∙ ap (λ ns. ns ++ name ∷ []) one in
           may.new j from.1 ((built.known j from.1).path.0 ∙ ap path_text names ∙ sym may.path.0));

@@ -1,5 +1,5 @@
 -- The operation of a new object, and what it reaches.
-use Rattle.std.proofs.Common.{◌≡◌, ◌≢◌, ℕ, suc, ◌+◌, ◌-◌, ◌*◌, ◌/◌, ◌<◌, ◌≤◌, Bool, true, false, cond, List, [], ◌∷◌, ◌++◌, length, take, drop, Some, None, Result, Ok, refl, ap, sym, ◌∙◌, subst, ⊎_elim, length-append, length-drop, arith}
+use Rattle.std.proofs.Common.{◌≡◌, ◌≢◌, ℕ, suc, ◌+◌, ◌-◌, ◌*◌, ◌/◌, ◌<◌, ◌≤◌, Bool, true, false, cond, List, [], ◌∷◌, ◌++◌, length, take, drop, Option, Some, None, Result, Ok, refl, ap, sym, ◌∙◌, subst, ⊎_elim, length-append, length-drop, arith}
 use Rattle.std.specs.Prelude.{◌==◌, flat_map, nat_lt}
 use Rattle.std.specs.List.{list_any, AllByRecursion}
 use Rattle.std.specs.Ordering.{eq_by_cmp, nat_cmp}
@@ -7,16 +7,19 @@ use Rattle.std.specs.Cmp.{nat_cmp_total}
 use Rattle.std.specs.FinMap.{get, insert, get-insert}
 use Rattle.std.proofs.lemmas.Bool.{cond-true}
 use Rattle.std.proofs.lemmas.List.{take-append-drop}
-use Rattle.jmount.specs.Tree.{ObjectOf, State, named, object, is_directory}
+use Rattle.jmount.specs.Device.{number_held, device_held}
+use Rattle.jmount.specs.Tree.{ObjectOf, State, named, object, is_device, is_directory}
 use Rattle.jmount.specs.Find.{walk}
 use Rattle.jmount.specs.declared.fault.FindFault.{FindFault}
+use Rattle.jmount.specs.declared.object.DeviceBytes.{DeviceBytes}
+use Rattle.jmount.proofs.ObjectsLemmas.{held_none}
 use Rattle.jmount.proofs.ShapeLemmas.{there_of_directory}
 use Rattle.jsteps.specs.Nodes.{Indexed, nodes_of}
 use Rattle.jscan.specs.Pages.{IsPage}
 use Rattle.jsteps.specs.Planning.{bytes_steps, first_len, page_puts, piece_puts, plain_page, puts, spelling_len, steps_of, write_steps, zeros_to}
 use Rattle.jsteps.specs.Refusals.{is_exhausted, is_past}
 use Rattle.jsteps.specs.Laws.{OpFits}
-use Rattle.jsteps.specs.Steps.{bytes, do_step, after, is_device, own_bytes}
+use Rattle.jsteps.specs.Steps.{bytes, do_step, after, own_bytes}
 use Rattle.jsteps.specs.Where.{last_name, end_or_zero}
 use Rattle.jsteps.specs.declared.op.Op.{Op}
 use Rattle.jsteps.specs.declared.op.Op.TheVariants as op
@@ -49,8 +52,8 @@ few_numbers n x s at i below few =
     let most : x.tree.next ≤ n + 2 = at.counted.next in
     omega arith
 
-abbrev pub new_object : ℕ → ℕ → ℕ → ℕ → List ℕ → ObjectOf (List ℕ)
-new_object time mode uid gid target = record { mode = mode; uid = uid; gid = gid; atime = time; mtime = time; ctime = time; body = target }
+abbrev pub new_object : ℕ → ℕ → ℕ → ℕ → Option DeviceBytes → List ℕ → ObjectOf (List ℕ)
+new_object time mode uid gid device target = record { mode = mode; uid = uid; gid = gid; atime = time; mtime = time; ctime = time; device = device; body = target }
 
 -- so few steps spend no number and no version
 pub not_spent : (page n : ℕ) (x : Indexed) (s : State) (o : Op) (steps : List Step) → IsAt n x s → steps_of page x.tree o ≡ steps → AllByRecursion HasOwner steps
@@ -91,27 +94,36 @@ own_none mode = none (is_device mode)
     none true = refl
     none false = refl
 
-pub make_makes : (s : State) (time mode uid gid : ℕ) (held body : List ℕ) (dir : ℕ) (name : List ℕ) → own_bytes mode held ≡ body
-    → Makes s (after bytes s (step.MakeObject time mode uid gid held ∷ step.SetName time dir name s.next ∷ [])) dir name (new_object time mode uid gid body)
-make_makes s time mode uid gid held body dir name same =
-    let o = new_object time mode uid gid (own_bytes mode held) in
+-- and nothing is the number of no device
+pub held_nothing : (mode : ℕ) → device_held mode [] ≡ None
+unfolding device_held
+held_nothing mode = none (is_device mode)
+  where
+    none : (b : Bool) → cond b (number_held []) None ≡ None
+    none true = refl
+    none false = refl
+
+pub make_makes : (s : State) (time mode uid gid : ℕ) (held body : List ℕ) (device : Option DeviceBytes) (dir : ℕ) (name : List ℕ) → own_bytes mode held ≡ body → device_held mode held ≡ device
+    → Makes s (after bytes s (step.MakeObject time mode uid gid held ∷ step.SetName time dir name s.next ∷ [])) dir name (new_object time mode uid gid device body)
+make_makes s time mode uid gid held body device dir name same numbered =
+    let o = new_object time mode uid gid (device_held mode held) (own_bytes mode held) in
     record {
       names = refl;
       next = refl;
       now = get-insert nat_cmp_total s.objects s.next o s.next
           ∙ cond-true (eq_by_cmp nat_cmp s.next s.next) (Some o) (get s.objects s.next) (itself s.next)
-          ∙ ap (λ body. Some (new_object time mode uid gid body)) same;
+          ∙ (λ i. Some (new_object time mode uid gid (numbered i) (same i)));
       others = λ k other. get-insert nat_cmp_total s.objects s.next o k
           ∙ insert_other (eq_by_cmp nat_cmp k s.next) o (get s.objects k) (untied k s.next other);
     }
 
-abbrev pub make_reaches : (page n : ℕ) (x : Indexed) (s : State) (o : Op) (time mode uid gid : ℕ) (target body : List ℕ) (same : own_bytes mode target ≡ body) (way : List (List ℕ)) (name : List ℕ)
+abbrev pub make_reaches : (page n : ℕ) (x : Indexed) (s : State) (o : Op) (time mode uid gid : ℕ) (target body : List ℕ) (same : own_bytes mode target ≡ body) (device : Option DeviceBytes) (numbered : device_held mode target ≡ device) (way : List (List ℕ)) (name : List ℕ)
     (dir : ℕ) (root : ObjectOf (List ℕ)) (made : List Made)
     → IsPage page → IsAt n x s → Stands root made s → OpFits o → IsFree page x o
     → steps_of page x.tree o ≡ step.MakeObject time mode uid gid target ∷ step.SetName time dir name x.tree.next ∷ []
     → walk s way (Ok 1) ≡ Ok dir → is_directory s dir ≡ true → named s dir name ≡ None → has_long (way ++ name ∷ []) ≡ false → HasRoom n page x o
-    → Reaches page n x s (o ∷ []) root (made ++ own (way ++ name ∷ []) (new_object time mode uid gid body) ∷ []) 2
-make_reaches page n x s o time mode uid gid target body same way name dir root made is_page at stands fits is_free are leads there free short has =
+    → Reaches page n x s (o ∷ []) root (made ++ own (way ++ name ∷ []) (new_object time mode uid gid device body) ∷ []) 2
+make_reaches page n x s o time mode uid gid target body same device numbered way name dir root made is_page at stands fits is_free are leads there free short has =
     let steps = step.MakeObject time mode uid gid target ∷ step.SetName time dir name s.next ∷ [] in
     let all : steps_of page x.tree o ≡ steps = are ∙ ap (λ i. step.MakeObject time mode uid gid target ∷ step.SetName time dir name i ∷ [])
     (at_next n x s at) in
@@ -121,34 +133,34 @@ make_reaches page n x s o time mode uid gid target body same way name dir root m
     let owner : dir ≤ 0xFFFFFFFF = few_numbers n x s at dir (at_numbered n x s at dir (there_of_directory s dir there)) (omega arith) in
     not_spent page n x s o steps at all (tt, (owner, tt)) (omega arith))
     (λ (pass : Passes page x o). pass.room) has in
-    made_reaches page n x s o steps (new_object time mode uid gid body) way name dir root made 2 is_page at stands fits is_free all room
-    (make_makes s time mode uid gid target body dir name same) (omega arith) leads there free short
+    made_reaches page n x s o steps (new_object time mode uid gid device body) way name dir root made 2 is_page at stands fits is_free all room
+    (make_makes s time mode uid gid target body device dir name same numbered) (omega arith) leads there free short
     (λ k other. made_elsewhere s.next k x time mode uid gid target (step.SetName time dir name s.next ∷ []) (at_next n x s at) (tt, tt) other)
 
 -- ---- a file, whose further bytes are put after it
 
 file_makes : (page : ℕ) (s : State) (time mode uid gid : ℕ) (all : List ℕ) (dir : ℕ) (name : List ℕ) → is_device mode ≡ false → IsPage page
-    → Makes s (after bytes s (bytes_steps page s.next time mode uid gid all ++ step.SetName time dir name s.next ∷ [])) dir name (new_object time mode uid gid all)
+    → Makes s (after bytes s (bytes_steps page s.next time mode uid gid all ++ step.SetName time dir name s.next ∷ [])) dir name (new_object time mode uid gid None all)
 file_makes page s time mode uid gid all dir name plain is_page =
     let first = first_len page (length all) in
     let part = take first all in
     let rest = drop first all in
-    let o = new_object time mode uid gid part in
+    let o = new_object time mode uid gid None part in
     let begun = do_step bytes s (step.MakeObject time mode uid gid part) in
     let puts = write_steps page time s.next first first rest in
     let set = step.SetName time dir name s.next in
-    let p = new_object time mode uid gid (own_bytes mode part) in
+    let p = new_object time mode uid gid (device_held mode part) (own_bytes mode part) in
     let there : object begun s.next ≡ Some o =
     get-insert nat_cmp_total s.objects s.next p s.next ∙ cond-true (eq_by_cmp nat_cmp s.next s.next) (Some p) (get s.objects s.next) (itself s.next)
-    ∙ ap (λ body. Some (new_object time mode uid gid body)) (own_of mode part plain) in
+    ∙ (λ i. Some (new_object time mode uid gid (held_none mode part plain i) (own_of mode part plain i))) in
     let re = write_appends page begun time s.next first rest o part is_page there (sym (first_taken_len page all is_page)) in
     let last : after bytes s (bytes_steps page s.next time mode uid gid all ++ set ∷ []) ≡ do_step bytes (after bytes begun puts) set =
     after-append begun puts (set ∷ []) in
-    subst (λ t. Makes s t dir name (new_object time mode uid gid all)) (sym last)
+    subst (λ t. Makes s t dir name (new_object time mode uid gid None all)) (sym last)
     (record {
       names = ap (λ names. insert names (dir, name) s.next) re.names;
       next = re.next;
-      now = re.now ∙ ap (λ body. Some (new_object time mode uid gid body)) (take-append-drop first all);
+      now = re.now ∙ ap (λ body. Some (new_object time mode uid gid None body)) (take-append-drop first all);
       others = λ k other. re.others k other ∙ get-insert nat_cmp_total s.objects s.next p k
           ∙ insert_other (eq_by_cmp nat_cmp k s.next) p (get s.objects k) (untied k s.next other);
     })
@@ -204,7 +216,7 @@ pub file_reaches : (page n : ℕ) (x : Indexed) (s : State) (time : ℕ) (path :
     → walk s way (Ok 1) ≡ Ok dir → is_directory s dir ≡ true → named s dir name ≡ None → has_long (way ++ name ∷ []) ≡ false
     → HasRoom (n + (8 + length all / 512)) page x (op.File time path mode uid gid all)
     → Reaches page n x s (op.File time path mode uid gid all ∷ []) root
-    (made ++ own (way ++ name ∷ []) (new_object time (0o100000 + mode) uid gid all) ∷ []) (8 + length all / 512)
+    (made ++ own (way ++ name ∷ []) (new_object time (0o100000 + mode) uid gid None all) ∷ []) (8 + length all / 512)
 file_reaches page n x s time path mode uid gid all bits way name dir root made is_page at stands fits is_free p leads there free short has =
     let whole = 0o100000 + mode in
     let o = op.File time path mode uid gid all in
@@ -226,7 +238,7 @@ file_reaches page n x s time path mode uid gid all bits way name dir root made i
     (tt, all_append HasOwner (write_steps page time s.next first first (drop first all)) (set ∷ []) (write_owners page time s.next first first (drop first all) (omega arith)) (owner, tt)) in
     not_spent page n x s o steps at are owners (omega arith))
     (λ (pass : Passes page x o). pass.room) has in
-    made_reaches page n x s o steps (new_object time whole uid gid all) way name dir root made (8 + length all / 512) is_page at stands fits is_free are room
+    made_reaches page n x s o steps (new_object time whole uid gid None all) way name dir root made (8 + length all / 512) is_page at stands fits is_free are room
     (file_makes page s time whole uid gid all dir name (regular_is_plain mode bits) is_page) few_steps leads there free short
     (λ k other. made_elsewhere s.next k x time whole uid gid (take first all) (write_steps page time s.next first first (drop first all) ++ set ∷ []) next
     (all_append (IsOn s.next) (write_steps page time s.next first first (drop first all)) (set ∷ [])

@@ -1,18 +1,20 @@
 -- The operations of one item, and what they reach.
-use Rattle.std.proofs.Common.{◌≡◌, ◌≢◌, ℕ, ◌+◌, ◌/◌, ◌%◌, ◌<◌, ◌≤◌, true, false, List, [], ◌∷◌, ◌++◌, length, map, ◌⊎◌, inl, inr, refl, ap, sym, ◌∙◌, subst, ⊎_elim, arith}
+use Rattle.std.proofs.Common.{◌≡◌, ◌≢◌, ℕ, ◌+◌, ◌/◌, ◌%◌, ◌<◌, ◌≤◌, true, false, List, [], ◌∷◌, ◌++◌, length, map, None, ◌⊎◌, inl, inr, refl, ap, sym, ◌∙◌, subst, ⊎_elim, arith}
 use Rattle.std.specs.Prelude.{All, Contains, ◌==◌, ◌&&◌, ◌||◌, nat_le}
 use Rattle.std.specs.String.{string_bytes}
 use Rattle.std.proofs.lemmas.Bool.{cond_both, cond-true, eq-eqb, ne_eqb}
 use Rattle.jnode.specs.declared.order.Endian.{Endian}
 use Rattle.jmount.specs.Find.{IsPath, path_text}
-use Rattle.jmount.specs.Tree.{ObjectOf, State, type_bits, regular_bits, directory_bits}
+use Rattle.jmount.specs.Device.{number_held, device_held}
+use Rattle.jmount.specs.Tree.{ObjectOf, State, type_bits, is_device, regular_bits, directory_bits}
+use Rattle.jmount.proofs.ObjectsLemmas.{held_none}
 use Rattle.jsteps.specs.Nodes.{Indexed}
 use Rattle.jscan.specs.Pages.{IsPage}
 use Rattle.jsteps.specs.Where.{names_on_path}
 use Rattle.jnode.specs.Order.{bytes_in}
 use Rattle.jnode.specs.declared.order.Endian.TheVariants.{Little, Big}
 use Rattle.jsteps.specs.Device.{device_mode, device_number, new_number, old_number}
-use Rattle.jsteps.specs.Steps.{after, bytes, is_device, own_bytes}
+use Rattle.jsteps.specs.Steps.{after, bytes, own_bytes}
 use Rattle.jsteps.specs.declared.device.DeviceKind.{DeviceKind}
 use Rattle.jsteps.specs.declared.device.DeviceKind.TheVariants.{Character, Block}
 use Rattle.jsteps.specs.declared.op.Op.{Op}
@@ -32,14 +34,14 @@ use Rattle.jtree.proofs.AcceptLemmas.{device_free, fifo_free, file_free, make_st
 use Rattle.jtree.proofs.GainLemmas.{gained_leads, new_gains, own}
 use Rattle.jtree.proofs.ItemLemmas.{IsAhead, IsBuilt, Contains-from_map, Contains-mapped, ahead_placed, made_of, names_are, names_of}
 use Rattle.jtree.proofs.LinkLemmas.{IsTarget, link_reaches}
-use Rattle.jtree.proofs.MakeLemmas.{file_reaches, make_makes, make_reaches, new_object, own_none, some_numbers}
+use Rattle.jtree.proofs.MakeLemmas.{file_reaches, make_makes, make_reaches, new_object, held_nothing, own_none, some_numbers}
 use Rattle.jtree.proofs.NodesLemmas.{Numbered, made_fill}
 use Rattle.jtree.proofs.RoomLemmas.{AreAllAccepted, HasRoom, Passes, not_large, one_passes, room_of}
 use Rattle.jtree.proofs.RunLemmas.{IsAt, Reaches, at_named, at_next, at_numbered, reaches_weaker}
 use Rattle.jtree.proofs.StandLemmas.{Made, Stands}
 
-abbrev pub made_at : Files → List ℕ → Attributes → What → Made
-made_at files path a w = record { names = names_on_path path; origin = names_on_path (first_path path w); object_is = object_of_what files a w }
+abbrev pub made_at : Endian → Files → List ℕ → Attributes → What → Made
+made_at e files path a w = record { names = names_on_path path; origin = names_on_path (first_path path w); object_is = object_of_what e files a w }
 
 -- no item has this path yet
 abbrev pub IsFresh : List Item → List ℕ → Type 0
@@ -68,12 +70,12 @@ plain_mode mode fits = ne_eqb ((0o100000 + mode) / 4096 % 16) 4 (λ e. omega ari
 
 directory_reaches : (page n : ℕ) (e : Endian) (x : Indexed) (s : State) (files : Files) (path : List ℕ) (a : Attributes) (root : ObjectOf (List ℕ)) (made : List Made)
     → IsPage page → IsAt n x s → Stands root made s → IsAhead path s → AttributesFit a → HasRoom n page x (op.Mkdir a.time path a.mode a.uid a.gid)
-    → Reaches page n x s (ops_with e files (object_actions path a what.Directory)) root (made ++ made_at files path a what.Directory ∷ []) 2
+    → Reaches page n x s (ops_with e files (object_actions path a what.Directory)) root (made ++ made_at e files path a what.Directory ∷ []) 2
 directory_reaches page n e x s files path a root made is_page at stands ahead fits few =
     let p = ahead_placed n x s path at ahead in
-    subst (λ ns. Reaches page n x s (op.Mkdir a.time path a.mode a.uid a.gid ∷ []) root (made ++ own ns (object_of_what files a what.Directory) ∷ []) 2)
+    subst (λ ns. Reaches page n x s (op.Mkdir a.time path a.mode a.uid a.gid ∷ []) root (made ++ own ns (object_of_what e files a what.Directory) ∷ []) 2)
     (sym (names_are path (ahead.way ++ ahead.name ∷ []) ahead.path_is))
-    (make_reaches page n x s (op.Mkdir a.time path a.mode a.uid a.gid) a.time (0o040000 + a.mode) a.uid a.gid [] [] (own_none (0o040000 + a.mode)) ahead.way ahead.name ahead.dir root made
+    (make_reaches page n x s (op.Mkdir a.time path a.mode a.uid a.gid) a.time (0o040000 + a.mode) a.uid a.gid [] [] (own_none (0o040000 + a.mode)) None (held_nothing (0o040000 + a.mode)) ahead.way ahead.name ahead.dir root made
     is_page at stands
     (fits.time, fits.uid, fits.gid)
     (mkdir_free page x a.time path a.mode a.uid a.gid ahead.dir ahead.name p (at_named n x s at ahead.dir ahead.name ∙ ahead.free) fits.mode)
@@ -89,6 +91,15 @@ own_device Character mode number fits =
 own_device Block mode number fits =
     let is : type_bits (0o060000 + mode) ≡ 6 = omega arith in
     cond-true (is_device (0o060000 + mode)) [] number (ap (λ (n : ℕ). (n == 2) || (n == 6)) is)
+
+held_device : (device : DeviceKind) (mode : ℕ) (number : List ℕ) → mode ≤ 0o7777 → device_held (device_mode device + mode) number ≡ number_held number
+unfolding device_held
+held_device Character mode number fits =
+    let is : type_bits (0o020000 + mode) ≡ 2 = omega arith in
+    cond-true (is_device (0o020000 + mode)) (number_held number) None (ap (λ (n : ℕ). (n == 2) || (n == 6)) is)
+held_device Block mode number fits =
+    let is : type_bits (0o060000 + mode) ≡ 6 = omega arith in
+    cond-true (is_device (0o060000 + mode)) (number_held number) None (ap (λ (n : ℕ). (n == 2) || (n == 6)) is)
 
 two_long : (e : Endian) (x : ℕ) → length (bytes_in e 2 x) ≡ 2
 unfolding bytes_in
@@ -109,7 +120,7 @@ number_few e major minor =
 
 device_reaches : (page n : ℕ) (e : Endian) (x : Indexed) (s : State) (files : Files) (path : List ℕ) (a : Attributes) (device : DeviceKind) (major minor : ℕ) (root : ObjectOf (List ℕ)) (made : List Made)
     → IsPage page → IsAt n x s → Stands root made s → IsAhead path s → AttributesFit a → HasRoom n page x (op.Device a.time path device a.mode a.uid a.gid (device_number e major minor))
-    → Does page n e x s (ops_with e files (object_actions path a (what.Device device major minor))) root (made ++ made_at files path a (what.Device device major minor) ∷ []) 2
+    → Does page n e x s (ops_with e files (object_actions path a (what.Device device major minor))) root (made ++ made_at e files path a (what.Device device major minor) ∷ []) 2
     (names_on_path path) (what.Device device major minor)
 device_reaches page n e x s files path a device major minor root made is_page at stands ahead fits few =
     let p = ahead_placed n x s path at ahead in
@@ -120,8 +131,9 @@ device_reaches page n e x s files path a device major minor root made is_page at
     let none : own_bytes mode number ≡ [] = own_device device a.mode number fits.mode in
     let steps = step.MakeObject a.time mode a.uid a.gid number ∷ step.SetName a.time ahead.dir ahead.name s.next ∷ [] in
     let t = after bytes s steps in
-    let makes = make_makes s a.time mode a.uid a.gid number [] ahead.dir ahead.name none in
-    let gains = new_gains s t ahead.dir ahead.name (new_object a.time mode a.uid a.gid []) makes (at_numbered n x s at) ahead.free in
+    let held : device_held mode number ≡ number_held number = held_device device a.mode number fits.mode in
+    let makes = make_makes s a.time mode a.uid a.gid number [] (number_held number) ahead.dir ahead.name none held in
+    let gains = new_gains s t ahead.dir ahead.name (new_object a.time mode a.uid a.gid (number_held number) []) makes (at_numbered n x s at) ahead.free in
     let next : t.next ≡ s.next + 1 = makes.next in
     let numbered : Numbered x s t steps names number = record {
       number = s.next;
@@ -131,10 +143,10 @@ device_reaches page n e x s files path a device major minor root made is_page at
       leads = gained_leads s t ahead.way ahead.name ahead.dir s.next gains ahead.leads ahead.directory;
       fill_is = made_fill s.next x a.time mode a.uid a.gid number a.time ahead.dir ahead.name s.next (at_next n x s at);
     } in
-    subst (λ ns. Does page n e x s (o ∷ []) root (made ++ own ns (object_of_what files a (what.Device device major minor)) ∷ []) 2 ns (what.Device device major minor))
+    subst (λ ns. Does page n e x s (o ∷ []) root (made ++ own ns (object_of_what e files a (what.Device device major minor)) ∷ []) 2 ns (what.Device device major minor))
     (sym (names_are path names ahead.path_is))
     (record {
-      reached = make_reaches page n x s o a.time mode a.uid a.gid number [] none ahead.way ahead.name ahead.dir root made
+      reached = make_reaches page n x s o a.time mode a.uid a.gid number [] none (number_held number) held ahead.way ahead.name ahead.dir root made
           is_page at stands
           (fits.time, fits.uid, fits.gid, number_few e major minor)
           (device_free page x a.time path device a.mode a.uid a.gid number ahead.dir ahead.name p (at_named n x s at ahead.dir ahead.name ∙ ahead.free) fits.mode)
@@ -145,12 +157,12 @@ device_reaches page n e x s files path a device major minor root made is_page at
 
 fifo_reaches : (page n : ℕ) (e : Endian) (x : Indexed) (s : State) (files : Files) (path : List ℕ) (a : Attributes) (root : ObjectOf (List ℕ)) (made : List Made)
     → IsPage page → IsAt n x s → Stands root made s → IsAhead path s → AttributesFit a → HasRoom n page x (op.Fifo a.time path a.mode a.uid a.gid)
-    → Reaches page n x s (ops_with e files (object_actions path a what.Fifo)) root (made ++ made_at files path a what.Fifo ∷ []) 2
+    → Reaches page n x s (ops_with e files (object_actions path a what.Fifo)) root (made ++ made_at e files path a what.Fifo ∷ []) 2
 fifo_reaches page n e x s files path a root made is_page at stands ahead fits few =
     let p = ahead_placed n x s path at ahead in
-    subst (λ ns. Reaches page n x s (op.Fifo a.time path a.mode a.uid a.gid ∷ []) root (made ++ own ns (object_of_what files a what.Fifo) ∷ []) 2)
+    subst (λ ns. Reaches page n x s (op.Fifo a.time path a.mode a.uid a.gid ∷ []) root (made ++ own ns (object_of_what e files a what.Fifo) ∷ []) 2)
     (sym (names_are path (ahead.way ++ ahead.name ∷ []) ahead.path_is))
-    (make_reaches page n x s (op.Fifo a.time path a.mode a.uid a.gid) a.time (0o010000 + a.mode) a.uid a.gid [] [] (own_none (0o010000 + a.mode)) ahead.way ahead.name ahead.dir root made
+    (make_reaches page n x s (op.Fifo a.time path a.mode a.uid a.gid) a.time (0o010000 + a.mode) a.uid a.gid [] [] (own_none (0o010000 + a.mode)) None (held_nothing (0o010000 + a.mode)) ahead.way ahead.name ahead.dir root made
     is_page at stands
     (fits.time, fits.uid, fits.gid)
     (fifo_free page x a.time path a.mode a.uid a.gid ahead.dir ahead.name p (at_named n x s at ahead.dir ahead.name ∙ ahead.free) fits.mode)
@@ -159,12 +171,12 @@ fifo_reaches page n e x s files path a root made is_page at stands ahead fits fe
 
 socket_reaches : (page n : ℕ) (e : Endian) (x : Indexed) (s : State) (files : Files) (path : List ℕ) (a : Attributes) (root : ObjectOf (List ℕ)) (made : List Made)
     → IsPage page → IsAt n x s → Stands root made s → IsAhead path s → AttributesFit a → HasRoom n page x (op.Socket a.time path a.mode a.uid a.gid)
-    → Reaches page n x s (ops_with e files (object_actions path a what.Socket)) root (made ++ made_at files path a what.Socket ∷ []) 2
+    → Reaches page n x s (ops_with e files (object_actions path a what.Socket)) root (made ++ made_at e files path a what.Socket ∷ []) 2
 socket_reaches page n e x s files path a root made is_page at stands ahead fits few =
     let p = ahead_placed n x s path at ahead in
-    subst (λ ns. Reaches page n x s (op.Socket a.time path a.mode a.uid a.gid ∷ []) root (made ++ own ns (object_of_what files a what.Socket) ∷ []) 2)
+    subst (λ ns. Reaches page n x s (op.Socket a.time path a.mode a.uid a.gid ∷ []) root (made ++ own ns (object_of_what e files a what.Socket) ∷ []) 2)
     (sym (names_are path (ahead.way ++ ahead.name ∷ []) ahead.path_is))
-    (make_reaches page n x s (op.Socket a.time path a.mode a.uid a.gid) a.time (0o140000 + a.mode) a.uid a.gid [] [] (own_none (0o140000 + a.mode)) ahead.way ahead.name ahead.dir root made
+    (make_reaches page n x s (op.Socket a.time path a.mode a.uid a.gid) a.time (0o140000 + a.mode) a.uid a.gid [] [] (own_none (0o140000 + a.mode)) None (held_nothing (0o140000 + a.mode)) ahead.way ahead.name ahead.dir root made
     is_page at stands
     (fits.time, fits.uid, fits.gid)
     (socket_free page x a.time path a.mode a.uid a.gid ahead.dir ahead.name p (at_named n x s at ahead.dir ahead.name ∙ ahead.free) fits.mode)
@@ -180,7 +192,7 @@ symlink_reaches page n x s files path a target root made is_page at stands ahead
     let p = ahead_placed n x s path at ahead in
     subst (λ ns. Reaches page n x s (op.Symlink a.time path target a.uid a.gid ∷ []) root (made ++ own ns (object_with 0o120777 a target) ∷ []) 2)
     (sym (names_are path (ahead.way ++ ahead.name ∷ []) ahead.path_is))
-    (make_reaches page n x s (op.Symlink a.time path target a.uid a.gid) a.time 0o120777 a.uid a.gid target target (own_of 0o120777 target refl) ahead.way ahead.name ahead.dir root made
+    (make_reaches page n x s (op.Symlink a.time path target a.uid a.gid) a.time 0o120777 a.uid a.gid target target (own_of 0o120777 target refl) None (held_none 0o120777 target refl) ahead.way ahead.name ahead.dir root made
     is_page at stands
     (fits.time, fits.uid, fits.gid)
     (symlink_free page x a.time path target a.uid a.gid ahead.dir ahead.name p (at_named n x s at ahead.dir ahead.name ∙ ahead.free) some short none)
@@ -206,15 +218,15 @@ regular_reaches page n x s path a all root made is_page at stands ahead fits has
     p ahead.leads ahead.directory ahead.free ahead.short room)
 
 -- a regular file that stands may have further names
-target_of : (files : Files) (root : ObjectOf (List ℕ)) (before : List Item) (n : ℕ) (x : Indexed) (s : State) (i : Item) (first : List ℕ)
-    → IsBuilt files root before n x s → Contains before i
-    → string_bytes i.path ≡ first → (w : What) → i.what ≡ w → IsRegular w → IsTarget (map (made_of files) before) first (made_of files i)
-target_of files root before n x s i first built among path (what.Regular file) is regular =
+target_of : (e : Endian) (files : Files) (root : ObjectOf (List ℕ)) (before : List Item) (n : ℕ) (x : Indexed) (s : State) (i : Item) (first : List ℕ)
+    → IsBuilt e files root before n x s → Contains before i
+    → string_bytes i.path ≡ first → (w : What) → i.what ≡ w → IsRegular w → IsTarget (map (made_of e files) before) first (made_of e files i)
+target_of e files root before n x s i first built among path (what.Regular file) is regular =
     let known = built.known i among in
     let mode : i.attributes.mode ≤ 0o7777 = known.fits.attributes.mode in
-    let object : object_of_what files i.attributes i.what ≡ object_of_what files i.attributes (what.Regular file) = ap (object_of_what files i.attributes) is in
+    let object : object_of_what e files i.attributes i.what ≡ object_of_what e files i.attributes (what.Regular file) = ap (object_of_what e files i.attributes) is in
     record {
-      among = Contains-mapped (made_of files) before i among;
+      among = Contains-mapped (made_of e files) before i among;
       way = known.way;
       name = known.name;
       names = known.last;
@@ -223,20 +235,20 @@ target_of files root before n x s i first built among path (what.Regular file) i
       regular = ap (λ (o : ObjectOf (List ℕ)). type_bits o.mode == regular_bits) object ∙ regular_mode i.attributes.mode mode;
       plain = ap (λ (o : ObjectOf (List ℕ)). type_bits o.mode == directory_bits) object ∙ plain_mode i.attributes.mode mode;
     }
-target_of files root before n x s i first built among path what.Directory is regular = absurd regular
-target_of files root before n x s i first built among path (what.Device device major minor) is regular = absurd regular
-target_of files root before n x s i first built among path what.Fifo is regular = absurd regular
-target_of files root before n x s i first built among path what.Socket is regular = absurd regular
-target_of files root before n x s i first built among path (what.Symlink target) is regular = absurd regular
-target_of files root before n x s i first built among path (what.Link old) is regular = absurd regular
+target_of e files root before n x s i first built among path what.Directory is regular = absurd regular
+target_of e files root before n x s i first built among path (what.Device device major minor) is regular = absurd regular
+target_of e files root before n x s i first built among path what.Fifo is regular = absurd regular
+target_of e files root before n x s i first built among path what.Socket is regular = absurd regular
+target_of e files root before n x s i first built among path (what.Symlink target) is regular = absurd regular
+target_of e files root before n x s i first built among path (what.Link old) is regular = absurd regular
 
 -- no item that stands has the names of a path that is new
-pub fresh_names : (files : Files) (root : ObjectOf (List ℕ)) (before : List Item) (n : ℕ) (x : Indexed) (s : State) (path : List ℕ)
-    (names : List (List ℕ)) → IsBuilt files root before n x s
-    → IsPath path names → IsFresh before path → (p : Made) → Contains (map (made_of files) before) p → p.names ≢ names
-fresh_names files root before n x s path names built is fresh p among e =
-    let from = Contains-from_map (made_of files) before p among in
-    let same : names_of from.0 ≡ names = ap (λ (m : Made). m.names) from.2 ∙ e in
+pub fresh_names : (e : Endian) (files : Files) (root : ObjectOf (List ℕ)) (before : List Item) (n : ℕ) (x : Indexed) (s : State) (path : List ℕ)
+    (names : List (List ℕ)) → IsBuilt e files root before n x s
+    → IsPath path names → IsFresh before path → (p : Made) → Contains (map (made_of e files) before) p → p.names ≢ names
+fresh_names e files root before n x s path names built is fresh p among same_names =
+    let from = Contains-from_map (made_of e files) before p among in
+    let same : names_of from.0 ≡ names = ap (λ (m : Made). m.names) from.2 ∙ same_names in
     fresh from.0 from.1 ((built.known from.0 from.1).path.0 ∙ ap path_text same ∙ sym is.0)
 
 -- its bytes and the steps for them are few
@@ -251,57 +263,57 @@ does_weaker page n e x s ops root made few most names w le d = record { reached 
 
 pub object_reaches : (page n : ℕ) (e : Endian) (x : Indexed) (s : State) (files : Files) (path : List ℕ) (a : Attributes) (w : What) (root : ObjectOf (List ℕ))
     (before : List Item)
-    → IsPage page → IsBuilt files root before n x s → IsAhead path s → IsFresh before path → LinksBack before w → HasTarget w → AttributesFit a
+    → IsPage page → IsBuilt e files root before n x s → IsAhead path s → IsFresh before path → LinksBack before w → HasTarget w → AttributesFit a
     → AreFewOf n files w ⊎ AreAllAccepted page x (ops_with e files (object_actions path a w))
-    → Does page n e x s (ops_with e files (object_actions path a w)) root (map (made_of files) before ++ made_at files path a w ∷ [])
+    → Does page n e x s (ops_with e files (object_actions path a w)) root (map (made_of e files) before ++ made_at e files path a w ∷ [])
     (8 + length (bytes_of_what files w) / 512) (names_on_path path) w
 object_reaches page n e x s files path a what.Directory root before is_page built ahead fresh links target fits has =
     let reached = reaches_weaker page n x s (ops_with e files (object_actions path a what.Directory)) root
-    (map (made_of files) before ++ made_at files path a what.Directory ∷ []) 2 (8 + length (bytes_of_what files what.Directory) / 512) (omega arith)
-    (directory_reaches page n e x s files path a root (map (made_of files) before) is_page built.is_at built.stands ahead fits
+    (map (made_of e files) before ++ made_at e files path a what.Directory ∷ []) 2 (8 + length (bytes_of_what files what.Directory) / 512) (omega arith)
+    (directory_reaches page n e x s files path a root (map (made_of e files) before) is_page built.is_at built.stands ahead fits
     (room_of n page x (op.Mkdir a.time path a.mode a.uid a.gid) (λ (few : AreFewOf n files what.Directory). let some : n + (8 + length (bytes_of_what files what.Directory) / 512) + 4 ≤ 0xFFFFFFFF = few.few in omega arith) has)) in
     record { reached = reached; numbered = tt }
 object_reaches page n e x s files path a (what.Regular file) root before is_page built ahead fresh links target fits has =
-    let reached = regular_reaches page n x s path a (files (string_bytes file)) root (map (made_of files) before) is_page built.is_at built.stands ahead fits
+    let reached = regular_reaches page n x s path a (files (string_bytes file)) root (map (made_of e files) before) is_page built.is_at built.stands ahead fits
     (⊎_elim (λ (few : AreFewOf n files (what.Regular file)). inl (few.short, few.few)) (λ all. inr (one_passes page x (op.File a.time path a.mode a.uid a.gid (files (string_bytes file))) all)) has) in
     record { reached = reached; numbered = tt }
 object_reaches page n e x s files path a (what.Device device major minor) root before is_page built ahead fresh links target fits has =
     does_weaker page n e x s (ops_with e files (object_actions path a (what.Device device major minor))) root
-    (map (made_of files) before ++ made_at files path a (what.Device device major minor) ∷ []) 2 (8 + length (bytes_of_what files (what.Device device major minor)) / 512) (names_on_path path)
+    (map (made_of e files) before ++ made_at e files path a (what.Device device major minor) ∷ []) 2 (8 + length (bytes_of_what files (what.Device device major minor)) / 512) (names_on_path path)
     (what.Device device major minor) (omega arith)
-    (device_reaches page n e x s files path a device major minor root (map (made_of files) before) is_page built.is_at built.stands ahead fits
+    (device_reaches page n e x s files path a device major minor root (map (made_of e files) before) is_page built.is_at built.stands ahead fits
     (room_of n page x (op.Device a.time path device a.mode a.uid a.gid (device_number e major minor)) (λ (few : AreFewOf n files (what.Device device major minor)). let some : n + (8 + length (bytes_of_what files (what.Device device major minor)) / 512) + 4 ≤ 0xFFFFFFFF = few.few in omega arith) has))
 object_reaches page n e x s files path a what.Fifo root before is_page built ahead fresh links target fits has =
     let reached = reaches_weaker page n x s (ops_with e files (object_actions path a what.Fifo)) root
-    (map (made_of files) before ++ made_at files path a what.Fifo ∷ []) 2 (8 + length (bytes_of_what files what.Fifo) / 512) (omega arith)
-    (fifo_reaches page n e x s files path a root (map (made_of files) before) is_page built.is_at built.stands ahead fits
+    (map (made_of e files) before ++ made_at e files path a what.Fifo ∷ []) 2 (8 + length (bytes_of_what files what.Fifo) / 512) (omega arith)
+    (fifo_reaches page n e x s files path a root (map (made_of e files) before) is_page built.is_at built.stands ahead fits
     (room_of n page x (op.Fifo a.time path a.mode a.uid a.gid) (λ (few : AreFewOf n files what.Fifo). let some : n + (8 + length (bytes_of_what files what.Fifo) / 512) + 4 ≤ 0xFFFFFFFF = few.few in omega arith) has)) in
     record { reached = reached; numbered = tt }
 object_reaches page n e x s files path a what.Socket root before is_page built ahead fresh links target fits has =
     let reached = reaches_weaker page n x s (ops_with e files (object_actions path a what.Socket)) root
-    (map (made_of files) before ++ made_at files path a what.Socket ∷ []) 2 (8 + length (bytes_of_what files what.Socket) / 512) (omega arith)
-    (socket_reaches page n e x s files path a root (map (made_of files) before) is_page built.is_at built.stands ahead fits
+    (map (made_of e files) before ++ made_at e files path a what.Socket ∷ []) 2 (8 + length (bytes_of_what files what.Socket) / 512) (omega arith)
+    (socket_reaches page n e x s files path a root (map (made_of e files) before) is_page built.is_at built.stands ahead fits
     (room_of n page x (op.Socket a.time path a.mode a.uid a.gid) (λ (few : AreFewOf n files what.Socket). let some : n + (8 + length (bytes_of_what files what.Socket) / 512) + 4 ≤ 0xFFFFFFFF = few.few in omega arith) has)) in
     record { reached = reached; numbered = tt }
 object_reaches page n e x s files path a (what.Symlink t) root before is_page built ahead fresh links target fits has =
     let reached = reaches_weaker page n x s (ops_with e files (object_actions path a (what.Symlink t))) root
-    (map (made_of files) before ++ made_at files path a (what.Symlink t) ∷ []) 2 (8 + length (bytes_of_what files (what.Symlink t)) / 512) (omega arith)
-    (symlink_reaches page n x s files path a (string_bytes t) root (map (made_of files) before) is_page built.is_at built.stands ahead fits target.0
+    (map (made_of e files) before ++ made_at e files path a (what.Symlink t) ∷ []) 2 (8 + length (bytes_of_what files (what.Symlink t)) / 512) (omega arith)
+    (symlink_reaches page n x s files path a (string_bytes t) root (map (made_of e files) before) is_page built.is_at built.stands ahead fits target.0
     target.1 target.2
     (room_of n page x (op.Symlink a.time path (string_bytes t) a.uid a.gid) (λ (few : AreFewOf n files (what.Symlink t)). let some : n + (8 + length (bytes_of_what files (what.Symlink t)) / 512) + 4 ≤ 0xFFFFFFFF = few.few in omega arith) has)) in
     record { reached = reached; numbered = tt }
 object_reaches page n e x s files path a (what.Link first) root before is_page built ahead fresh links target fits has =
     let i = links.0 in
     let names = ahead.way ++ ahead.name ∷ [] in
-    let f = made_of files i in
-    let m = made_at files path a (what.Link first) in
-    let is = target_of files root before n x s i (string_bytes first) built links.1 links.2 i.what refl links.3 in
+    let f = made_of e files i in
+    let m = made_at e files path a (what.Link first) in
+    let is = target_of e files root before n x s i (string_bytes first) built links.1 links.2 i.what refl links.3 in
     let origin : m.origin ≡ f.names = ap names_on_path (sym links.2) in
     let here : m.names ≡ names = names_are path names ahead.path_is in
-    let reached = reaches_weaker page n x s (ops_with e files (object_actions path a (what.Link first))) root (map (made_of files) before ++ m ∷ []) 1
+    let reached = reaches_weaker page n x s (ops_with e files (object_actions path a (what.Link first))) root (map (made_of e files) before ++ m ∷ []) 1
     (8 + length (bytes_of_what files (what.Link first)) / 512) (omega arith)
-    (link_reaches page n x s a.time (string_bytes first) path f m root (map (made_of files) before) is_page built.is_at built.stands is ahead fits.time
+    (link_reaches page n x s a.time (string_bytes first) path f m root (map (made_of e files) before) is_page built.is_at built.stands is ahead fits.time
     here origin
-    (λ e. fresh_names files root before n x s path names built ahead.path_is fresh f is.among (sym origin ∙ sym e ∙ here))
+    (λ same. fresh_names e files root before n x s path names built ahead.path_is fresh f is.among (sym origin ∙ sym same ∙ here))
     (room_of n page x (op.Link a.time (string_bytes first) path) (λ (few : AreFewOf n files (what.Link first)). let some : n + (8 + length (bytes_of_what files (what.Link first)) / 512) + 4 ≤ 0xFFFFFFFF = few.few in omega arith) has)) in
     record { reached = reached; numbered = tt }

@@ -80,103 +80,103 @@ split_last x (y ∷ ys) = let rest = split_last y ys in (x ∷ rest.0, rest.1, a
 
 -- ---- items
 
-holds_object : (s : State) (files : Files) (path : List ℕ) (a : Attributes) (w : What) → IsHeld s (made_at files path a w) → IsPath path (names_on_path path)
-    → IsPath (first_path path w) (names_on_path (first_path path w)) → HoldsObject files s path a w
-holds_object s files path a what.Directory h is first = record {
+holds_object : (e : Endian) (s : State) (files : Files) (path : List ℕ) (a : Attributes) (w : What) → IsHeld s (made_at e files path a w) → IsPath path (names_on_path path)
+    → IsPath (first_path path w) (names_on_path (first_path path w)) → HoldsObject e files s path a w
+holds_object e s files path a what.Directory h is first = record {
   number = h.number;
   found = found_is s path (names_on_path path) is ∙ h.leads;
   below_root =
       h.below_root;
   object = h.there refl;
 }
-holds_object s files path a (what.Regular file) h is first = record {
+holds_object e s files path a (what.Regular file) h is first = record {
   number = h.number;
   found = found_is s path (names_on_path path) is ∙ h.leads;
   below_root =
       h.below_root;
   object = h.there refl;
 }
-holds_object s files path a (what.Device device major minor) h is first = record {
+holds_object e s files path a (what.Device device major minor) h is first = record {
   number = h.number;
   found = found_is s path (names_on_path path) is ∙ h.leads;
   below_root =
       h.below_root;
   object = h.there refl;
 }
-holds_object s files path a what.Fifo h is first = record {
+holds_object e s files path a what.Fifo h is first = record {
   number = h.number;
   found = found_is s path (names_on_path path) is ∙ h.leads;
   below_root =
       h.below_root;
   object = h.there refl;
 }
-holds_object s files path a what.Socket h is first = record {
+holds_object e s files path a what.Socket h is first = record {
   number = h.number;
   found = found_is s path (names_on_path path) is ∙ h.leads;
   below_root =
       h.below_root;
   object = h.there refl;
 }
-holds_object s files path a (what.Symlink t) h is first = record {
+holds_object e s files path a (what.Symlink t) h is first = record {
   number = h.number;
   found = found_is s path (names_on_path path) is ∙ h.leads;
   below_root =
       h.below_root;
   object = h.there refl;
 }
-holds_object s files path a (what.Link old) h is first =
+holds_object e s files path a (what.Link old) h is first =
     found_is s path (names_on_path path) is ∙ h.leads ∙ sym (found_is s (string_bytes old) (names_on_path (string_bytes old)) first ∙ h.first)
 
 same_first : (a b : List ℕ) → IsPath a (names_on_path a) → IsPath b (names_on_path b) → names_on_path a ≡ names_on_path b → a ≡ b
 same_first a b is_a is_b e = is_a.0 ∙ ap path_text e ∙ sym is_b.0
 
-only_items : (s : State) (files : Files) (root : ObjectOf (List ℕ)) (items : List Item) → Stands root (map (made_of files) items) s
+only_items : (e : Endian) (s : State) (files : Files) (root : ObjectOf (List ℕ)) (items : List Item) → Stands root (map (made_of e files) items) s
     → ((j : Item) → Contains items j → IsKnown j) → HasShape s
     → (path : List ℕ) (number : ℕ) (names : List (List ℕ)) → IsPath path names → walk s names (Ok 1) ≡ Ok number
     → (path ≡ 47 ∷ []) ⊎ ((i : Item) × Contains items i × (string_bytes i.path ≡ path))
-only_items s files root items stands known shape path number [] is e = inl is.0
-only_items s files root items stands known shape path number (n ∷ ns) is e =
+only_items e s files root items stands known shape path number [] is led = inl is.0
+only_items e s files root items stands known shape path number (n ∷ ns) is led =
     let split = split_last n ns in
-    let l = walk_last s split.0 split.1 1 number (ap (λ ns. walk s ns (Ok 1)) (sym split.2) ∙ e) in
+    let l = walk_last s split.0 split.1 1 number (ap (λ ns. walk s ns (Ok 1)) (sym split.2) ∙ led) in
     let one = stands.names_are l.dir split.1 number l.steps.entry in
     let way : one.way ≡ split.0 = one_path_to_each s one.way split.0 l.dir shape one.leads l.leads l.steps.directory in
-    let from = Contains-from_map (made_of files) items one.m one.among in
+    let from = Contains-from_map (made_of e files) items one.m one.among in
     let names : names_of from.0 ≡ n ∷ ns = ap (λ (m : Made). m.names) from.2 ∙ one.names ∙ ap (λ ns. ns ++ split.1 ∷ []) way ∙ sym split.2 in
     inr (from.0, from.1, (known from.0 from.1).path.0 ∙ ap path_text names ∙ sym is.0)
 
-holds_tree : (s : State) (files : Files) (root : Attributes) (items : List Item) → Stands (root_object root) (map (made_of files) items) s
+holds_tree : (e : Endian) (s : State) (files : Files) (root : Attributes) (items : List Item) → Stands (root_object root) (map (made_of e files) items) s
     → ((j : Item) → Contains items j → IsKnown j) → HasShape s
-    → HoldsTree files root items s
-holds_tree s files root items stands known shape = record {
+    → HoldsTree e files root items s
+holds_tree e s files root items stands known shape = record {
   root_is = stands.root_is;
   items_are = λ i among.
       let k = known i among in
-      holds_object s files (string_bytes i.path) i.attributes i.what (stands.held (made_of files i) (Contains-mapped (made_of files) items i among))
+      holds_object e s files (string_bytes i.path) i.attributes i.what (stands.held (made_of e files i) (Contains-mapped (made_of e files) items i among))
       k.path k.origin;
-  apart = λ i j in_i in_j e.
+  apart = λ i j in_i in_j both.
       let k = known i in_i in
       let l = known j in_j in
-      let m = Contains-mapped (made_of files) items i in_i in
-      let o = Contains-mapped (made_of files) items j in_j in
-      let h = stands.held (made_of files i) m in
-      let leads : walk s (names_of j) (Ok 1) ≡ Ok h.number = sym (found_is s (string_bytes j.path) (names_of j) l.path) ∙ sym e ∙ found_is s
+      let m = Contains-mapped (made_of e files) items i in_i in
+      let o = Contains-mapped (made_of e files) items j in_j in
+      let h = stands.held (made_of e files i) m in
+      let leads : walk s (names_of j) (Ok 1) ≡ Ok h.number = sym (found_is s (string_bytes j.path) (names_of j) l.path) ∙ sym both ∙ found_is s
       (string_bytes i.path) (names_of i) k.path ∙ h.leads in
-      same_first (first_path_of i) (first_path_of j) k.origin l.origin (stands.apart (made_of files i) (made_of files j) m o h.number h.leads leads);
-  nothing_else = λ path number e.
-      let f = found_names s path number e in
-      only_items s files (root_object root) items stands known shape path number f.names f.path_of f.leads;
-  no_more_objects = λ number e.
+      same_first (first_path_of i) (first_path_of j) k.origin l.origin (stands.apart (made_of e files i) (made_of e files j) m o h.number h.leads leads);
+  nothing_else = λ path number led.
+      let f = found_names s path number led in
+      only_items e s files (root_object root) items stands known shape path number f.names f.path_of f.leads;
+  no_more_objects = λ number there.
       ⊎_elim
       (λ (is : number ≡ 1). inl is)
-      (λ (o : (m : Made) × Contains (map (made_of files) items) m × (walk s m.names (Ok 1) ≡ Ok number)).
-      let from = Contains-from_map (made_of files) items o.0 o.1 in
+      (λ (o : (m : Made) × Contains (map (made_of e files) items) m × (walk s m.names (Ok 1) ≡ Ok number)).
+      let from = Contains-from_map (made_of e files) items o.0 o.1 in
       inr (
         from.0,
         from.1,
         found_is s (string_bytes from.0.path) (names_of from.0) (known from.0 from.1).path ∙ ap (λ (m : Made). walk s m.names (Ok 1))
             from.2 ∙ o.2,
       ))
-      (stands.objects_are number e);
+      (stands.objects_are number there);
 }
 
 -- ---- the numbers of devices
@@ -218,20 +218,20 @@ lawful page e files root items is_page fits tree has =
     (record { is_at = one.is_at; stands = one.stands; known = λ j among. absurd (let less = among.1 in omega arith) })
     tree fits.items_fit room in
     let ops : List Op = ops_with e files (actions_of root items) in
-    let r = reaches_then page 0 x s (root_op root ∷ []) (ops_with e files (flat_map item_actions items)) (root_object root) [] (map (made_of files) items) 1
+    let r = reaches_then page 0 x s (root_op root ∷ []) (ops_with e files (flat_map item_actions items)) (root_object root) [] (map (made_of e files) items) 1
     _ one all.does.reached in
     let rest = all.does.reached in
     let these = sym (runs_steps page x ops r.steps r.runs) in
-    let holds = holds_tree (after bytes s r.steps) files root items r.stands all.known r.is_at.shape in
+    let holds = holds_tree e (after bytes s r.steps) files root items r.stands all.known r.is_at.shape in
     let numbered : (j : Item) → Contains items j → HasDeviceNumber e (nodes_of x r.steps) (after bytes s r.steps) (string_bytes j.path) j.what = λ j among.
     has_number e x s (after bytes s r.steps) r.steps (string_bytes j.path) j.what (all.known j among).path
     (subst (λ (v : State). IsNumbered e x s v (one.steps ++ rest.steps) (names_of j) j.what) (sym (after-append s one.steps rest.steps))
     (numbered_after e x s (after bytes s one.steps) (after bytes (after bytes s one.steps) rest.steps) one.steps rest.steps (names_of j) j.what one.writes (all.does.numbered j among))) in
     let makes : MakesTree page e files root items ops = record {
       accepted = runs_all page x ops r.steps r.runs;
-      holds = subst (λ steps. HoldsTree files root items (after bytes s steps)) these holds;
-      written = subst (λ steps. HoldsTree files root items (state_of (nodes_of x steps))) these
-          (subst (HoldsTree files root items) (sym (nodes_are_steps [] r.steps r.ready).state) holds);
+      holds = subst (λ steps. HoldsTree e files root items (after bytes s steps)) these holds;
+      written = subst (λ steps. HoldsTree e files root items (state_of (nodes_of x steps))) these
+          (subst (HoldsTree e files root items) (sym (nodes_are_steps [] r.steps r.ready).state) holds);
       numbered = subst (λ steps. HaveDeviceNumbers e (nodes_of x steps) (after bytes s steps) items) these numbered;
     } in
     record { makes = makes; op_fits = r.op_fits }
@@ -270,7 +270,7 @@ text_makes_tree page e files root items is_page fits tree short few =
 pub image_of_lines : (page : ℕ) (e : Endian) (size blocks : ℕ) (base image : List ℕ) (files : Files) (root : Attributes) (items : List Item) (lines : List Line) → FitsListing root items → IsTree items
     → (FilesFit files items × AreFew files items) ⊎ AreAllAccepted page (index_of []) (ops_in e files lines) → lines_of (listing_text root items) ≡ Ok lines
     → IsWrittenFor page e size blocks base (ops_in e files lines) image
-    → (s : State) × MountsAs e size image s × HoldsTree files root items s × HaveDeviceNumbers e (plain_nodes e size image) s items
+    → (s : State) × MountsAs e size image s × HoldsTree e files root items s × HaveDeviceNumbers e (plain_nodes e size image) s items
 image_of_lines page e size blocks base image files root items lines fits tree has read is =
     let ops = ops_in e files lines in
     let made = lines_lawful page e files root items lines is.page_is fits tree has read in
@@ -292,7 +292,7 @@ image_of_lines page e size blocks base image files root items lines fits tree ha
     (record { planned = omega arith; fits = is.fits }) in (
       after bytes (state_of (plain_nodes e size base)) (steps_of_first page (index_of (plain_nodes e size base)) ops (length ops)),
       survives.whole image is.left,
-      subst (λ ns. HoldsTree files root items (after bytes (state_of ns) (steps_of_first page (index_of ns) ops (length ops)))) (sym is.bare) made.makes.holds,
+      subst (λ ns. HoldsTree e files root items (after bytes (state_of ns) (steps_of_first page (index_of ns) ops (length ops)))) (sym is.bare) made.makes.holds,
       subst (λ (l : List NodeRef). HaveDeviceNumbers e l (after bytes (state_of ns) steps) items) (sym are) numbered,
     )
 

@@ -10,10 +10,11 @@ use Rattle.std.proofs.lemmas.List.{take-append-drop}
 use Rattle.std.proofs.lemmas.Option.{same_Some}
 use Rattle.jname.specs.Live.{key_cmp}
 use Rattle.jname.proofs.NamingLemmas.{key_cmp_total}
-use Rattle.jmount.specs.Tree.{ObjectOf, State, Outline, outline, object, named, has_bits, regular_bits, type_bits}
+use Rattle.jmount.specs.Device.{device_held}
+use Rattle.jmount.specs.Tree.{ObjectOf, State, Outline, outline, object, named, has_bits, regular_bits, type_bits, is_device}
 use Rattle.jmount.specs.declared.fault.FindFault.{FindFault}
 use Rattle.jsteps.specs.Device.{device_mode}
-use Rattle.jsteps.specs.Steps.{is_device, own_bytes, bytes, do_step, after, renamed, rewritten, with_body, with_attributes, reattributed}
+use Rattle.jsteps.specs.Steps.{own_bytes, bytes, do_step, after, renamed, rewritten, with_body, with_attributes, reattributed}
 use Rattle.jsteps.specs.Nodes.{Indexed}
 use Rattle.jscan.specs.Pages.{IsPage}
 use Rattle.jsteps.specs.Planning.{spelling_len, first_len, piece_puts, page_puts, puts, zeros_to, write_steps, make_steps, file_steps, move_steps, steps_of}
@@ -153,7 +154,7 @@ write_of page time ino size offset (b ∷ new) =
 -- ---- a new object
 
 new_object : ℕ → ℕ → ℕ → ℕ → List ℕ → ObjectOf (List ℕ)
-new_object time mode uid gid held = record { mode = mode; uid = uid; gid = gid; atime = time; mtime = time; ctime = time; body = own_bytes mode held }
+new_object time mode uid gid held = record { mode = mode; uid = uid; gid = gid; atime = time; mtime = time; ctime = time; device = device_held mode held; body = own_bytes mode held }
 
 made_touches : (t : State) (time mode uid gid : ℕ) (target : List ℕ) → Touches t (do_step bytes t (step.MakeObject time mode uid gid target)) t.next
 unfolding new_object

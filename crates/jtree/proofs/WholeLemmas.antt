@@ -114,7 +114,7 @@ does_then page n e x s xs ys root made more a b most i items le d all =
     }
 
 pub record IsDone (page n : ℕ) (e : Endian) (x : Indexed) (s : State) (files : Files) (root : ObjectOf (List ℕ)) (before items : List Item) : Type 0 where
-  pub does : DoesAll page n e x s (ops_with e files (flat_map item_actions items)) root (map (made_of files) (before ++ items)) (weight files items) items
+  pub does : DoesAll page n e x s (ops_with e files (flat_map item_actions items)) root (map (made_of e files) (before ++ items)) (weight files items) items
   pub known : (j : Item) → Contains (before ++ items) j → IsKnown j
 
 -- the items and their bytes are few
@@ -123,13 +123,13 @@ pub record AreFewFrom (n : ℕ) (files : Files) (items : List Item) : Type 0 whe
   pub few : n + weight files items + 4 ≤ 0xFFFFFFFF
 
 pub items_done : (page n : ℕ) (e : Endian) (x : Indexed) (s : State) (files : Files) (root : ObjectOf (List ℕ)) (before items : List Item) → IsPage page
-    → IsBuilt files root before n x s
+    → IsBuilt e files root before n x s
     → IsTreeAfter before items → All ItemFits items → AreFewFrom n files items ⊎ AreAllAccepted page x (ops_with e files (flat_map item_actions items)) → IsDone page n e x s files root before items
 items_done page n e x s files root before [] is_page built tree fits has =
     record {
-      does = subst (λ all. DoesAll page n e x s [] root (map (made_of files) all) 0 []) (sym (append-nil before))
+      does = subst (λ all. DoesAll page n e x s [] root (map (made_of e files) all) 0 []) (sym (append-nil before))
           (record {
-            reached = reaches_none page n x s root (map (made_of files) before) built.is_at built.stands;
+            reached = reaches_none page n x s root (map (made_of e files) before) built.is_at built.stands;
             numbered = λ j among. absurd (let less = among.1 in omega arith);
           });
       known = subst (λ all. (j : Item) → Contains all j → IsKnown j) (sym (append-nil before)) built.known;
@@ -150,13 +150,13 @@ items_done page n e x s files root before (i ∷ items) is_page built tree fits 
     inl (record { short = omega arith; few = omega arith }))
     (λ all. inr (accepted_front page x these others all)) split in
     let does = object_reaches page n e x s files (string_bytes i.path) i.attributes i.what root before is_page built
-    (ahead files root before n x s i built may) may.new may.link may.target i_fits.attributes first in
+    (ahead e files root before n x s i built may) may.new may.link may.target i_fits.attributes first in
     let one = does.reached in
     let used : length one.steps ≤ 8 + size / 512 = one.few in
     let more = before ++ i ∷ [] in
-    let next : IsBuilt files root more (n + length one.steps) _ (after bytes s one.steps) = record {
+    let next : IsBuilt e files root more (n + length one.steps) _ (after bytes s one.steps) = record {
       is_at = one.is_at;
-      stands = subst (λ made. Stands root made (after bytes s one.steps)) (sym (map_push (made_of files) before i)) one.stands;
+      stands = subst (λ made. Stands root made (after bytes s one.steps)) (sym (map_push (made_of e files) before i)) one.stands;
       known = λ j among. ⊎_elim (λ old. built.known j old) (λ is. subst IsKnown is (known_of before i built.known may i_fits))
           (Contains-push_cases before i j among);
     } in
@@ -170,12 +170,12 @@ items_done page n e x s files root before (i ∷ items) is_page built tree fits 
     (All-tail ItemFits i items fits) last in
     let list : more ++ items ≡ before ++ i ∷ items = append_assoc before (i ∷ []) items in
     record {
-      does = subst (λ ops. DoesAll page n e x s ops root (map (made_of files) (before ++ i ∷ items)) (weight files (i ∷ items)) (i ∷ items))
+      does = subst (λ ops. DoesAll page n e x s ops root (map (made_of e files) (before ++ i ∷ items)) (weight files (i ∷ items)) (i ∷ items))
           (sym (ops_append e files (item_actions i) (flat_map item_actions items)))
           (subst (λ all. DoesAll page n e x s (ops_with e files (item_actions i) ++ ops_with e files (flat_map item_actions items)) root
-          (map (made_of files) all) (weight files (i ∷ items)) (i ∷ items)) list
+          (map (made_of e files) all) (weight files (i ∷ items)) (i ∷ items)) list
           (does_then page n e x s (ops_with e files (item_actions i)) (ops_with e files (flat_map item_actions items)) root
-          (map (made_of files) before ++ made_of files i ∷ []) (map (made_of files) (more ++ items))
+          (map (made_of e files) before ++ made_of e files i ∷ []) (map (made_of e files) (more ++ items))
           (8 + size / 512) (weight files items) (weight files (i ∷ items)) i items (omega arith) does rest.does));
       known = subst (λ all. (j : Item) → Contains all j → IsKnown j) list rest.known;
     }

@@ -79,7 +79,7 @@ goes_on page e size blocks m ok =
 put_out : (page : Page) (e : Endian) (size blocks accepted before now : ℕ) (places : List Place) (image : List ℕ) (files : Files) (root : Attributes) (items : List Item) (lines : List Line)
     → FitsListing root items → IsTree items → lines_of (listing_text root items) ≡ Ok lines
     → Goes page size blocks [] → IsEmitted (paged_flash page e size blocks) [] (ops_in e files lines) accepted places None (record { old = Some []; new = Some image; before = before; now = now })
-    → (s : State) × MountsAs e size image s × HoldsTree files root items s × HaveDeviceNumbers e (plain_nodes e size image) s items
+    → (s : State) × MountsAs e size image s × HoldsTree e files root items s × HaveDeviceNumbers e (plain_nodes e size image) s items
 put_out page e size blocks accepted before now places image files root items lines fits tree read goes emitted =
     let p : ℕ = page_size page in
     let is_page = sizes_are_pages page in

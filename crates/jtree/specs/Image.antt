@@ -56,7 +56,7 @@ ImageHoldsTree = (page : ℕ) (e : Endian) (size blocks : ℕ) (base image : Lis
     → FitsListing root items → IsTree items → FilesFit files items → AreFew files items
     → lines_of (listing_text root items) ≡ Ok lines
     → IsWrittenFor page e size blocks base (ops_in e files lines) image
-    → (s : State) × MountsAs e size image s × HoldsTree files root items s
+    → (s : State) × MountsAs e size image s × HoldsTree e files root items s
     × HaveDeviceNumbers e (plain_nodes e size image) s items
 
 -- The empty image is such a base of any flash that is written.

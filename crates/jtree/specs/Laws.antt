@@ -24,9 +24,9 @@ use Rattle.jtree.specs.Numbers.{HaveDeviceNumbers}
 pub record MakesTree (page : ℕ) (e : Endian) (files : Files) (root : Attributes)
     (items : List Item) (ops : List Op) : Type 0 where
   pub accepted : length (plans_of page (index_of []) ops) ≡ length ops
-  pub holds : HoldsTree files root items
+  pub holds : HoldsTree e files root items
       (after bytes (state_of []) (steps_of_first page (index_of []) ops (length ops)))
-  pub written : HoldsTree files root items
+  pub written : HoldsTree e files root items
       (state_of (nodes_of (index_of []) (steps_of_first page (index_of []) ops (length ops))))
   pub numbered : HaveDeviceNumbers e
       (nodes_of (index_of []) (steps_of_first page (index_of []) ops (length ops)))

@@ -42,5 +42,5 @@ PutOutHoldsTree = (page : Page) (e : Endian) (size blocks : ℕ) (image : List �
     (root : Attributes) (items : List Item) (lines : List Line)
     → FitsListing root items → IsTree items → lines_of (listing_text root items) ≡ Ok lines
     → IsPutOut page e size blocks files lines image
-    → (s : State) × MountsAs e size image s × HoldsTree files root items s
+    → (s : State) × MountsAs e size image s × HoldsTree e files root items s
     × HaveDeviceNumbers e (plain_nodes e size image) s items

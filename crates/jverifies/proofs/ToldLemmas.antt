@@ -77,7 +77,7 @@ record IsTextTold (e : Endian) (sought : Sought) (before : HostFiles) (text : Li
   listed : lines_of text ≡ Ok lines
   kept : (name : List ℕ) → Contains (files_named lines) name → IsFileKept before files events name
   holds : (tree : FolderTree) → FitsListing tree.root tree.items.items → IsTree tree.items.items
-      → text ≡ listing_text tree.root tree.items.items → HoldsTree (part_contents files) tree.root tree.items.items left.state
+      → text ≡ listing_text tree.root tree.items.items → HoldsTree e (part_contents files) tree.root tree.items.items left.state
   told_of : AreLinesTold sought.times left sought.image (lines_verified sought.image) told
 
 text_told : (e : Endian) (sought : Sought) (before : HostFiles) (text : List ℕ) (events : List Event) (told : Told) → compares_text e sought before text events (Ok told)
@@ -99,7 +99,7 @@ text_told e sought before text events told did =
           (kept_in before files.x files.before files.after lines.after name files.all (all_are_kept lines.x before files.x files.before files.one name within));
       holds = λ tree fits is_tree same.
           let held = put_out_holds_tree flash.page e flash.geometry.block flash.blocks made.x (part_contents files.x) tree.root tree.items.items lines.x fits is_tree (ap lines_of (sym same) ∙ lines.one.1) put in
-          subst (λ (s : State). HoldsTree (part_contents files.x) tree.root tree.items.items s) (same_state e flash.geometry.block made.x held.0 left.x held.1 left.one.1) held.2;
+          subst (λ (s : State). HoldsTree e (part_contents files.x) tree.root tree.items.items s) (same_state e flash.geometry.block made.x held.0 left.x held.1 left.one.1) held.2;
       told_of = lines_told sought.times left.x sought.image (lines_verified sought.image) left.after told left.two;
     }
 
@@ -109,8 +109,8 @@ read_later : (name bytes : List ℕ) (first rest events : List Event) → events
 read_later name bytes first rest events all (inl is) = inl (happened_in (Did (Read name bytes)) all (after_more (Did (Read name bytes)) first rest is))
 read_later name bytes first rest events all (inr is) = inr (is.0, is.1, happened_in (Did (Keep is.0 is.1)) all (after_more (Did (Keep is.0 is.1)) first rest is.2), is.3)
 
-shown_later : (asked : Packing (List ℕ)) (first rest events : List Event) (s : State) → events ≡ first ++ rest → ShowsFolder asked rest s → ShowsFolder asked events s
-shown_later asked first rest events s all shows = record {
+shown_later : (e : Endian) (asked : Packing (List ℕ)) (first rest events : List Event) (s : State) → events ≡ first ++ rest → ShowsFolder e asked rest s → ShowsFolder e asked events s
+shown_later e asked first rest events s all shows = record {
   known = shows.known;
   folder = shows.folder;
   lines = shows.lines;
@@ -123,14 +123,14 @@ shown_later asked first rest events s all shows = record {
 }
 
 -- it was read, and compared with a mount
-record IsFolderTold (asked : Verification (List ℕ)) (m : Mount) (events : List Event) (told : Told) : Type 0 where
+record IsFolderTold (e : Endian) (asked : Verification (List ℕ)) (m : Mount) (events : List Event) (told : Told) : Type 0 where
   held : State
   lines : List (List ℕ)
-  folder : ShowsFolder (packing_verified asked) events held
+  folder : ShowsFolder e (packing_verified asked) events held
   differ : AreDifferences asked.times held m.state lines
   counted : told.counted ≡ either folder.folder.left_out (either (min (length lines) (2 ^ 64 - 1)) (findings m))
 
-folder_told : (e : Endian) (asked : Verification (List ℕ)) (m : Mount) (events : List Event) (told : Told) → compares_folder e asked m events (Ok told) → IsFolderTold asked m events told
+folder_told : (e : Endian) (asked : Verification (List ℕ)) (m : Mount) (events : List Event) (told : Told) → compares_folder e asked m events (Ok told) → IsFolderTold e asked m events told
 unfolding folder_shown
 folder_told e asked m events told did =
     let packing : Packing (List ℕ) = packing_verified asked in
@@ -144,7 +144,7 @@ folder_told e asked m events told did =
     record {
       held = text.left.state;
       lines = lines.lines;
-      folder = folder_shown packing writes events of text.lines text.files text.left.state text.listed text.kept
+      folder = folder_shown e packing writes events of text.lines text.files text.left.state text.listed text.kept
           (text.holds tree of.folder.listable.fits of.folder.listable.is_tree of.folder.text);
       differ = lines.differ;
       counted = ap count of.is ∙ (ap (λ (t : Told). either of.listed.left_out t.counted) lines.is
@@ -180,9 +180,9 @@ verify_tells_differences e asked events told did =
       lines = of.lines;
       read = read;
       mounts = through.1;
-      folder = shown_later packing loaded.before loaded.after events of.held loaded.all
-          (shown_later packing nodes.before nodes.after loaded.after of.held nodes.all
-          (shown_later packing mounts.before mounts.after nodes.after of.held mounts.all of.folder));
+      folder = shown_later e packing loaded.before loaded.after events of.held loaded.all
+          (shown_later e packing nodes.before nodes.after loaded.after of.held nodes.all
+          (shown_later e packing mounts.before mounts.after nodes.after of.held mounts.all of.folder));
       differ = of.differ;
       counted = of.counted;
     }

@@ -25,7 +25,7 @@ pub record AreToldApart (e : Endian) (asked : Verification (List ℕ)) (events :
   pub lines : List (List ℕ)
   pub read : Happened (Did (Read asked.image image.image)) events
   pub mounts : IsMountThroughOf e asked.options.geometry.block image
-  pub folder : ShowsFolder (packing_verified asked) events held
+  pub folder : ShowsFolder e (packing_verified asked) events held
   pub differ : AreDifferences asked.times held image.state lines
   pub counted : told.counted ≡ either folder.folder.left_out
       (either (min (length lines) (2 ^ 64 - 1)) (findings image))
@@ -43,7 +43,7 @@ pub record IsVerified (e : Endian) (asked : Verification (List ℕ)) (events : L
   pub held : State
   pub read : Happened (Did (Read asked.image image)) events
   pub mounts : MountsThroughAs e asked.options.geometry.block image shown
-  pub folder : ShowsFolder (packing_verified asked) events held
+  pub folder : ShowsFolder e (packing_verified asked) events held
   pub all : folder.folder.left_out ≡ 0
   pub same : (left right : List Entry) → AreEntries held left → AreEntries shown right
       → AreSameEntries asked.times left right

@@ -127,6 +127,7 @@ fn new_object(mode: u32, time: u32) -> Object {
         atime: time,
         mtime: time,
         ctime: time,
+        device: None,
     }
 }
 

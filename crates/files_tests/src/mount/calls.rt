@@ -96,6 +96,7 @@ const OBJECT_3: Object = Object {
     atime: 7,
     mtime: 8,
     ctime: 9,
+    device: None,
 };
 
 fn objects() -> &'static [Fact] {

@@ -8,6 +8,10 @@ pub const FILE: u32 = 0o100644;
 
 pub const DIRECTORY: u32 = 0o040755;
 
+pub const CHARACTER: u32 = 0o020600;
+
+pub const BLOCK: u32 = 0o060600;
+
 /// A version of an object: its number, its version, its mode and its size. It has the owners 1000
 /// and 100 and the times 7, 8 and 9.
 #[derive(Clone, Copy)]

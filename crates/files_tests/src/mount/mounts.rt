@@ -2,9 +2,9 @@
 
 use crate::checks::{equal, equal_at};
 use crate::mount::facts::{Fact, Live, Named, OfKind, first_wrong};
-use crate::mount::images::{DIRECTORY, FILE, Item, Version};
+use crate::mount::images::{BLOCK, CHARACTER, DIRECTORY, FILE, Item, Version};
 use byteorder::{BigEndian, LittleEndian};
-use jmount::{FindFault, Kind, Object};
+use jmount::{DeviceBytes, FindFault, Kind, Object};
 use std::alloc::Global;
 use std::process::Abort;
 use std::test::Fail;
@@ -19,6 +19,7 @@ const DEFAULT_ROOT: Object = Object {
     atime: 0,
     mtime: 0,
     ctime: 0,
+    device: None,
 };
 
 const CUT_AND_WRITTEN: Object = Object {
@@ -30,6 +31,7 @@ const CUT_AND_WRITTEN: Object = Object {
     atime: 7,
     mtime: 8,
     ctime: 9,
+    device: None,
 };
 
 const ROOT_OF_VERSION_0: Object = Object {
@@ -41,6 +43,68 @@ const ROOT_OF_VERSION_0: Object = Object {
     atime: 7,
     mtime: 8,
     ctime: 9,
+    device: None,
+};
+
+/// `/dev/null`, as little images have it.
+const OF_TWO_BYTES: Object = Object {
+    kind: Kind::CharacterDevice,
+    mode: CHARACTER,
+    uid: 1000,
+    gid: 100,
+    size: 0,
+    atime: 7,
+    mtime: 8,
+    ctime: 9,
+    device: Some(DeviceBytes::Two([3, 1])),
+};
+
+const OF_FOUR_BYTES: Object = Object {
+    kind: Kind::BlockDevice,
+    mode: BLOCK,
+    uid: 1000,
+    gid: 100,
+    size: 0,
+    atime: 7,
+    mtime: 8,
+    ctime: 9,
+    device: Some(DeviceBytes::Four([1, 2, 3, 4])),
+};
+
+const OF_TWO_ZEROS: Object = Object {
+    kind: Kind::BlockDevice,
+    mode: BLOCK,
+    uid: 1000,
+    gid: 100,
+    size: 0,
+    atime: 7,
+    mtime: 8,
+    ctime: 9,
+    device: Some(DeviceBytes::Two([0, 0])),
+};
+
+const OF_NO_NUMBER: Object = Object {
+    kind: Kind::BlockDevice,
+    mode: BLOCK,
+    uid: 1000,
+    gid: 100,
+    size: 0,
+    atime: 7,
+    mtime: 8,
+    ctime: 9,
+    device: None,
+};
+
+const FILE_OF_TWO_BYTES: Object = Object {
+    kind: Kind::Regular,
+    mode: FILE,
+    uid: 1000,
+    gid: 100,
+    size: 2,
+    atime: 7,
+    mtime: 8,
+    ctime: 9,
+    device: None,
 };
 
 /// What is there before a node is written.
@@ -187,6 +251,32 @@ fn of_root() -> &'static [Fact] {
     &[Fact::Object(1, Some(ROOT_OF_VERSION_0)), Fact::Top(1, 0)]
 }
 
+/// Devices: of two versions, the newer first, of four bytes, of a ZERO node, and of three bytes,
+/// which are no number; and a file of two bytes.
+fn devices() -> &'static [Item] {
+    &[
+        Item::Marker,
+        Item::Data(Version(2, 2, CHARACTER, 0), 0, b"\x03\x01"),
+        Item::Data(Version(2, 1, CHARACTER, 0), 0, b"\x05\x01"),
+        Item::Data(Version(3, 1, BLOCK, 0), 0, b"\x01\x02\x03\x04"),
+        Item::Zeros(Version(4, 1, BLOCK, 0), 0, 2),
+        Item::Data(Version(5, 1, BLOCK, 0), 0, b"\x01\x02\x03"),
+        Item::Data(Version(6, 1, FILE, 2), 0, b"\x03\x01"),
+    ]
+}
+
+fn of_devices() -> &'static [Fact] {
+    &[
+        Fact::Object(2, Some(OF_TWO_BYTES)),
+        Fact::Object(3, Some(OF_FOUR_BYTES)),
+        Fact::Object(4, Some(OF_TWO_ZEROS)),
+        Fact::Object(5, Some(OF_NO_NUMBER)),
+        Fact::Object(6, Some(FILE_OF_TWO_BYTES)),
+        Fact::Bytes(2, 0, 32, b""),
+        Fact::Bytes(6, 0, 32, b"\x03\x01"),
+    ]
+}
+
 fn mounts_in_either_order(
     rt: &impl Abort,
     alloc: Global,
@@ -217,6 +307,7 @@ fn images_mount_in_either_order(rt: HostRuntime) -> Result<(), Fail> {
         ("twins that are equal", twins(), of_twins()),
         ("names that stand for nothing", dangling(), of_dangling()),
         ("a root of version 0", root(), of_root()),
+        ("the numbers of devices", devices(), of_devices()),
     ] {
         mounts_in_either_order(&rt, rt.alloc(), about, items, facts)?;
     }

@@ -8,4 +8,4 @@ pub returns : goal.returns
 returns c =
     let stored = c.args.stored.now in
     let size = sym (length-each_below stored.size (λ place. byte_at (visible_in stored.bytes place))) in
-    λ i. record { kind = c.kind_of.ensures i; mode = stored.mode; uid = stored.uid; gid = stored.gid; size = size i; atime = stored.atime; mtime = stored.mtime; ctime = stored.ctime }
+    λ i. record { kind = c.kind_of.ensures i; mode = stored.mode; uid = stored.uid; gid = stored.gid; size = size i; atime = stored.atime; mtime = stored.mtime; ctime = stored.ctime; device = stored.device }

@@ -25,5 +25,5 @@ returns-clause-made c =
     λ place. subst (λ (ps : List Piece). IsHighestAt ps place (visible_in c.in_ok-bytes.bytes place)) pieces (c.in_ok-bytes.ensures.highest place) in
     let latest = c.args.versions.now.newest in
     let body = content-visible c.args.versions.now c.requires.by_version (visible_in c.in_ok-bytes.bytes) highest latest.isize in
-    ap (λ bytes. Some (with_bytes latest bytes, latest.version)) body
+    (λ i. Some (record (with_bytes latest (body i)) { device = c.device_of.ensures i }, latest.version))
     ∙ ap (option_map (λ node. (object_by (nodes_in c.args.versions.now) node, node.version))) (sym (latest_is c.args.versions.now c.requires.by_version))

@@ -1,4 +1,4 @@
-use Rattle.std.proofs.Common.{◌≡◌, ◌≤◌, refl, arith}
+use Rattle.std.proofs.Common.{◌≡◌, ◌≤◌, None, refl, arith}
 use Rattle.jname.proofs.ContentsByNameLemmas.{err_always}
 use Rattle.jsteps.specs.declared.stored.Stored.{Stored}
 use Rattle.jsteps.proofs.AdvancingLemmas.{next_is, make_advanced, unchanged, get-unchanged}
@@ -34,4 +34,4 @@ returns-clause-ok c =
     let a = c.args in
     let stored : Stored = record { mode = a.mode; uid = a.uid; gid = a.gid; size = c.own_len.result; atime = a.time; mtime = a.time; ctime = a.time; top = 1 } in
     make_advanced m.objects m.names m.next x c.self.view_is c.put_object.new.objects a.time a.mode a.uid a.gid a.target.now stored c.in_ok-put_object.ensures.ok
-    (λ i. record { mode = a.mode; uid = a.uid; gid = a.gid; atime = a.time; mtime = a.time; ctime = a.time; body = c.own_len.ensures i }) refl
+    (λ i. record { mode = a.mode; uid = a.uid; gid = a.gid; atime = a.time; mtime = a.time; ctime = a.time; device = None; body = c.own_len.ensures i }) refl
