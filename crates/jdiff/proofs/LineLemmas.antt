@@ -1,10 +1,14 @@
 -- Lines that go out one after another.
-use Rattle.std.proofs.Common.{◌≡◌, ℕ, ◌≤◌, cond, true, false, length, arith, None, Bool, List, [], ◌∷◌, ◌++◌, sym, ap, ◌∙◌, subst, append-nil, Option, Some}
+use Rattle.std.proofs.Common.{◌≡◌, ℕ, ◌≤◌, cond, true, false, ◌+◌, length, arith, None, Bool, List, [], ◌∷◌, ◌++◌, sym, ap, ◌∙◌, subst, append-nil, Option, Some}
 use Rattle.std.specs.Prelude.{Result, Ok, IsErr}
+use Rattle.std.specs.List.{flat_map}
+use Rattle.std.proofs.lemmas.Grind.{flat_map-append}
+use Rattle.std.proofs.lemmas.List.{length-append}
 use Rattle.std.specs.Io.KnownBytes.{Appends}
 use Rattle.flashbase.specs.Device.{PutsPart, Puts, next_count}
 use Rattle.jdiff.specs.Entries.{Entry}
-use Rattle.jdiff.specs.Changes.{is_symlink, both_lines, bytes_differ_line, bytes_changes, is_same_object, first_difference, changes}
+use Rattle.jdiff.specs.Changes.{is_symlink, both_lines, bytes_differ_line, bytes_changes, is_same_object, first_difference, object_changes, number_of, is_same_number, number_differs_line, number_changes, changes}
+use Rattle.jdiff.specs.declared.comparing.Comparing.{Comparing}
 use Rattle.flashbase.proofs.DeviceLemmas.{part_before, first_failed, then_puts, then_failed}
 
 -- a line alone
@@ -36,10 +40,14 @@ bytes_told times x y o k b is kind =
     ap (bytes_changes times x y) is ∙ ap (λ (c : Bool). cond c (both_lines times x y) (bytes_differ_line x.path k ∷ [])) kind
 
 pub both_told : (times : Bool) (x y : Entry) (b : Bool) → is_same_object times x.object y.object ≡ b
-    → changes times (Some x) (Some y) ≡ cond b (bytes_changes times x y (first_difference x.bytes y.bytes)) (both_lines times x y)
+    → object_changes times x y ≡ cond b (bytes_changes times x y (first_difference x.bytes y.bytes)) (both_lines times x y)
 both_told times x y b same = ap (λ (c : Bool). cond c (bytes_changes times x y (first_difference x.bytes y.bytes)) (both_lines times x y)) same
 
--- ---- at most two lines
+-- the lines on two objects, and then that on their numbers
+pub numbers_told : (xs ys : List (List ℕ)) → flat_map (λ line. line) (xs ++ ys) ≡ flat_map (λ line. line) xs ++ flat_map (λ line. line) ys
+numbers_told xs ys = flat_map-append (λ (line : List ℕ). line) xs ys
+
+-- ---- at most three lines
 
 bytes_few : (times : Bool) (x y : Entry) (o : Option ℕ) → length (bytes_changes times x y o) ≤ 2
 bytes_few times x y None = omega arith
@@ -49,12 +57,28 @@ bytes_few times x y (Some k) = by (is_symlink x.object.kind)
     by true = omega arith
     by false = omega arith
 
-pub changes_few : (times : Bool) (left right : Option Entry) → length (changes times left right) ≤ 2
-changes_few times None None = omega arith
-changes_few times (Some x) None = omega arith
-changes_few times None (Some y) = omega arith
-changes_few times (Some x) (Some y) = by (is_same_object times x.object y.object)
+pub objects_few : (times : Bool) (x y : Entry) → length (object_changes times x y) ≤ 2
+objects_few times x y = by (is_same_object times x.object y.object)
   where
     by : (b : Bool) → length (cond b (bytes_changes times x y (first_difference x.bytes y.bytes)) (both_lines times x y)) ≤ 2
     by true = bytes_few times x y (first_difference x.bytes y.bytes)
     by false = omega arith
+
+pub numbers_few : (path : List (List ℕ)) (m n : Option (ℕ × ℕ)) → length (number_changes path m n) ≤ 1
+numbers_few path m n = by (is_same_number m n)
+  where
+    by : (b : Bool) → length (cond b [] (number_differs_line path m n ∷ [])) ≤ 1
+    by true = omega arith
+    by false = omega arith
+
+pub changes_few : (how : Comparing) (left right : Option Entry) → length (changes how left right) ≤ 3
+changes_few how None None = omega arith
+changes_few how (Some x) None = omega arith
+changes_few how None (Some y) = omega arith
+changes_few how (Some x) (Some y) =
+    let m = number_of how.order x.object in
+    let n = number_of how.order y.object in
+    let first : length (object_changes how.times x y) ≤ 2 = objects_few how.times x y in
+    let more : length (number_changes x.path m n) ≤ 1 = numbers_few x.path m n in
+    let both : length (object_changes how.times x y ++ number_changes x.path m n) ≡ length (object_changes how.times x y) + length (number_changes x.path m n) = length-append (object_changes how.times x y) (number_changes x.path m n) in
+    omega arith

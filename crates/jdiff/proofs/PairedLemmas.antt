@@ -6,12 +6,13 @@ use Rattle.jreport.specs.TreeText.{none_met}
 use Rattle.jdiff.specs.Differing.{AreDifferences}
 use Rattle.jdiff.specs.Pairing.{Place, lines_on}
 use Rattle.jdiff.specs.Walking.{AreSpotPlaces, root_spot}
+use Rattle.jdiff.specs.declared.comparing.Comparing.{Comparing}
 use Rattle.jdiff.proofs.OrderLemmas.{root_in_order}
 use Rattle.jdiff.proofs.PlaceLemmas.{lefts_of, rights_of, paths_of}
 
-pub differences_of : (times : Bool) (s t : State) (places : List Place) → AreSpotPlaces s t none_met none_met (root_spot ∷ []) places
-    → AreDifferences times s t (lines_on times places)
-differences_of times s t places are =
+pub differences_of : (how : Comparing) (s t : State) (places : List Place) → AreSpotPlaces s t none_met none_met (root_spot ∷ []) places
+    → AreDifferences how s t (lines_on how places)
+differences_of how s t places are =
     let lefts = lefts_of s t (root_spot ∷ []) none_met none_met places are in
     let rights = rights_of s t (root_spot ∷ []) none_met none_met places are in
     record {

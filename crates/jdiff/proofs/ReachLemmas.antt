@@ -22,6 +22,7 @@ use Rattle.jdiff.specs.Pairing.{Place, lines_on, text_on, count_on}
 use Rattle.jdiff.specs.Walking.{Spot, spot_entry, met_by, entered_at, spot_place, spots_after, AreSpotPlaces, root_spot, spot_lines, spot_text, spots_up, spots_left, AreLeft, pairs_open, entered_names, PassesUp, PutsNextPlace, PutsPartOfLeft}
 use Rattle.jdiff.specs.declared.walk.Walk.{Walk}
 use Rattle.jdiff.specs.declared.walk.Visited.{Visited}
+use Rattle.jdiff.specs.declared.comparing.Comparing.{Comparing}
 use Rattle.jdiff.proofs.LineLemmas.{changes_few}
 use Rattle.jdiff.proofs.PairedLemmas.{differences_of}
 use Rattle.jdiff.proofs.PlaceLemmas.{left_item, right_item, left_spots, right_spots, has_places}
@@ -89,10 +90,10 @@ ahead_after s t a b c d spot rest needs ours theirs =
 -- ---- from the roots on
 
 -- the lines on these places went out, and with those that are left they are all
-pub record ReachesPlaces (times : Bool) (s t : State) (w : Walk) (old new : Option (List ℕ)) (count : ℕ) : Type 0 where
+pub record ReachesPlaces (how : Comparing) (s t : State) (w : Walk) (old new : Option (List ℕ)) (count : ℕ) : Type 0 where
   pub done : List Place
-  pub put : Appends old new (text_on times done)
-  pub counted : count ≡ min (count_on times done) (2 ^ 64 - 1)
+  pub put : Appends old new (text_on how done)
+  pub counted : count ≡ min (count_on how done) (2 ^ 64 - 1)
   pub rest : (places : List Place) → AreLeft s t w places → AreSpotPlaces s t none_met none_met (root_spot ∷ []) (done ++ places)
 
 abbrev pub root_place : State → State → MetDirectories → MetDirectories → Place
@@ -117,62 +118,62 @@ root_here s t w a b v path left above ours theirs =
 pub roots_need : (s t : State) (a b : MetDirectories) → RemembersNone s a → RemembersNone t b → NeedsBoth s t a b (root_spot ∷ [])
 roots_need s t a b none nothing = record { left = needs_first s a ([], 1) none refl; right = needs_first t b ([], 1) nothing refl }
 
-pub needs_below : (times : Bool) (s t : State) (w : Walk) (a b : MetDirectories) (v : Visited) (old new : Option (List ℕ)) (before now : ℕ) → NeedsBoth s t a b (root_spot ∷ [])
+pub needs_below : (how : Comparing) (s t : State) (w : Walk) (a b : MetDirectories) (v : Visited) (old new : Option (List ℕ)) (before now : ℕ) → NeedsBoth s t a b (root_spot ∷ [])
     → w.path.items ≡ [] → w.left ≡ joined (names_there s v.left) (names_there t v.right) → w.above.items ≡ []
-    → PutsSpotOn times s t a b w.met_left w.met_right root_spot old new before now (Ok v) → NeedsLeft s t w
-needs_below times s t w a b v old new before now needs path left above put =
+    → PutsSpotOn how s t a b w.met_left w.met_right root_spot old new before now (Ok v) → NeedsLeft s t w
+needs_below how s t w a b v old new before now needs path left above put =
     subst (NeedsBoth s t w.met_left w.met_right) (sym (root_here s t w a b v path left above put.1 put.2))
     (needs_after s t a b w.met_left w.met_right root_spot [] needs put.3 put.4)
 
-pub roots_entered : (times : Bool) (s t : State) (w : Walk) (a b : MetDirectories) (v : Visited) (old new : Option (List ℕ)) (before now : ℕ) → NeedsBoth s t a b (root_spot ∷ [])
+pub roots_entered : (how : Comparing) (s t : State) (w : Walk) (a b : MetDirectories) (v : Visited) (old new : Option (List ℕ)) (before now : ℕ) → NeedsBoth s t a b (root_spot ∷ [])
     → remembered a ≡ none_met → remembered b ≡ none_met → w.path.items ≡ [] → w.left ≡ joined (names_there s v.left) (names_there t v.right) → w.above.items ≡ []
-    → PutsSpotOn times s t a b w.met_left w.met_right root_spot old new before now (Ok v) → ReachesPlaces times s t w old new v.lines
-roots_entered times s t w a b v old new before now needs none nothing path left above put =
-    let lines = spot_lines times s t a b root_spot in
+    → PutsSpotOn how s t a b w.met_left w.met_right root_spot old new before now (Ok v) → ReachesPlaces how s t w old new v.lines
+roots_entered how s t w a b v old new before now needs none nothing path left above put =
+    let lines = spot_lines how s t a b root_spot in
     let count : v.lines ≡ length (lines ++ []) = put.0 ∙ ap length (sym (append-nil lines)) in
     record {
       done = root_place s t a b ∷ [];
       put = subst (λ (l : List (List ℕ)). Appends old new (flat_map (λ line. line) l)) (sym (append-nil lines)) put.5;
       counted = least v.lines (length lines) (length (lines ++ [])) put.0 count
-          (changes_few times (spot_entry s (remembered a) [] (Some 1)) (spot_entry t (remembered b) [] (Some 1)));
+          (changes_few how (spot_entry s (remembered a) [] (Some 1)) (spot_entry t (remembered b) [] (Some 1)));
       rest = λ places are. root_places s t a b places none nothing
           (after_spot s t a b w.met_left w.met_right root_spot [] places needs put.3 put.4
           (subst (λ (todo : List Spot). AreSpotPlaces s t (remembered w.met_left) (remembered w.met_right) todo places) (root_here s t w a b v path left above put.1 put.2) are));
     }
   where
-    least : (n k m : ℕ) → n ≡ k → n ≡ m → k ≤ 2 → n ≡ min m (2 ^ 64 - 1)
+    least : (n k m : ℕ) → n ≡ k → n ≡ m → k ≤ 3 → n ≡ min m (2 ^ 64 - 1)
     least n k m own is small = omega arith
 
 -- a beginning of the lines on the roots went out
-roots_part : (times : Bool) (s t : State) (a b : MetDirectories) (old new : Option (List ℕ)) → remembered a ≡ none_met → remembered b ≡ none_met → PutsPart old new (spot_text times s t a b root_spot)
-    → PutsPartOfDifferences times s t old new
-roots_part times s t a b old new none nothing part =
+roots_part : (how : Comparing) (s t : State) (a b : MetDirectories) (old new : Option (List ℕ)) → remembered a ≡ none_met → remembered b ≡ none_met → PutsPart old new (spot_text how s t a b root_spot)
+    → PutsPartOfDifferences how s t old new
+roots_part how s t a b old new none nothing part =
     let rest = has_places s t (met_by s (remembered a) (Some 1)) (met_by t (remembered b) (Some 1)) (spots_after s t (remembered a) (remembered b) root_spot []) in
     let places : List Place = root_place s t a b ∷ rest.0 in (
-      lines_on times places,
-      differences_of times s t places (root_places s t a b rest.0 none nothing (refl, rest.1)),
-      subst (PutsPart old new) (sym (flat_map-append (λ (line : List ℕ). line) (spot_lines times s t a b root_spot) (lines_on times rest.0)))
-          (part_before old new (spot_text times s t a b root_spot) (text_on times rest.0) part),
+      lines_on how places,
+      differences_of how s t places (root_places s t a b rest.0 none nothing (refl, rest.1)),
+      subst (PutsPart old new) (sym (flat_map-append (λ (line : List ℕ). line) (spot_lines how s t a b root_spot) (lines_on how rest.0)))
+          (part_before old new (spot_text how s t a b root_spot) (text_on how rest.0) part),
     )
 
-pub roots_failed : (times : Bool) (s t : State) (a b c d : MetDirectories) (fault : ProgramFault) (old new : Option (List ℕ)) (before now : ℕ) → remembered a ≡ none_met → remembered b ≡ none_met
-    → PutsSpotOn times s t a b c d root_spot old new before now (Err fault) → PutsDifferences times s t old new before now (Err fault)
-roots_failed times s t a b c d Output old new before now none nothing put = (roots_part times s t a b old new none nothing put.0, put.1)
-roots_failed times s t a b c d OutOfMemory old new before now none nothing put = (roots_part times s t a b old new none nothing (0, put.0), put.1)
-roots_failed times s t a b c d (program.Load f) old new before now none nothing put = absurd put
-roots_failed times s t a b c d (program.Scan f) old new before now none nothing put = absurd put
-roots_failed times s t a b c d (program.Mount f) old new before now none nothing put = absurd put
-roots_failed times s t a b c d (program.File f) old new before now none nothing put = absurd put
-roots_failed times s t a b c d (program.NotRead f) old new before now none nothing put = absurd put
-roots_failed times s t a b c d (program.Listing line) old new before now none nothing put = absurd put
-roots_failed times s t a b c d (program.Session f line cause) old new before now none nothing put = absurd put
-roots_failed times s t a b c d (program.Path f) old new before now none nothing put = absurd put
-roots_failed times s t a b c d program.NotRegular old new before now none nothing put = absurd put
-roots_failed times s t a b c d (program.NoSpace folder) old new before now none nothing put = absurd put
-roots_failed times s t a b c d (program.Data addr) old new before now none nothing put = absurd put
-roots_failed times s t a b c d (program.TooLong addr) old new before now none nothing put = absurd put
-roots_failed times s t a b c d (program.Image why) old new before now none nothing put = absurd put
-roots_failed times s t a b c d (program.Clash addr other) old new before now none nothing put = absurd put
+pub roots_failed : (how : Comparing) (s t : State) (a b c d : MetDirectories) (fault : ProgramFault) (old new : Option (List ℕ)) (before now : ℕ) → remembered a ≡ none_met → remembered b ≡ none_met
+    → PutsSpotOn how s t a b c d root_spot old new before now (Err fault) → PutsDifferences how s t old new before now (Err fault)
+roots_failed how s t a b c d Output old new before now none nothing put = (roots_part how s t a b old new none nothing put.0, put.1)
+roots_failed how s t a b c d OutOfMemory old new before now none nothing put = (roots_part how s t a b old new none nothing (0, put.0), put.1)
+roots_failed how s t a b c d (program.Load f) old new before now none nothing put = absurd put
+roots_failed how s t a b c d (program.Scan f) old new before now none nothing put = absurd put
+roots_failed how s t a b c d (program.Mount f) old new before now none nothing put = absurd put
+roots_failed how s t a b c d (program.File f) old new before now none nothing put = absurd put
+roots_failed how s t a b c d (program.NotRead f) old new before now none nothing put = absurd put
+roots_failed how s t a b c d (program.Listing line) old new before now none nothing put = absurd put
+roots_failed how s t a b c d (program.Session f line cause) old new before now none nothing put = absurd put
+roots_failed how s t a b c d (program.Path f) old new before now none nothing put = absurd put
+roots_failed how s t a b c d program.NotRegular old new before now none nothing put = absurd put
+roots_failed how s t a b c d (program.NoSpace folder) old new before now none nothing put = absurd put
+roots_failed how s t a b c d (program.Data addr) old new before now none nothing put = absurd put
+roots_failed how s t a b c d (program.TooLong addr) old new before now none nothing put = absurd put
+roots_failed how s t a b c d (program.Image why) old new before now none nothing put = absurd put
+roots_failed how s t a b c d (program.Clash addr other) old new before now none nothing put = absurd put
 
 -- ---- a step
 
@@ -185,37 +186,37 @@ up_places s t w n old new count places up are =
 abbrev next_place : State → State → Walk → Spot → Place
 next_place s t w spot = spot_place s t (remembered w.met_left) (remembered w.met_right) spot
 
-next_needs : (times : Bool) (s t : State) (w n : Walk) (old new : Option (List ℕ)) (count : ℕ) (next : PutsNextPlace times s t w n old new count) → NeedsLeft s t w
+next_needs : (how : Comparing) (s t : State) (w n : Walk) (old new : Option (List ℕ)) (count : ℕ) (next : PutsNextPlace how s t w n old new count) → NeedsLeft s t w
     → NeedsBoth s t w.met_left w.met_right (next.spot ∷ next.rest)
-next_needs times s t w n old new count next needs = subst (NeedsBoth s t w.met_left w.met_right) next.todo needs
+next_needs how s t w n old new count next needs = subst (NeedsBoth s t w.met_left w.met_right) next.todo needs
 
-next_places : (times : Bool) (s t : State) (w n : Walk) (old new : Option (List ℕ)) (count : ℕ) (places : List Place) (next : PutsNextPlace times s t w n old new count) → NeedsLeft s t w
+next_places : (how : Comparing) (s t : State) (w n : Walk) (old new : Option (List ℕ)) (count : ℕ) (places : List Place) (next : PutsNextPlace how s t w n old new count) → NeedsLeft s t w
     → AreLeft s t n places → AreLeft s t w (next_place s t w next.spot ∷ places)
-next_places times s t w n old new count places next needs are =
+next_places how s t w n old new count places next needs are =
     subst (λ (todo : List Spot). AreSpotPlaces s t (remembered w.met_left) (remembered w.met_right) todo (next_place s t w next.spot ∷ places)) (sym next.todo)
-    (after_spot s t w.met_left w.met_right n.met_left n.met_right next.spot next.rest places (next_needs times s t w n old new count next needs) next.left next.right
+    (after_spot s t w.met_left w.met_right n.met_left n.met_right next.spot next.rest places (next_needs how s t w n old new count next needs) next.left next.right
     (subst (λ (todo : List Spot). AreSpotPlaces s t (remembered n.met_left) (remembered n.met_right) todo places) next.todo_then are))
 
-pub needs_on : (times : Bool) (s t : State) (w n : Walk) (old new : Option (List ℕ)) (before now count : ℕ) → NeedsLeft s t w → PutsPairStepOn times s t w n old new before now (Ok (Some count))
+pub needs_on : (how : Comparing) (s t : State) (w n : Walk) (old new : Option (List ℕ)) (before now count : ℕ) → NeedsLeft s t w → PutsPairStepOn how s t w n old new before now (Ok (Some count))
     → NeedsLeft s t n
-needs_on times s t w n old new before now count needs put =
+needs_on how s t w n old new before now count needs put =
     ⊎_elim
     (λ (up : PassesUp w n old new count).
     subst (λ (m : MetDirectories). NeedsBoth s t m n.met_right (spots_left n)) (sym up.left)
     (subst (λ (m : MetDirectories). NeedsBoth s t w.met_left m (spots_left n)) (sym up.right)
     (subst (NeedsBoth s t w.met_left w.met_right) (sym up.todo) needs)))
-    (λ (next : PutsNextPlace times s t w n old new count).
+    (λ (next : PutsNextPlace how s t w n old new count).
     subst (NeedsBoth s t n.met_left n.met_right) (sym next.todo_then)
-    (needs_after s t w.met_left w.met_right n.met_left n.met_right next.spot next.rest (next_needs times s t w n old new count next needs) next.left next.right))
+    (needs_after s t w.met_left w.met_right n.met_left n.met_right next.spot next.rest (next_needs how s t w n old new count next needs) next.left next.right))
     put.0
 
 -- how far it is to the end
 abbrev pub steps_to_go : State → State → Walk → ℕ
 steps_to_go s t w = 2 * both_ahead s t w.met_left w.met_right (spots_left w) + pairs_open w
 
-pub comes_nearer : (times : Bool) (s t : State) (w n : Walk) (old new : Option (List ℕ)) (before now count : ℕ) → NeedsLeft s t w → PutsPairStepOn times s t w n old new before now (Ok (Some count))
+pub comes_nearer : (how : Comparing) (s t : State) (w n : Walk) (old new : Option (List ℕ)) (before now count : ℕ) → NeedsLeft s t w → PutsPairStepOn how s t w n old new before now (Ok (Some count))
     → steps_to_go s t n < steps_to_go s t w
-comes_nearer times s t w n old new before now count needs put =
+comes_nearer how s t w n old new before now count needs put =
     ⊎_elim
     (λ (up : PassesUp w n old new count).
     let same : both_ahead s t n.met_left n.met_right (spots_left n) ≡ both_ahead s t w.met_left w.met_right (spots_left w) =
@@ -223,12 +224,12 @@ comes_nearer times s t w n old new before now count needs put =
     ∙ ap (λ (m : MetDirectories). both_ahead s t m n.met_right (spots_left w)) up.left
     ∙ ap (λ (m : MetDirectories). both_ahead s t w.met_left m (spots_left w)) up.right in
     omega (arith, same, up.nearer))
-    (λ (next : PutsNextPlace times s t w n old new count).
+    (λ (next : PutsNextPlace how s t w n old new count).
     let here : both_ahead s t w.met_left w.met_right (spots_left w) ≡ both_ahead s t w.met_left w.met_right (next.spot ∷ next.rest) =
     ap (both_ahead s t w.met_left w.met_right) next.todo in
     let then : both_ahead s t n.met_left n.met_right (spots_left n) ≡ both_ahead s t n.met_left n.met_right (spots_after s t (remembered w.met_left) (remembered w.met_right) next.spot next.rest) =
     ap (both_ahead s t n.met_left n.met_right) next.todo_then in
-    let falls = ahead_after s t w.met_left w.met_right n.met_left n.met_right next.spot next.rest (next_needs times s t w n old new count next needs) next.left next.right in
+    let falls = ahead_after s t w.met_left w.met_right n.met_left n.met_right next.spot next.rest (next_needs how s t w n old new count next needs) next.left next.right in
     less (both_ahead s t w.met_left w.met_right (spots_left w)) (both_ahead s t n.met_left n.met_right (spots_left n)) _ _
     (length (entered_names s w.met_left next.spot.1) + length (entered_names t w.met_right next.spot.2)) (pairs_open n) (pairs_open w) here then falls next.nearer)
     put.0
@@ -236,28 +237,28 @@ comes_nearer times s t w n old new before now count needs put =
     less : (a b c d m x y : ℕ) → a ≡ c → b ≡ d → m + d ≤ c → x < y + 2 * m → 2 * b + x < 2 * a + y
     less a b c d m x y is too falls near = omega arith
 
-pub places_on : (times : Bool) (s t : State) (w n : Walk) (a b c : Option (List ℕ)) (count more next before now : ℕ) → NeedsLeft s t w → ReachesPlaces times s t w a b count
-    → PutsPairStepOn times s t w n b c before now (Ok (Some more)) → next ≡ min (count + more) (2 ^ 64 - 1) → ReachesPlaces times s t n a c next
-places_on times s t w n a b c count more next before now needs far put sum =
+pub places_on : (how : Comparing) (s t : State) (w n : Walk) (a b c : Option (List ℕ)) (count more next before now : ℕ) → NeedsLeft s t w → ReachesPlaces how s t w a b count
+    → PutsPairStepOn how s t w n b c before now (Ok (Some more)) → next ≡ min (count + more) (2 ^ 64 - 1) → ReachesPlaces how s t n a c next
+places_on how s t w n a b c count more next before now needs far put sum =
     ⊎_elim
     (λ (up : PassesUp w n b c more). record {
       done = far.done;
-      put = subst (Appends a c) (append-nil (text_on times far.done)) (Appends-trans a b c (text_on times far.done) [] far.put up.put);
-      counted = stayed (count_on times far.done) far.counted up.counted;
+      put = subst (Appends a c) (append-nil (text_on how far.done)) (Appends-trans a b c (text_on how far.done) [] far.put up.put);
+      counted = stayed (count_on how far.done) far.counted up.counted;
       rest = λ places are. far.rest places (up_places s t w n b c more places up are);
     })
-    (λ (put : PutsNextPlace times s t w n b c more).
+    (λ (put : PutsNextPlace how s t w n b c more).
     let place = next_place s t w put.spot in
-    let lines = spot_lines times s t w.met_left w.met_right put.spot in
-    let alone : lines_on times (place ∷ []) ≡ lines = append-nil lines in
+    let lines = spot_lines how s t w.met_left w.met_right put.spot in
+    let alone : lines_on how (place ∷ []) ≡ lines = append-nil lines in
     record {
       done = far.done ++ place ∷ [];
-      put = subst (Appends a c) (sym (text_join times far.done (place ∷ [])))
-          (Appends-trans a b c (text_on times far.done) (text_on times (place ∷ [])) far.put (subst (λ (l : List (List ℕ)). Appends b c (flat_map (λ line. line) l)) (sym alone) put.put));
-      counted = added (count_on times far.done) (count_on times (place ∷ [])) (count_on times (far.done ++ place ∷ [])) far.counted (put.counted ∙ ap length (sym alone)) (count_join times far.done (place ∷ []));
+      put = subst (Appends a c) (sym (text_join how far.done (place ∷ [])))
+          (Appends-trans a b c (text_on how far.done) (text_on how (place ∷ [])) far.put (subst (λ (l : List (List ℕ)). Appends b c (flat_map (λ line. line) l)) (sym alone) put.put));
+      counted = added (count_on how far.done) (count_on how (place ∷ [])) (count_on how (far.done ++ place ∷ [])) far.counted (put.counted ∙ ap length (sym alone)) (count_join how far.done (place ∷ []));
       rest = λ places are.
           subst (AreSpotPlaces s t none_met none_met (root_spot ∷ [])) (sym (append_assoc far.done (place ∷ []) places))
-          (far.rest (place ∷ places) (next_places times s t w n b c more places put needs are));
+          (far.rest (place ∷ places) (next_places how s t w n b c more places put needs are));
     })
     put.0
   where
@@ -267,47 +268,47 @@ places_on times s t w n a b c count more next before now needs far put sum =
     added : (x y z : ℕ) → count ≡ min x (2 ^ 64 - 1) → more ≡ y → z ≡ x + y → next ≡ min z (2 ^ 64 - 1)
     added x y z is own both = omega arith
 
-pub places_end : (times : Bool) (s t : State) (w n : Walk) (a b c : Option (List ℕ)) (count first before now : ℕ) → ReachesPlaces times s t w a b count → before ≡ first
-    → PutsPairStepOn times s t w n b c before now (Ok None) → PutsDifferences times s t a c first now (Ok count)
-places_end times s t w n a b c count first before now far same put = (
-  lines_on times far.done,
-  differences_of times s t far.done
+pub places_end : (how : Comparing) (s t : State) (w n : Walk) (a b c : Option (List ℕ)) (count first before now : ℕ) → ReachesPlaces how s t w a b count → before ≡ first
+    → PutsPairStepOn how s t w n b c before now (Ok None) → PutsDifferences how s t a c first now (Ok count)
+places_end how s t w n a b c count first before now far same put = (
+  lines_on how far.done,
+  differences_of how s t far.done
       (subst (AreSpotPlaces s t none_met none_met (root_spot ∷ [])) (append-nil far.done)
       (far.rest [] (subst (λ (todo : List Spot). AreSpotPlaces s t (remembered w.met_left) (remembered w.met_right) todo []) (sym put.0) refl))),
   far.counted,
-  subst (Appends a c) (append-nil (text_on times far.done)) (Appends-trans a b c (text_on times far.done) [] far.put put.1),
+  subst (Appends a c) (append-nil (text_on how far.done)) (Appends-trans a b c (text_on how far.done) [] far.put put.1),
   put.2 ∙ same,
 )
 
-part_of_all : (times : Bool) (s t : State) (w : Walk) (a b c : Option (List ℕ)) (count : ℕ) → ReachesPlaces times s t w a b count → PutsPartOfLeft times s t w b c
-    → PutsPartOfDifferences times s t a c
-part_of_all times s t w a b c count far part = (
-  lines_on times (far.done ++ part.0),
-  differences_of times s t (far.done ++ part.0) (far.rest part.0 part.1),
-  subst (PutsPart a c) (sym (text_join times far.done part.0)) (part_behind a b c (text_on times far.done) (text_on times part.0) far.put part.2),
+part_of_all : (how : Comparing) (s t : State) (w : Walk) (a b c : Option (List ℕ)) (count : ℕ) → ReachesPlaces how s t w a b count → PutsPartOfLeft how s t w b c
+    → PutsPartOfDifferences how s t a c
+part_of_all how s t w a b c count far part = (
+  lines_on how (far.done ++ part.0),
+  differences_of how s t (far.done ++ part.0) (far.rest part.0 part.1),
+  subst (PutsPart a c) (sym (text_join how far.done part.0)) (part_behind a b c (text_on how far.done) (text_on how part.0) far.put part.2),
 )
 
-pub pair_stopped : (times : Bool) (s t : State) (w n : Walk) (fault : ProgramFault) (a b c : Option (List ℕ)) (count first before now : ℕ) → ReachesPlaces times s t w a b count → before ≡ first
-    → PutsPairStepOn times s t w n b c before now (Err fault) → PutsDifferences times s t a c first now (Err fault)
-pair_stopped times s t w n Output a b c count first before now far same put = (part_of_all times s t w a b c count far put.0, put.1 ∙ ap next_count same)
-pair_stopped times s t w n OutOfMemory a b c count first before now far same put = (part_of_all times s t w a b c count far put.0, put.1 ∙ same)
-pair_stopped times s t w n (program.Load f) a b c count first before now far same put = absurd put
-pair_stopped times s t w n (program.Scan f) a b c count first before now far same put = absurd put
-pair_stopped times s t w n (program.Mount f) a b c count first before now far same put = absurd put
-pair_stopped times s t w n (program.File f) a b c count first before now far same put = absurd put
-pair_stopped times s t w n (program.NotRead f) a b c count first before now far same put = absurd put
-pair_stopped times s t w n (program.Listing line) a b c count first before now far same put = absurd put
-pair_stopped times s t w n (program.Session f line cause) a b c count first before now far same put = absurd put
-pair_stopped times s t w n (program.Path f) a b c count first before now far same put = absurd put
-pair_stopped times s t w n program.NotRegular a b c count first before now far same put = absurd put
-pair_stopped times s t w n (program.NoSpace folder) a b c count first before now far same put = absurd put
-pair_stopped times s t w n (program.Data addr) a b c count first before now far same put = absurd put
-pair_stopped times s t w n (program.TooLong addr) a b c count first before now far same put = absurd put
-pair_stopped times s t w n (program.Image why) a b c count first before now far same put = absurd put
-pair_stopped times s t w n (program.Clash addr other) a b c count first before now far same put = absurd put
+pub pair_stopped : (how : Comparing) (s t : State) (w n : Walk) (fault : ProgramFault) (a b c : Option (List ℕ)) (count first before now : ℕ) → ReachesPlaces how s t w a b count → before ≡ first
+    → PutsPairStepOn how s t w n b c before now (Err fault) → PutsDifferences how s t a c first now (Err fault)
+pair_stopped how s t w n Output a b c count first before now far same put = (part_of_all how s t w a b c count far put.0, put.1 ∙ ap next_count same)
+pair_stopped how s t w n OutOfMemory a b c count first before now far same put = (part_of_all how s t w a b c count far put.0, put.1 ∙ same)
+pair_stopped how s t w n (program.Load f) a b c count first before now far same put = absurd put
+pair_stopped how s t w n (program.Scan f) a b c count first before now far same put = absurd put
+pair_stopped how s t w n (program.Mount f) a b c count first before now far same put = absurd put
+pair_stopped how s t w n (program.File f) a b c count first before now far same put = absurd put
+pair_stopped how s t w n (program.NotRead f) a b c count first before now far same put = absurd put
+pair_stopped how s t w n (program.Listing line) a b c count first before now far same put = absurd put
+pair_stopped how s t w n (program.Session f line cause) a b c count first before now far same put = absurd put
+pair_stopped how s t w n (program.Path f) a b c count first before now far same put = absurd put
+pair_stopped how s t w n program.NotRegular a b c count first before now far same put = absurd put
+pair_stopped how s t w n (program.NoSpace folder) a b c count first before now far same put = absurd put
+pair_stopped how s t w n (program.Data addr) a b c count first before now far same put = absurd put
+pair_stopped how s t w n (program.TooLong addr) a b c count first before now far same put = absurd put
+pair_stopped how s t w n (program.Image why) a b c count first before now far same put = absurd put
+pair_stopped how s t w n (program.Clash addr other) a b c count first before now far same put = absurd put
 
-pub differences_failed : (times : Bool) (s t : State) (old new : Option (List ℕ)) (before now : ℕ) (r : Result ℕ ProgramFault) (fault : ProgramFault)
-    → IsErrAnd r (λ e. e ≡ fault) → PutsDifferences times s t old new before now (Err fault) → PutsDifferences times s t old new before now r
-differences_failed times s t old new before now (Ok x) fault is put = absurd is
-differences_failed times s t old new before now (Err e) fault is put =
-    subst (λ (y : ProgramFault). PutsDifferences times s t old new before now (Err y)) (sym is) put
+pub differences_failed : (how : Comparing) (s t : State) (old new : Option (List ℕ)) (before now : ℕ) (r : Result ℕ ProgramFault) (fault : ProgramFault)
+    → IsErrAnd r (λ e. e ≡ fault) → PutsDifferences how s t old new before now (Err fault) → PutsDifferences how s t old new before now r
+differences_failed how s t old new before now (Ok x) fault is put = absurd is
+differences_failed how s t old new before now (Err e) fault is put =
+    subst (λ (y : ProgramFault). PutsDifferences how s t old new before now (Err y)) (sym is) put

@@ -23,24 +23,25 @@ use Rattle.jdiff.specs.Pairing.{Place, lines_on, text_on, count_on}
 use Rattle.jdiff.specs.Walking.{Spot, met_by, entered_at, spots_of, spot_place, spots_after, AreSpotPlaces, spot_lines, spot_text, spots_up, way_of_pair, spots_left, AreLeft, pairs_open, entered_names, PairGoesUp, PutsPartOfLeft, PutsPairStep}
 use Rattle.jdiff.specs.declared.walk.Walk.{Walk}
 use Rattle.jdiff.specs.declared.walk.Visited.{Visited}
+use Rattle.jdiff.specs.declared.comparing.Comparing.{Comparing}
 use Rattle.jdiff.proofs.PlaceLemmas.{joined_long, has_places}
 use Rattle.jdiff.proofs.SpotLemmas.{PutsSpotOn}
 
 -- a step, of each part by itself
-abbrev pub PutsPairStepOn : Bool → State → State → Walk → Walk → Option (List ℕ) → Option (List ℕ) → ℕ → ℕ → Result (Option ℕ) ProgramFault → Type 0
-PutsPairStepOn times s t w n old new before now r = PutsPairStep times s t w n (record { old = old; new = new; before = before; now = now }) r
+abbrev pub PutsPairStepOn : Comparing → State → State → Walk → Walk → Option (List ℕ) → Option (List ℕ) → ℕ → ℕ → Result (Option ℕ) ProgramFault → Type 0
+PutsPairStepOn how s t w n old new before now r = PutsPairStep how s t w n (record { old = old; new = new; before = before; now = now }) r
 
 -- ---- the text of places
 
-lines_join : (times : Bool) (xs ys : List Place) → lines_on times (xs ++ ys) ≡ lines_on times xs ++ lines_on times ys
-lines_join times xs ys = flat_map-append (λ (place : Place). changes times place.left place.right) xs ys
+lines_join : (how : Comparing) (xs ys : List Place) → lines_on how (xs ++ ys) ≡ lines_on how xs ++ lines_on how ys
+lines_join how xs ys = flat_map-append (λ (place : Place). changes how place.left place.right) xs ys
 
-pub text_join : (times : Bool) (xs ys : List Place) → text_on times (xs ++ ys) ≡ text_on times xs ++ text_on times ys
-text_join times xs ys =
-    ap (flat_map (λ (line : List ℕ). line)) (lines_join times xs ys) ∙ flat_map-append (λ (line : List ℕ). line) (lines_on times xs) (lines_on times ys)
+pub text_join : (how : Comparing) (xs ys : List Place) → text_on how (xs ++ ys) ≡ text_on how xs ++ text_on how ys
+text_join how xs ys =
+    ap (flat_map (λ (line : List ℕ). line)) (lines_join how xs ys) ∙ flat_map-append (λ (line : List ℕ). line) (lines_on how xs) (lines_on how ys)
 
-pub count_join : (times : Bool) (xs ys : List Place) → count_on times (xs ++ ys) ≡ count_on times xs + count_on times ys
-count_join times xs ys = ap length (lines_join times xs ys) ∙ length-append (lines_on times xs) (lines_on times ys)
+pub count_join : (how : Comparing) (xs ys : List Place) → count_on how (xs ++ ys) ≡ count_on how xs + count_on how ys
+count_join how xs ys = ap length (lines_join how xs ys) ∙ length-append (lines_on how xs) (lines_on how ys)
 
 -- ---- where the walk ends, or goes up
 
@@ -65,13 +66,13 @@ up_nearer w n k none up =
     let deep : length w.above.items ≡ length n.above.items + 1 = ap length up.1 ∙ length_push n.above.items n.left in
     omega arith
 
-pub pair_goes_up : (times : Bool) (s t : State) (w n : Walk) (left : List SharedName) (up : Option ℕ) (old : Option (List ℕ)) (before : ℕ) → w.left ≡ []
-    → PairGoesUp (record w { left = left }) n up → PutsPairStepOn times s t w n old old before before (Ok up)
-pair_goes_up times s t w n left (Some k) old before none up = (
+pub pair_goes_up : (how : Comparing) (s t : State) (w n : Walk) (left : List SharedName) (up : Option ℕ) (old : Option (List ℕ)) (before : ℕ) → w.left ≡ []
+    → PairGoesUp (record w { left = left }) n up → PutsPairStepOn how s t w n old old before before (Ok up)
+pair_goes_up how s t w n left (Some k) old before none up = (
   inl (record { todo = up_spots w n k none up; left = up.3; right = up.4; nearer = up_nearer w n k none up; put = Appends-nil old; counted = up.0 }),
   refl,
 )
-pair_goes_up times s t w n left None old before none up = (nothing_left w none up, Appends-nil old, refl)
+pair_goes_up how s t w n left None old before none up = (nothing_left w none up, Appends-nil old, refl)
 
 -- ---- where a name was read
 
@@ -126,12 +127,12 @@ enter_nearer s t w n name i j names is =
     let deep : length n.above.items ≡ length w.above.items + 1 = ap length is.above ∙ length_push w.above.items names in
     omega (arith, joined_long xs ys)
 
-pub enters_pair : (times : Bool) (s t : State) (w n : Walk) (name : List ℕ) (i j : Option ℕ) (names : List SharedName) (v : Visited) (old new : Option (List ℕ)) (before now : ℕ)
+pub enters_pair : (how : Comparing) (s t : State) (w n : Walk) (name : List ℕ) (i j : Option ℕ) (names : List SharedName) (v : Visited) (old new : Option (List ℕ)) (before now : ℕ)
     → w.left ≡ (name, i, j) ∷ names → n.left ≡ joined (names_there s v.left) (names_there t v.right)
     → n.above.items ≡ w.above.items ++ names ∷ [] → way_of_pair n ≡ way_of_pair w ++ name ∷ []
-    → PutsSpotOn times s t w.met_left w.met_right n.met_left n.met_right (spot_in w name i j) old new before now (Ok v)
-    → PutsPairStepOn times s t w n old new before now (Ok (Some v.lines))
-enters_pair times s t w n name i j names v old new before now read left above way put =
+    → PutsSpotOn how s t w.met_left w.met_right n.met_left n.met_right (spot_in w name i j) old new before now (Ok v)
+    → PutsPairStepOn how s t w n old new before now (Ok (Some v.lines))
+enters_pair how s t w n name i j names v old new before now read left above way put =
     let is : EntersPair s t w n name i j names = record {
       read = read;
       left = left ∙ ap (λ (d : Option ℕ). joined (names_there s d) (names_there t v.right)) put.1
@@ -155,20 +156,20 @@ enters_pair times s t w n name i j names v old new before now read left above wa
 
 -- ---- where memory runs out, or the sink fails
 
-pub none_put : (times : Bool) (s t : State) (w n : Walk) (old : Option (List ℕ)) (before : ℕ) → PutsPairStepOn times s t w n old old before before (Err OutOfMemory)
-none_put times s t w n old before =
+pub none_put : (how : Comparing) (s t : State) (w n : Walk) (old : Option (List ℕ)) (before : ℕ) → PutsPairStepOn how s t w n old old before before (Err OutOfMemory)
+none_put how s t w n old before =
     let whole = has_places s t (remembered w.met_left) (remembered w.met_right) (spots_left w) in ((whole.0, whole.1, (0, Appends-nil old)), refl)
 
 -- a beginning of the lines on a name went out
-spot_part : (times : Bool) (s t : State) (w : Walk) (name : List ℕ) (i j : Option ℕ) (names : List SharedName) (old new : Option (List ℕ)) → w.left ≡ (name, i, j) ∷ names
-    → PutsPart old new (spot_text times s t w.met_left w.met_right (spot_in w name i j)) → PutsPartOfLeft times s t w old new
-spot_part times s t w name i j names old new read part =
+spot_part : (how : Comparing) (s t : State) (w : Walk) (name : List ℕ) (i j : Option ℕ) (names : List SharedName) (old new : Option (List ℕ)) → w.left ≡ (name, i, j) ∷ names
+    → PutsPart old new (spot_text how s t w.met_left w.met_right (spot_in w name i j)) → PutsPartOfLeft how s t w old new
+spot_part how s t w name i j names old new read part =
     let whole = has_places s t (met_by s (remembered w.met_left) i) (met_by t (remembered w.met_right) j) (spots_after s t (remembered w.met_left) (remembered w.met_right) (spot_in w name i j) (spots_behind w names)) in (
       place_in s t w name i j ∷ whole.0,
       read_places s t w name i j names whole.0 read whole.1,
       subst (PutsPart old new)
-          (sym (flat_map-append (λ (line : List ℕ). line) (spot_lines times s t w.met_left w.met_right (spot_in w name i j)) (lines_on times whole.0)))
-          (part_before old new (spot_text times s t w.met_left w.met_right (spot_in w name i j)) (text_on times whole.0) part),
+          (sym (flat_map-append (λ (line : List ℕ). line) (spot_lines how s t w.met_left w.met_right (spot_in w name i j)) (lines_on how whole.0)))
+          (part_before old new (spot_text how s t w.met_left w.met_right (spot_in w name i j)) (text_on how whole.0) part),
     )
 
 whole_part : (old new : Option (List ℕ)) (line : List ℕ) → Appends old new line → PutsPart old new line
@@ -177,38 +178,38 @@ whole_part old new line put = (length line, subst (Appends old new) (sym (take_a
     take_all : (xs : List ℕ) → take (length xs) xs ≡ xs
     take_all xs = ap (take (length xs)) (sym (append-nil xs)) ∙ take-append_seam xs []
 
-pub spot_put : (times : Bool) (s t : State) (w n : Walk) (name : List ℕ) (i j : Option ℕ) (names : List SharedName) (left right : MetDirectories) (v : Visited) (old new : Option (List ℕ)) (before now : ℕ)
-    → w.left ≡ (name, i, j) ∷ names → PutsSpotOn times s t w.met_left w.met_right left right (spot_in w name i j) old new before now (Ok v)
-    → PutsPairStepOn times s t w n old new before now (Err OutOfMemory)
-spot_put times s t w n name i j names left right v old new before now read put =
-    (spot_part times s t w name i j names old new read (whole_part old new (spot_text times s t w.met_left w.met_right (spot_in w name i j)) put.5), put.6)
+pub spot_put : (how : Comparing) (s t : State) (w n : Walk) (name : List ℕ) (i j : Option ℕ) (names : List SharedName) (left right : MetDirectories) (v : Visited) (old new : Option (List ℕ)) (before now : ℕ)
+    → w.left ≡ (name, i, j) ∷ names → PutsSpotOn how s t w.met_left w.met_right left right (spot_in w name i j) old new before now (Ok v)
+    → PutsPairStepOn how s t w n old new before now (Err OutOfMemory)
+spot_put how s t w n name i j names left right v old new before now read put =
+    (spot_part how s t w name i j names old new read (whole_part old new (spot_text how s t w.met_left w.met_right (spot_in w name i j)) put.5), put.6)
 
-pub spot_failed : (times : Bool) (s t : State) (w n : Walk) (name : List ℕ) (i j : Option ℕ) (names : List SharedName) (left right : MetDirectories) (fault : ProgramFault) (old new : Option (List ℕ)) (before now : ℕ)
-    → w.left ≡ (name, i, j) ∷ names → PutsSpotOn times s t w.met_left w.met_right left right (spot_in w name i j) old new before now (Err fault)
-    → PutsPairStepOn times s t w n old new before now (Err fault)
-spot_failed times s t w n name i j names left right Output old new before now read put = (spot_part times s t w name i j names old new read put.0, put.1)
-spot_failed times s t w n name i j names left right OutOfMemory old new before now read put =
-    (spot_part times s t w name i j names old new read (0, put.0), put.1)
-spot_failed times s t w n name i j names left right (program.Load f) old new before now read put = absurd put
-spot_failed times s t w n name i j names left right (program.Scan f) old new before now read put = absurd put
-spot_failed times s t w n name i j names left right (program.Mount f) old new before now read put = absurd put
-spot_failed times s t w n name i j names left right (program.File f) old new before now read put = absurd put
-spot_failed times s t w n name i j names left right (program.NotRead f) old new before now read put = absurd put
-spot_failed times s t w n name i j names left right (program.Listing line) old new before now read put = absurd put
-spot_failed times s t w n name i j names left right (program.Session f line cause) old new before now read put = absurd put
-spot_failed times s t w n name i j names left right (program.Path f) old new before now read put = absurd put
-spot_failed times s t w n name i j names left right program.NotRegular old new before now read put = absurd put
-spot_failed times s t w n name i j names left right (program.NoSpace folder) old new before now read put = absurd put
-spot_failed times s t w n name i j names left right (program.Data addr) old new before now read put = absurd put
-spot_failed times s t w n name i j names left right (program.TooLong addr) old new before now read put = absurd put
-spot_failed times s t w n name i j names left right (program.Image why) old new before now read put = absurd put
-spot_failed times s t w n name i j names left right (program.Clash addr other) old new before now read put = absurd put
+pub spot_failed : (how : Comparing) (s t : State) (w n : Walk) (name : List ℕ) (i j : Option ℕ) (names : List SharedName) (left right : MetDirectories) (fault : ProgramFault) (old new : Option (List ℕ)) (before now : ℕ)
+    → w.left ≡ (name, i, j) ∷ names → PutsSpotOn how s t w.met_left w.met_right left right (spot_in w name i j) old new before now (Err fault)
+    → PutsPairStepOn how s t w n old new before now (Err fault)
+spot_failed how s t w n name i j names left right Output old new before now read put = (spot_part how s t w name i j names old new read put.0, put.1)
+spot_failed how s t w n name i j names left right OutOfMemory old new before now read put =
+    (spot_part how s t w name i j names old new read (0, put.0), put.1)
+spot_failed how s t w n name i j names left right (program.Load f) old new before now read put = absurd put
+spot_failed how s t w n name i j names left right (program.Scan f) old new before now read put = absurd put
+spot_failed how s t w n name i j names left right (program.Mount f) old new before now read put = absurd put
+spot_failed how s t w n name i j names left right (program.File f) old new before now read put = absurd put
+spot_failed how s t w n name i j names left right (program.NotRead f) old new before now read put = absurd put
+spot_failed how s t w n name i j names left right (program.Listing line) old new before now read put = absurd put
+spot_failed how s t w n name i j names left right (program.Session f line cause) old new before now read put = absurd put
+spot_failed how s t w n name i j names left right (program.Path f) old new before now read put = absurd put
+spot_failed how s t w n name i j names left right program.NotRegular old new before now read put = absurd put
+spot_failed how s t w n name i j names left right (program.NoSpace folder) old new before now read put = absurd put
+spot_failed how s t w n name i j names left right (program.Data addr) old new before now read put = absurd put
+spot_failed how s t w n name i j names left right (program.TooLong addr) old new before now read put = absurd put
+spot_failed how s t w n name i j names left right (program.Image why) old new before now read put = absurd put
+spot_failed how s t w n name i j names left right (program.Clash addr other) old new before now read put = absurd put
 
-pub pair_step_failed : (times : Bool) (s t : State) (w n : Walk) (old new : Option (List ℕ)) (before now : ℕ) (r : Result (Option ℕ) ProgramFault) (fault : ProgramFault)
-    → IsErrAnd r (λ e. e ≡ fault) → PutsPairStepOn times s t w n old new before now (Err fault) → PutsPairStepOn times s t w n old new before now r
-pair_step_failed times s t w n old new before now (Ok x) fault is put = absurd is
-pair_step_failed times s t w n old new before now (Err e) fault is put =
-    subst (λ (y : ProgramFault). PutsPairStepOn times s t w n old new before now (Err y)) (sym is) put
+pub pair_step_failed : (how : Comparing) (s t : State) (w n : Walk) (old new : Option (List ℕ)) (before now : ℕ) (r : Result (Option ℕ) ProgramFault) (fault : ProgramFault)
+    → IsErrAnd r (λ e. e ≡ fault) → PutsPairStepOn how s t w n old new before now (Err fault) → PutsPairStepOn how s t w n old new before now r
+pair_step_failed how s t w n old new before now (Ok x) fault is put = absurd is
+pair_step_failed how s t w n old new before now (Err e) fault is put =
+    subst (λ (y : ProgramFault). PutsPairStepOn how s t w n old new before now (Err y)) (sym is) put
 
 -- ---- the way to a spot
 
@@ -216,7 +217,7 @@ pub pair_way_on : (w : Walk) (name : Bor (List ℕ)) (path pushed : List (Bor (L
     → map (λ n. n.now) path ≡ way_of_pair w ++ name.now ∷ []
 pair_way_on w name path pushed same is = ap (map (λ n. n.now)) (same ∙ is) ∙ map-append (λ n. n.now) w.path.items (name ∷ [])
 
-pub spot_at : (times : Bool) (s t : State) (a b c d : MetDirectories) (path way : List (List ℕ)) (i j : Option ℕ) (old new : Option (List ℕ)) (before now : ℕ) (r : Result Visited ProgramFault)
-    → path ≡ way → PutsSpotOn times s t a b c d (path, i, j) old new before now r → PutsSpotOn times s t a b c d (way, i, j) old new before now r
-spot_at times s t a b c d path way i j old new before now r is put =
-    subst (λ (p : List (List ℕ)). PutsSpotOn times s t a b c d (p, i, j) old new before now r) is put
+pub spot_at : (how : Comparing) (s t : State) (a b c d : MetDirectories) (path way : List (List ℕ)) (i j : Option ℕ) (old new : Option (List ℕ)) (before now : ℕ) (r : Result Visited ProgramFault)
+    → path ≡ way → PutsSpotOn how s t a b c d (path, i, j) old new before now r → PutsSpotOn how s t a b c d (way, i, j) old new before now r
+spot_at how s t a b c d path way i j old new before now r is put =
+    subst (λ (p : List (List ℕ)). PutsSpotOn how s t a b c d (p, i, j) old new before now r) is put

@@ -1,5 +1,5 @@
 -- Two lists of entries side by side.
-use Rattle.std.specs.Prelude.{◌≡◌, ℕ, Bool, List, [], ◌∷◌, filter_map, length, Option, IfSome, ⊤}
+use Rattle.std.specs.Prelude.{◌≡◌, ℕ, List, [], ◌∷◌, filter_map, length, Option, IfSome, ⊤}
 use Rattle.std.specs.Ordering.{nat_cmp}
 use Rattle.std.specs.declared.cmp.Ordering.{Ordering}
 use Rattle.std.specs.declared.cmp.Ordering.TheVariants.{Less}
@@ -7,6 +7,7 @@ use Rattle.std.specs.Cmp.Lexicographic.{slice_cmp}
 use Rattle.std.specs.List.{flat_map, AllByRecursion}
 use Rattle.jdiff.specs.Entries.{Entry}
 use Rattle.jdiff.specs.Changes.{changes}
+use Rattle.jdiff.specs.declared.comparing.Comparing.{Comparing}
 
 -- a path, and what each tree has there
 pub record Place : Type 0 where
@@ -40,11 +41,11 @@ pub record ArePaired (left right : List Entry) (places : List Place) : Type 0 wh
   pub order : AreInOrder places
 
 -- the lines on these places
-abbrev pub lines_on : Bool → List Place → List (List ℕ)
-lines_on times places = flat_map (λ place. changes times place.left place.right) places
+abbrev pub lines_on : Comparing → List Place → List (List ℕ)
+lines_on how places = flat_map (λ place. changes how place.left place.right) places
 
-abbrev pub text_on : Bool → List Place → List ℕ
-text_on times places = flat_map (λ line. line) (lines_on times places)
+abbrev pub text_on : Comparing → List Place → List ℕ
+text_on how places = flat_map (λ line. line) (lines_on how places)
 
-abbrev pub count_on : Bool → List Place → ℕ
-count_on times places = length (lines_on times places)
+abbrev pub count_on : Comparing → List Place → ℕ
+count_on how places = length (lines_on how places)

@@ -20,6 +20,7 @@ use Rattle.jdiff.specs.Pairing.{Place, text_on}
 use Rattle.jdiff.specs.declared.found.Found.{Found}
 use Rattle.jdiff.specs.declared.walk.Walk.{Walk}
 use Rattle.jdiff.specs.declared.walk.Visited.{Visited}
+use Rattle.jdiff.specs.declared.comparing.Comparing.{Comparing}
 
 -- ---- a path in one tree, by the number that it leads to, if it does
 
@@ -106,44 +107,44 @@ pub record BothMet : Type 0 where
   pub right : MetDirectories
 
 -- the lines on it
-abbrev pub spot_lines : Bool → State → State → MetDirectories → MetDirectories → Spot
+abbrev pub spot_lines : Comparing → State → State → MetDirectories → MetDirectories → Spot
     → List (List ℕ)
-spot_lines times s t left right spot = changes times (spot_entry s (remembered left) spot.0 spot.1)
+spot_lines how s t left right spot = changes how (spot_entry s (remembered left) spot.0 spot.1)
     (spot_entry t (remembered right) spot.0 spot.2)
 
-abbrev pub spot_text : Bool → State → State → MetDirectories → MetDirectories → Spot → List ℕ
-spot_text times s t left right spot = flat_map (λ line. line) (spot_lines times s t left right spot)
+abbrev pub spot_text : Comparing → State → State → MetDirectories → MetDirectories → Spot → List ℕ
+spot_text how s t left right spot = flat_map (λ line. line) (spot_lines how s t left right spot)
 
 -- Its lines are put. The answer is how many, and which directories are entered.
-abbrev pub PutsSpot : Bool → State → State → BothMet → BothMet → Spot → SinkChange
+abbrev pub PutsSpot : Comparing → State → State → BothMet → BothMet → Spot → SinkChange
     → Result Visited ProgramFault → Type 0
-PutsSpot times s t met after spot sink (Ok v) =
-    (v.lines ≡ length (spot_lines times s t met.left met.right spot))
+PutsSpot how s t met after spot sink (Ok v) =
+    (v.lines ≡ length (spot_lines how s t met.left met.right spot))
     × (v.left ≡ entered_at s (remembered met.left) spot.1)
     × (v.right ≡ entered_at t (remembered met.right) spot.2)
     × Becomes met.left after.left (met_by s (remembered met.left) spot.1)
     × Becomes met.right after.right (met_by t (remembered met.right) spot.2)
-    × Appends sink.old sink.new (spot_text times s t met.left met.right spot)
+    × Appends sink.old sink.new (spot_text how s t met.left met.right spot)
     × (sink.now ≡ sink.before)
-PutsSpot times s t met after spot sink (Err program.Output) =
-    PutsPart sink.old sink.new (spot_text times s t met.left met.right spot)
+PutsSpot how s t met after spot sink (Err program.Output) =
+    PutsPart sink.old sink.new (spot_text how s t met.left met.right spot)
     × (sink.now ≡ next_count sink.before)
-PutsSpot times s t met after spot sink (Err program.OutOfMemory) =
+PutsSpot how s t met after spot sink (Err program.OutOfMemory) =
     Appends sink.old sink.new [] × (sink.now ≡ sink.before)
-PutsSpot times s t met after spot sink (Err (program.Load fault)) = ⊥
-PutsSpot times s t met after spot sink (Err (program.Scan fault)) = ⊥
-PutsSpot times s t met after spot sink (Err (program.Mount fault)) = ⊥
-PutsSpot times s t met after spot sink (Err (program.Clash addr other)) = ⊥
-PutsSpot times s t met after spot sink (Err (program.File file)) = ⊥
-PutsSpot times s t met after spot sink (Err (program.NotRead file)) = ⊥
-PutsSpot times s t met after spot sink (Err (program.Listing bad)) = ⊥
-PutsSpot times s t met after spot sink (Err (program.Session fault line cause)) = ⊥
-PutsSpot times s t met after spot sink (Err (program.Path fault)) = ⊥
-PutsSpot times s t met after spot sink (Err program.NotRegular) = ⊥
-PutsSpot times s t met after spot sink (Err (program.NoSpace name)) = ⊥
-PutsSpot times s t met after spot sink (Err (program.Data addr)) = ⊥
-PutsSpot times s t met after spot sink (Err (program.TooLong addr)) = ⊥
-PutsSpot times s t met after spot sink (Err (program.Image fault)) = ⊥
+PutsSpot how s t met after spot sink (Err (program.Load fault)) = ⊥
+PutsSpot how s t met after spot sink (Err (program.Scan fault)) = ⊥
+PutsSpot how s t met after spot sink (Err (program.Mount fault)) = ⊥
+PutsSpot how s t met after spot sink (Err (program.Clash addr other)) = ⊥
+PutsSpot how s t met after spot sink (Err (program.File file)) = ⊥
+PutsSpot how s t met after spot sink (Err (program.NotRead file)) = ⊥
+PutsSpot how s t met after spot sink (Err (program.Listing bad)) = ⊥
+PutsSpot how s t met after spot sink (Err (program.Session fault line cause)) = ⊥
+PutsSpot how s t met after spot sink (Err (program.Path fault)) = ⊥
+PutsSpot how s t met after spot sink (Err program.NotRegular) = ⊥
+PutsSpot how s t met after spot sink (Err (program.NoSpace name)) = ⊥
+PutsSpot how s t met after spot sink (Err (program.Data addr)) = ⊥
+PutsSpot how s t met after spot sink (Err (program.TooLong addr)) = ⊥
+PutsSpot how s t met after spot sink (Err (program.Image fault)) = ⊥
 
 -- ---- what is still to compare at a point of the walk
 
@@ -186,7 +187,7 @@ pub record PassesUp (w w_after : Walk) (old new : Option (List ℕ)) (count : �
   pub counted : count ≡ 0
 
 -- the lines on the next path are put
-pub record PutsNextPlace (times : Bool) (s t : State) (w w_after : Walk) (old new : Option (List ℕ))
+pub record PutsNextPlace (how : Comparing) (s t : State) (w w_after : Walk) (old new : Option (List ℕ))
     (count : ℕ) : Type 0 where
   pub spot : Spot
   pub rest : List Spot
@@ -197,8 +198,8 @@ pub record PutsNextPlace (times : Bool) (s t : State) (w w_after : Walk) (old ne
   pub right : Becomes w.met_right w_after.met_right (met_by t (remembered w.met_right) spot.2)
   pub nearer : pairs_open w_after < pairs_open w + 2 * (length (entered_names s w.met_left spot.1)
       + length (entered_names t w.met_right spot.2))
-  pub put : Appends old new (spot_text times s t w.met_left w.met_right spot)
-  pub counted : count ≡ length (spot_lines times s t w.met_left w.met_right spot)
+  pub put : Appends old new (spot_text how s t w.met_left w.met_right spot)
+  pub counted : count ≡ length (spot_lines how s t w.met_left w.met_right spot)
 
 -- the walk went back to the pair above, or there is none
 abbrev pub PairGoesUp : Walk → Walk → Option ℕ → Type 0
@@ -208,33 +209,33 @@ PairGoesUp w w_after (Some n) = (n ≡ 0) × (w.above.items ≡ w_after.above.it
 PairGoesUp w w_after None = w.above.items ≡ []
 
 -- a beginning of what was to put went out
-abbrev pub PutsPartOfLeft : Bool → State → State → Walk → Option (List ℕ) → Option (List ℕ) → Type 0
-PutsPartOfLeft times s t w old new =
-    (places : List Place) × AreLeft s t w places × PutsPart old new (text_on times places)
+abbrev pub PutsPartOfLeft : Comparing → State → State → Walk → Option (List ℕ) → Option (List ℕ) → Type 0
+PutsPartOfLeft how s t w old new =
+    (places : List Place) × AreLeft s t w places × PutsPart old new (text_on how places)
 
 -- `None`: nothing is still to compare. At a fault a beginning of what was to put went out.
-abbrev pub PutsPairStep : Bool → State → State → Walk → Walk → SinkChange
+abbrev pub PutsPairStep : Comparing → State → State → Walk → Walk → SinkChange
     → Result (Option ℕ) ProgramFault → Type 0
-PutsPairStep times s t w w_after sink (Ok (Some n)) =
-    (PassesUp w w_after sink.old sink.new n ⊎ PutsNextPlace times s t w w_after sink.old sink.new n)
+PutsPairStep how s t w w_after sink (Ok (Some n)) =
+    (PassesUp w w_after sink.old sink.new n ⊎ PutsNextPlace how s t w w_after sink.old sink.new n)
     × (sink.now ≡ sink.before)
-PutsPairStep times s t w w_after sink (Ok None) =
+PutsPairStep how s t w w_after sink (Ok None) =
     (spots_left w ≡ []) × Appends sink.old sink.new [] × (sink.now ≡ sink.before)
-PutsPairStep times s t w w_after sink (Err program.Output) =
-    PutsPartOfLeft times s t w sink.old sink.new × (sink.now ≡ next_count sink.before)
-PutsPairStep times s t w w_after sink (Err program.OutOfMemory) =
-    PutsPartOfLeft times s t w sink.old sink.new × (sink.now ≡ sink.before)
-PutsPairStep times s t w w_after sink (Err (program.Load fault)) = ⊥
-PutsPairStep times s t w w_after sink (Err (program.Scan fault)) = ⊥
-PutsPairStep times s t w w_after sink (Err (program.Mount fault)) = ⊥
-PutsPairStep times s t w w_after sink (Err (program.Clash addr other)) = ⊥
-PutsPairStep times s t w w_after sink (Err (program.File file)) = ⊥
-PutsPairStep times s t w w_after sink (Err (program.NotRead file)) = ⊥
-PutsPairStep times s t w w_after sink (Err (program.Listing bad)) = ⊥
-PutsPairStep times s t w w_after sink (Err (program.Session fault line cause)) = ⊥
-PutsPairStep times s t w w_after sink (Err (program.Path fault)) = ⊥
-PutsPairStep times s t w w_after sink (Err program.NotRegular) = ⊥
-PutsPairStep times s t w w_after sink (Err (program.NoSpace name)) = ⊥
-PutsPairStep times s t w w_after sink (Err (program.Data addr)) = ⊥
-PutsPairStep times s t w w_after sink (Err (program.TooLong addr)) = ⊥
-PutsPairStep times s t w w_after sink (Err (program.Image fault)) = ⊥
+PutsPairStep how s t w w_after sink (Err program.Output) =
+    PutsPartOfLeft how s t w sink.old sink.new × (sink.now ≡ next_count sink.before)
+PutsPairStep how s t w w_after sink (Err program.OutOfMemory) =
+    PutsPartOfLeft how s t w sink.old sink.new × (sink.now ≡ sink.before)
+PutsPairStep how s t w w_after sink (Err (program.Load fault)) = ⊥
+PutsPairStep how s t w w_after sink (Err (program.Scan fault)) = ⊥
+PutsPairStep how s t w w_after sink (Err (program.Mount fault)) = ⊥
+PutsPairStep how s t w w_after sink (Err (program.Clash addr other)) = ⊥
+PutsPairStep how s t w w_after sink (Err (program.File file)) = ⊥
+PutsPairStep how s t w w_after sink (Err (program.NotRead file)) = ⊥
+PutsPairStep how s t w w_after sink (Err (program.Listing bad)) = ⊥
+PutsPairStep how s t w w_after sink (Err (program.Session fault line cause)) = ⊥
+PutsPairStep how s t w w_after sink (Err (program.Path fault)) = ⊥
+PutsPairStep how s t w w_after sink (Err program.NotRegular) = ⊥
+PutsPairStep how s t w w_after sink (Err (program.NoSpace name)) = ⊥
+PutsPairStep how s t w w_after sink (Err (program.Data addr)) = ⊥
+PutsPairStep how s t w w_after sink (Err (program.TooLong addr)) = ⊥
+PutsPairStep how s t w w_after sink (Err (program.Image fault)) = ⊥

@@ -63,14 +63,14 @@ pub(crate) fn place_of(
     requires left { IfSome left.now (λ f. IsFoundIn trees.now.left.now.state f) }
     requires right { IfSome right.now (λ f. IsFoundIn trees.now.right.now.state f) }
     requires known { AreCompared trees.now.left.now.state trees.now.right.now.state compared.old }
-    ensures place { IfOk result (IsPlaceHere trees.now.times trees.now.left.now.state
+    ensures place { IfOk result (IsPlaceHere trees.now.how trees.now.left.now.state
         trees.now.right.now.state left.now right.now) }
     ensures known { OnOk result
         (AreCompared trees.now.left.now.state trees.now.right.now.state compared.new) }
     ensures fault { IfErr result (λ fault. fault ≡ ProgramFault.OutOfMemory) }
 {
     match (left, right) {
-        (Some(ours), Some(theirs)) if is_same_object(trees.times, &ours.object, &theirs.object) => {
+        (Some(ours), Some(theirs)) if is_same_object(trees.how.times, &ours.object, &theirs.object) => {
             compare(trees, ours, theirs, compared)
         }
         _ => Ok(None),

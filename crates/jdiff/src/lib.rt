@@ -13,11 +13,14 @@
 
 mod bytes;
 mod compared;
+mod comparing;
 mod found;
 pub mod laws;
 mod line;
+mod number;
 mod pair;
 mod spot;
 mod walk;
 
+pub use crate::comparing::Comparing;
 pub use crate::walk::put_differences;

@@ -7,6 +7,7 @@ ghost use Rattle.jdiff.specs.Walking.{PairGoesUp, PutsPairStep, PutsSpot};
 ghost use Rattle.flashbase.specs.Sinks.{change_of};
 
 use crate::compared::{Compared, place_of};
+use crate::comparing::Comparing;
 use crate::found::{directory_of, look};
 use crate::pair::Pair;
 use crate::spot::{Trees, put_changes};
@@ -38,7 +39,7 @@ fn visit<T: Sink>(
     sink: &mut T,
 ) -> Result<Visited, ProgramFault<'static>>
     requires { AreCompared trees.now.left.now.state trees.now.right.now.state compared.old }
-    ensures puts { PutsSpot trees.now.times trees.now.left.now.state trees.now.right.now.state
+    ensures puts { PutsSpot trees.now.how trees.now.left.now.state trees.now.right.now.state
         (record { left = met_left.old; right = met_right.old })
         (record { left = met_left.new; right = met_right.new })
         (map (λ name. name.now) spot.entry.0.now, spot.entry.1, spot.entry.2)
@@ -83,7 +84,7 @@ impl<'m, 'a> Walk<'m, 'a> {
     ) -> Result<Option<u64>, ProgramFault<'static>>
         requires { AreCompared trees.now.left.now.state trees.now.right.now.state
             self.old.compared }
-        ensures puts { PutsPairStep trees.now.times trees.now.left.now.state
+        ensures puts { PutsPairStep trees.now.how trees.now.left.now.state
             trees.now.right.now.state self.old self.new (change_of T.Sink sink.old sink.new)
             result }
         ensures known { OnOk result (AreCompared trees.now.left.now.state
@@ -122,7 +123,7 @@ impl<'m, 'a> Walk<'m, 'a> {
 /// each in byte order, a directory before what lies in it: `- ` and a line as of `ls` where only
 /// the left one has it, `+ ` where only the right one does, both where kind, permissions, owner,
 /// group, size or target differ, or with `times` the time of change, and `* ` where only the bytes
-/// do. A directory that was met before is not entered. Answers how many lines there are, or the
+/// do, or where the numbers of devices do, as in `* dev/null device 1:3 to 1:5`. A directory that was met before is not entered. Answers how many lines there are, or the
 /// greatest u64. The bytes of two objects are compared once, however many names lead to both. Takes
 /// memory for the way to an object, for pairs of objects that both have several names, and of a tree
 /// that has not its shape for the directories that were met.
@@ -130,13 +131,13 @@ pub fn put_differences<'m, 'a, T: Sink>(
     alloc: Global,
     left: &'m Mounted<'a>,
     right: &'m Mounted<'a>,
-    times: bool,
+    how: Comparing,
     sink: &mut T,
 ) -> Result<u64, ProgramFault<'static>>
-    ensures { PutsDifferences times left.now.state right.now.state (T.taken sink.old)
+    ensures { PutsDifferences how left.now.state right.now.state (T.taken sink.old)
         (T.taken sink.new) (T.failures sink.old) (T.failures sink.new) result }
 {
-    let trees = Trees { left, right, times };
+    let trees = Trees { left, right, how };
     let mut met_left = MetDirectories::new(alloc, left);
     let mut met_right = MetDirectories::new(alloc, right);
     let mut compared = BTreeMap::new(alloc);

@@ -17,6 +17,7 @@ use Rattle.jreport.specs.Refusal.{IsShownRefusal}
 use Rattle.jreport.specs.declared.faults.ProgramFault.{ProgramFault}
 use Rattle.jreport.specs.declared.faults.ProgramFault.TheVariants as program
 use Rattle.jscan.specs.Image.{nodes}
+use Rattle.jdiff.specs.declared.comparing.Comparing.{Comparing}
 use Rattle.jedge.specs.Acts.{Act, CountsOutput, Then, Ends, GoesOn, IsPrintedInPart, IsUnfinished, Saying, Whole, and_closed, answers, closes, loads, opens, prints, reads_whole}
 use Rattle.jedge.specs.Calls.{Event, Answers, Failed, Open, Print, ReadPart, printed}
 use Rattle.jthrough.specs.declared.fault.ViewFault.{ViewFault}
@@ -372,21 +373,21 @@ damage_blames options decompress name = then_blames (loads name) _ (loads_blames
     (λ (image : List ℕ). then_blames _ _ (nodes_blame options.endian options.geometry.block None image)
     (λ _. then_blames _ _ (mounts_as_blame decompress options.endian options.geometry.block image) (λ _. whole_blames _ _)))
 
-pub differs_unnamed : (times : Bool) (left right : Mount) (answer : ℕ → Told) → Unnamed (Compares times left right answer)
-differs_unnamed times left right answer text (fault.File file) is = absurd is
-differs_unnamed times left right answer text (fault.NotRead file) is = absurd is
-differs_unnamed times left right answer text (fault.NoNodes of others) is = absurd is
-differs_unnamed times left right answer text (fault.NoSpace folder) is = absurd is
-differs_unnamed times left right answer text (fault.Findings of findings) is = absurd is
-differs_unnamed times left right answer text (fault.Refused why) is = absurd is
-differs_unnamed times left right answer text fault.Output is = tt
-differs_unnamed times left right answer text fault.OutOfMemory is = tt
+pub differs_unnamed : (how : Comparing) (left right : Mount) (answer : ℕ → Told) → Unnamed (Compares how left right answer)
+differs_unnamed how left right answer text (fault.File file) is = absurd is
+differs_unnamed how left right answer text (fault.NotRead file) is = absurd is
+differs_unnamed how left right answer text (fault.NoNodes of others) is = absurd is
+differs_unnamed how left right answer text (fault.NoSpace folder) is = absurd is
+differs_unnamed how left right answer text (fault.Findings of findings) is = absurd is
+differs_unnamed how left right answer text (fault.Refused why) is = absurd is
+differs_unnamed how left right answer text fault.Output is = tt
+differs_unnamed how left right answer text fault.OutOfMemory is = tt
 
 pub compare_blames : (x : Comparison (List ℕ)) (image other : List ℕ) → BlamesFailed (compares x image other)
 compare_blames x image other = then_blames _ _ (nodes_blame x.options.endian x.options.geometry.block (Some x.first) image) (λ _.
     then_blames _ _ (nodes_blame x.options.endian x.options.geometry.block (Some x.second) other) (λ _.
     then_blames _ _ (both_blame x.decompress x.options.endian x.options.geometry.block image other) (λ (both : Mount × Mount).
-    prints_blames _ (differs_unnamed x.times both.0 both.1 (compared x.first x.second both.0 both.1)))))
+    prints_blames _ (differs_unnamed (comparing x) both.0 both.1 (compared x.first x.second both.0 both.1)))))
 
 pub diff_blames : (x : Comparison (List ℕ)) → BlamesFailed (diff_act x)
 diff_blames x = then_blames (loads x.first) _ (loads_blames x.first) (λ (image : List ℕ).

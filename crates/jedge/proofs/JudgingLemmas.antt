@@ -9,6 +9,7 @@ use Rattle.jreport.specs.Content.{content_of}
 use Rattle.jmount.specs.declared.fault.MountFault.TheVariants as mount
 use Rattle.jreport.specs.declared.faults.ProgramFault.{ProgramFault}
 use Rattle.jreport.specs.declared.faults.ProgramFault.TheVariants as program
+use Rattle.jdiff.specs.declared.comparing.Comparing.{Comparing}
 use Rattle.jedge.specs.Acts.{Act, Then, Ends, GoesOn, Saying, Whole, and_closed, answers, closes, loads, opens, prints, reads_whole}
 use Rattle.jedge.specs.Calls.{Event, Answers, Did, Failed, Print, printed}
 use Rattle.jedge.specs.Commands.{Cat, Check, Damage, Diff, Info, Ls, cat_act, check_act, content_told, damage_act, diff_act, info_act, list_act, read_told}
@@ -229,22 +230,22 @@ list_first options decompress name word = then_first_but _ _ _ (answers_silent _
     then_first_but _ (loads name) _ (loads_silent name) (λ (image : List ℕ). then_first_but _ _ _ (answers_silent _) (λ (others : Option ℕ).
     then_first_but _ _ _ (answers_silent _) (λ (m : Mount). prints_first_but _ _ (lists_unput m.state part (read_told options.endian options.geometry.block others m))))))
 
-pub differs_unput : (times : Bool) (left right : Mount) (answer : ℕ → Told) (text : List ℕ) (f : Fault) → (f ≡ fault.OutOfMemory → ⊥) → Compares times left right answer text (Err f) → IsUnput f text
-differs_unput times left right answer text (fault.File file) not is = absurd is
-differs_unput times left right answer text (fault.NotRead file) not is = absurd is
-differs_unput times left right answer text (fault.NoNodes of others) not is = absurd is
-differs_unput times left right answer text (fault.NoSpace folder) not is = absurd is
-differs_unput times left right answer text (fault.Findings of findings) not is = absurd is
-differs_unput times left right answer text (fault.Refused why) not is = absurd is
-differs_unput times left right answer text fault.Output not is = tt
-differs_unput times left right answer text fault.OutOfMemory not is = absurd (not refl)
+pub differs_unput : (how : Comparing) (left right : Mount) (answer : ℕ → Told) (text : List ℕ) (f : Fault) → (f ≡ fault.OutOfMemory → ⊥) → Compares how left right answer text (Err f) → IsUnput f text
+differs_unput how left right answer text (fault.File file) not is = absurd is
+differs_unput how left right answer text (fault.NotRead file) not is = absurd is
+differs_unput how left right answer text (fault.NoNodes of others) not is = absurd is
+differs_unput how left right answer text (fault.NoSpace folder) not is = absurd is
+differs_unput how left right answer text (fault.Findings of findings) not is = absurd is
+differs_unput how left right answer text (fault.Refused why) not is = absurd is
+differs_unput how left right answer text fault.Output not is = tt
+differs_unput how left right answer text fault.OutOfMemory not is = absurd (not refl)
 
 pub diff_first : (x : Comparison (List ℕ)) → JudgesFirstBut (λ f. f ≡ fault.OutOfMemory) (diff_act x)
 diff_first x = then_first_but _ (loads x.first) _ (loads_silent x.first) (λ (image : List ℕ).
     then_first_but _ (loads x.second) _ (loads_silent x.second) (λ (other : List ℕ).
     then_first_but _ _ _ (answers_silent _) (λ _. then_first_but _ _ _ (answers_silent _) (λ _.
     then_first_but _ _ _ (answers_silent _) (λ (both : Mount × Mount).
-    prints_first_but _ _ (differs_unput x.times both.0 both.1 (compared x.first x.second both.0 both.1)))))))
+    prints_first_but _ _ (differs_unput (comparing x) both.0 both.1 (compared x.first x.second both.0 both.1)))))))
 
 pub check_first : (options : Options) (shape : Bool) (name : List ℕ) → JudgesFirstBut IsWanting (check_act options shape name)
 check_first options shape name = then_first_but _ (opens name) _ (opens_silent name) (λ (opened : List ℕ).

@@ -21,6 +21,7 @@ use Rattle.jreport.specs.Content.{content_of}
 use Rattle.jreport.specs.NoNodes.{none_notes_of}
 use Rattle.jreport.specs.Notes.{note_line_of, noted as findings}
 use Rattle.jreserve.specs.Note.{reserve_line}
+use Rattle.jdiff.specs.declared.comparing.Comparing.{Comparing}
 use Rattle.jedge.specs.Acts.{Act, IsSaidBy, Saying, Then, Whole, answers, loads, opens, prints, reads_whole}
 use Rattle.jedge.specs.Calls.{Event}
 use Rattle.jedge.specs.Comparing.{Compares, compared}
@@ -212,13 +213,17 @@ cat_act options = cats options.endian options.geometry.block
 
 -- ---- `diff`
 
+abbrev pub comparing : Comparison (List ℕ) → Comparing
+comparing x = record { times = x.times; order = x.options.endian }
+
 -- of two images in which nodes are found both are mounted, and the lines on their trees are printed
 abbrev pub compares : Comparison (List ℕ) → List ℕ → List ℕ → Act Told
 compares x image other =
     Then (answers (HasNodes x.options.endian x.options.geometry.block (Some x.first) image)) (λ _.
     Then (answers (HasNodes x.options.endian x.options.geometry.block (Some x.second) other)) (λ _.
     Then (answers (MountsBoth x.decompress x.options.endian x.options.geometry.block image other))
-    (λ both. prints (Compares x.times both.0 both.1 (compared x.first x.second both.0 both.1)))))
+    (λ both. prints (Compares (comparing x) both.0 both.1
+    (compared x.first x.second both.0 both.1)))))
 
 -- the files of two names are read, and their images compared
 abbrev pub diff_act : Comparison (List ℕ) → Act Told

@@ -1,8 +1,9 @@
 -- What is printed of two trees, and what is found of them.
-use Rattle.std.specs.Prelude.{◌≡◌, ◌==◌, ◌&&◌, ◌-◌, ◌^◌, ℕ, Bool, List, length, min, if◌then◌else◌, Option, Some, None, Result, Ok, Err}
+use Rattle.std.specs.Prelude.{◌≡◌, ◌==◌, ◌&&◌, ◌-◌, ◌^◌, ℕ, List, length, min, if◌then◌else◌, Option, Some, None, Result, Ok, Err}
 use Rattle.std.specs.List.{flat_map}
 use Rattle.jmount.specs.Mount.{Mount}
 use Rattle.jdiff.specs.Differing.{AreDifferences}
+use Rattle.jdiff.specs.declared.comparing.Comparing.{Comparing}
 use Rattle.jreport.specs.NamedNotes.{named_notes_of}
 use Rattle.jreport.specs.Notes.{noted as findings}
 use Rattle.jreport.specs.declared.faults.ProgramFault.{ProgramFault}
@@ -31,23 +32,23 @@ lines_compared told (Ok lines) = Ok (told lines)
 lines_compared told (Err why) = Err (command_fault why)
 
 -- a beginning of the lines on two trees
-abbrev pub IsPartOfDifferences : Bool → Mount → Mount → List ℕ → Type 0
-IsPartOfDifferences times left right text = (lines : List (List ℕ))
-    × AreDifferences times left.state right.state lines
+abbrev pub IsPartOfDifferences : Comparing → Mount → Mount → List ℕ → Type 0
+IsPartOfDifferences how left right text = (lines : List (List ℕ))
+    × AreDifferences how left.state right.state lines
     × IsFrontOf (flat_map (λ line. line) lines) text
 
 -- The lines on two trees, and by their number, or the greatest u64, what is told; or a beginning of
 -- them, where the output fails or memory runs out.
-abbrev pub Compares : Bool → Mount → Mount → (ℕ → Told) → Saying Told
-Compares times left right answer text (Ok told) = (lines : List (List ℕ))
-    × AreDifferences times left.state right.state lines × (text ≡ flat_map (λ line. line) lines)
+abbrev pub Compares : Comparing → Mount → Mount → (ℕ → Told) → Saying Told
+Compares how left right answer text (Ok told) = (lines : List (List ℕ))
+    × AreDifferences how left.state right.state lines × (text ≡ flat_map (λ line. line) lines)
     × (told ≡ answer (min (length lines) (2 ^ 64 - 1)))
-Compares times left right answer text (Err (fault.File file)) = ⊥
-Compares times left right answer text (Err (fault.NotRead file)) = ⊥
-Compares times left right answer text (Err (fault.NoNodes of others)) = ⊥
-Compares times left right answer text (Err (fault.NoSpace folder)) = ⊥
-Compares times left right answer text (Err (fault.Findings of n)) = ⊥
-Compares times left right answer text (Err (fault.Refused why)) = ⊥
-Compares times left right answer text (Err fault.Output) = IsPartOfDifferences times left right text
-Compares times left right answer text (Err fault.OutOfMemory) =
-    IsPartOfDifferences times left right text
+Compares how left right answer text (Err (fault.File file)) = ⊥
+Compares how left right answer text (Err (fault.NotRead file)) = ⊥
+Compares how left right answer text (Err (fault.NoNodes of others)) = ⊥
+Compares how left right answer text (Err (fault.NoSpace folder)) = ⊥
+Compares how left right answer text (Err (fault.Findings of n)) = ⊥
+Compares how left right answer text (Err (fault.Refused why)) = ⊥
+Compares how left right answer text (Err fault.Output) = IsPartOfDifferences how left right text
+Compares how left right answer text (Err fault.OutOfMemory) =
+    IsPartOfDifferences how left right text

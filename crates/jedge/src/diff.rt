@@ -2,7 +2,7 @@
 ghost use Rattle.std.specs.Prelude.{◌≡◌, option_map};
 ghost use Rattle.jcommand.specs.Parsed.{comparison_view};
 ghost use Rattle.jedge.specs.Acts.{DoesFrom, prints, seen_as};
-ghost use Rattle.jedge.specs.Commands.{compares, diff_act};
+ghost use Rattle.jedge.specs.Commands.{comparing, compares, diff_act};
 ghost use Rattle.jedge.specs.Images.{MountsBoth};
 ghost use Rattle.jedge.specs.Comparing.{Compares, both_noted, compared, lines_compared};
 ghost use Rattle.jedge.specs.Told.{found_told, note_text};
@@ -14,7 +14,7 @@ use crate::host::Host;
 use crate::mounting::{judge_nodes, mounted_as};
 use crate::reading::load;
 use jcommand::Comparison;
-use jdiff::put_differences;
+use jdiff::{Comparing, put_differences};
 use jmount::Mounted;
 use jnode::Order;
 use jreport::{ProgramFault, noted};
@@ -80,14 +80,19 @@ fn print_differences<'a, 'i, H: Host>(
     right: Mounted<'i>,
 ) -> Result<Found<'a>, Fault>
     ensures { DoesFrom (H.history host.old) (H.history host.new)
-        (prints (Compares asked.entry.times left.entry right.entry (compared asked.entry.first.now
-        asked.entry.second.now left.entry right.entry))) (seen_as found_told result) }
+        (prints (Compares (comparing (comparison_view asked.entry)) left.entry right.entry
+        (compared asked.entry.first.now asked.entry.second.now left.entry right.entry)))
+        (seen_as found_told result) }
 {
     let mut out = match host.output() {
         Ok(out) => out,
         Err(fault) => return Err(fault),
     };
-    let put = put_differences(host.alloc(), &left, &right, asked.times, &mut out);
+    let how = Comparing {
+        times: asked.times,
+        order: asked.options.endian,
+    };
+    let put = put_differences(host.alloc(), &left, &right, how, &mut out);
     let closed = host.close(out);
     finished(lines_compared(asked, &left, &right, put), closed)
 }

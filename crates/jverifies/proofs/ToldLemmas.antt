@@ -22,6 +22,7 @@ use Rattle.jcommand.specs.declared.parsed.Packing.{Packing}
 use Rattle.jdiff.specs.Differing.{AreDifferences}
 use Rattle.jdiff.proofs.LawLemmas.{same_trees}
 use Rattle.jreport.specs.Notes.{noted as findings}
+use Rattle.jdiff.specs.declared.comparing.Comparing.{Comparing}
 use Rattle.jedge.specs.Acts.{Act, and_closed, loads, prints}
 use Rattle.jedge.specs.Calls.{Event, Did, Keep, Read, ReadFolder}
 use Rattle.jedge.specs.Comparing.{Compares}
@@ -37,30 +38,30 @@ use Rattle.jpacks.specs.Held.{ShowsFolder, WasRead}
 use Rattle.jpacks.specs.Packing.{packed_told}
 use Rattle.jpacks.proofs.HeldLaws.{folder_listed, folder_shown}
 use Rattle.jverifies.specs.Verified.{AreToldApart, IsVerified, VerifiedIsSame, VerifyTellsDifferences}
-use Rattle.jverifies.specs.Verifying.{Sought, compares_folder, compares_text, lines_verified, packing_verified, sought_with}
+use Rattle.jverifies.specs.Verifying.{Sought, compares_folder, compares_text, lines_verified, packing_verified, comparing_verified, sought_with}
 use Rattle.jcommand.specs.declared.parsed.Verification.{Verification}
 use Rattle.jverifies.proofs.MakingLemmas.{made_is_put}
 
 -- ---- lines that were printed
 
 -- the lines on two trees, and what was told of them
-record AreLinesTold (times : Bool) (left right : Mount) (answer : ℕ → Told) (told : Told) : Type 0 where
+record AreLinesTold (how : Comparing) (left right : Mount) (answer : ℕ → Told) (told : Told) : Type 0 where
   lines : List (List ℕ)
-  differ : AreDifferences times left.state right.state lines
+  differ : AreDifferences how left.state right.state lines
   is : told ≡ answer (min (length lines) (2 ^ 64 - 1))
 
 no_fault : {A F : Type 0} {x : A} {f : F} → ◌≡◌ {A = Result A F} (Ok x) (Err f) → ⊥
 no_fault is = cc
 
-put_told : (times : Bool) (left right : Mount) (answer : ℕ → Told) (text : List ℕ) (told : Told) (put : Result Told Fault) (closed : Result Unit Fault) → Compares times left right answer text put → Ok told ≡ and_closed put closed
-    → AreLinesTold times left right answer told
-put_told times left right answer text told (Err f) closed says is = absurd (no_fault is)
-put_told times left right answer text told (Ok put) (Err f) says is = absurd (no_fault is)
-put_told times left right answer text told (Ok put) (Ok u) says is = record { lines = says.0; differ = says.1; is = same_answer is ∙ says.3 }
+put_told : (how : Comparing) (left right : Mount) (answer : ℕ → Told) (text : List ℕ) (told : Told) (put : Result Told Fault) (closed : Result Unit Fault) → Compares how left right answer text put → Ok told ≡ and_closed put closed
+    → AreLinesTold how left right answer told
+put_told how left right answer text told (Err f) closed says is = absurd (no_fault is)
+put_told how left right answer text told (Ok put) (Err f) says is = absurd (no_fault is)
+put_told how left right answer text told (Ok put) (Ok u) says is = record { lines = says.0; differ = says.1; is = same_answer is ∙ says.3 }
 
-lines_told : (times : Bool) (left right : Mount) (answer : ℕ → Told) (events : List Event) (told : Told) → prints (Compares times left right answer) events (Ok told) → AreLinesTold times left right answer told
-lines_told times left right answer events told (inl put) = put_told times left right answer put.text told put.answer put.closed put.says put.comes_to
-lines_told times left right answer events told (inr none) = absurd (no_fault none.1)
+lines_told : (how : Comparing) (left right : Mount) (answer : ℕ → Told) (events : List Event) (told : Told) → prints (Compares how left right answer) events (Ok told) → AreLinesTold how left right answer told
+lines_told how left right answer events told (inl put) = put_told how left right answer put.text told put.answer put.closed put.says put.comes_to
+lines_told how left right answer events told (inr none) = absurd (no_fault none.1)
 
 -- ---- the image of a folder
 
@@ -78,7 +79,7 @@ record IsTextTold (e : Endian) (sought : Sought) (before : HostFiles) (text : Li
   kept : (name : List ℕ) → Contains (files_named lines) name → IsFileKept before files events name
   holds : (tree : FolderTree) → FitsListing tree.root tree.items.items → IsTree tree.items.items
       → text ≡ listing_text tree.root tree.items.items → HoldsTree e (part_contents files) tree.root tree.items.items left.state
-  told_of : AreLinesTold sought.times left sought.image (lines_verified sought.image) told
+  told_of : AreLinesTold sought.how left sought.image (lines_verified sought.image) told
 
 text_told : (e : Endian) (sought : Sought) (before : HostFiles) (text : List ℕ) (events : List Event) (told : Told) → compares_text e sought before text events (Ok told)
     → IsTextTold e sought before text events told
@@ -100,7 +101,7 @@ text_told e sought before text events told did =
       holds = λ tree fits is_tree same.
           let held = put_out_holds_tree flash.page e flash.geometry.block flash.blocks made.x (part_contents files.x) tree.root tree.items.items lines.x fits is_tree (ap lines_of (sym same) ∙ lines.one.1) put in
           subst (λ (s : State). HoldsTree e (part_contents files.x) tree.root tree.items.items s) (same_state e flash.geometry.block made.x held.0 left.x held.1 left.one.1) held.2;
-      told_of = lines_told sought.times left.x sought.image (lines_verified sought.image) left.after told left.two;
+      told_of = lines_told sought.how left.x sought.image (lines_verified sought.image) left.after told left.two;
     }
 
 -- ---- the folder
@@ -127,14 +128,14 @@ record IsFolderTold (e : Endian) (asked : Verification (List ℕ)) (m : Mount) (
   held : State
   lines : List (List ℕ)
   folder : ShowsFolder e (packing_verified asked) events held
-  differ : AreDifferences asked.times held m.state lines
+  differ : AreDifferences (comparing_verified e asked) held m.state lines
   counted : told.counted ≡ either folder.folder.left_out (either (min (length lines) (2 ^ 64 - 1)) (findings m))
 
 folder_told : (e : Endian) (asked : Verification (List ℕ)) (m : Mount) (events : List Event) (told : Told) → compares_folder e asked m events (Ok told) → IsFolderTold e asked m events told
 unfolding folder_shown
 folder_told e asked m events told did =
     let packing : Packing (List ℕ) = packing_verified asked in
-    let sought : Sought = sought_with asked m in
+    let sought : Sought = sought_with e asked m in
     let writes : HostFiles → List ℕ → Act Told = compares_text e sought in
     let of = folder_listed packing writes events told did in
     let tree : FolderTree = of.folder.tree in
@@ -220,5 +221,5 @@ verified_is_same e asked events told did none =
       mounts = of.mounts.mounts;
       folder = of.folder;
       all = all;
-      same = λ left right lefts rights. (same_trees asked.times of.held of.image.state left right of.lines lefts rights of.differ).0 (no_lines of.lines same);
+      same = λ left right lefts rights. (same_trees (comparing_verified e asked) of.held of.image.state left right of.lines lefts rights of.differ).0 (no_lines of.lines same);
     }

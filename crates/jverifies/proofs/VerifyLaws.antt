@@ -50,7 +50,7 @@ text_looks e sought before text = then_looks _ _ (answers_looks _) (λ (lines : 
 folder_looks : (e : Endian) (asked : Verification (List ℕ)) (m : Mount) → MakesNothing (compares_folder e asked m)
 folder_looks e asked m = then_looks _ _ (reading_makes_nothing (listing_settings asked.owner asked.time) asked.quiet asked.folder).1 (λ (listed : Listed).
     then_looks _ _ (answers_looks _) (λ (before : HostFiles).
-    then_looks _ _ (text_looks e (sought_with asked m) before listed.text.items) (λ (told : Told). answers_looks _)))
+    then_looks _ _ (text_looks e (sought_with e asked m) before listed.text.items) (λ (told : Told). answers_looks _)))
 
 pub verify_makes_nothing : VerifyMakesNothing
 verify_makes_nothing e asked = reported_looks _ (then_looks _ _ (loads_looks asked.image) (λ (image : List ℕ).
@@ -63,7 +63,7 @@ ops_blame e files lines events f is = subst (λ (g : Fault). BlamesEvent g event
 
 made_blames : (e : Endian) (sought : Sought) (made : List ℕ) → BlamesFailed (compares_made e sought made)
 made_blames e sought made = then_blames _ _ (mounts_blame e sought.flash.geometry.block made) (λ (left : Mount).
-    prints_blames _ (differs_unnamed sought.times left sought.image (lines_verified sought.image)))
+    prints_blames _ (differs_unnamed sought.how left sought.image (lines_verified sought.image)))
 
 text_blames : (e : Endian) (sought : Sought) (before : HostFiles) (text : List ℕ) → BlamesFailed (compares_text e sought before text)
 text_blames e sought before text = then_blames _ _ (listing_blames text) (λ (lines : List Line).
@@ -80,7 +80,7 @@ gives_blamed told events f is = let no : ⊥ = (let wrong = is.1 in cc) in absur
 folder_blamed : (e : Endian) (asked : Verification (List ℕ)) (m : Mount) → BlamesOnlyFailed (compares_folder e asked m)
 folder_blamed e asked m = then_blamed _ _ (folders_blamed.0 (listing_settings asked.owner asked.time) asked.quiet asked.folder).1 (λ (listed : Listed).
     then_blamed _ _ (kept_blamed listed) (λ (before : HostFiles).
-    then_blamed _ _ (of_act (compares_text e (sought_with asked m) before listed.text.items) (text_blames e (sought_with asked m) before listed.text.items)) (λ (told : Told).
+    then_blamed _ _ (of_act (compares_text e (sought_with e asked m) before listed.text.items) (text_blames e (sought_with e asked m) before listed.text.items)) (λ (told : Told).
     gives_blamed (packed_told listed.left_out told))))
 
 pub verify_blamed : VerifyBlamed

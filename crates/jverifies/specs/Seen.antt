@@ -5,6 +5,6 @@ use Rattle.jverifies.specs.declared.comparing.Against.{Against}
 abbrev pub compared_with : Against → Sought
 compared_with against = record {
   image = against.image.now;
-  times = against.times;
+  how = against.how;
   flash = against.flash;
 }

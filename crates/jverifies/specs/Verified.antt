@@ -12,7 +12,7 @@ use Rattle.jedge.specs.Calls.{Event, Did, Read}
 use Rattle.jedge.specs.Laws.{Happened}
 use Rattle.jedge.specs.Told.{Told, either}
 use Rattle.jpacks.specs.Held.{ShowsFolder}
-use Rattle.jverifies.specs.Verifying.{packing_verified, verify_act}
+use Rattle.jverifies.specs.Verifying.{packing_verified, comparing_verified, verify_act}
 use Rattle.jcommand.specs.declared.parsed.Verification.{Verification}
 
 -- A folder was read, and `held` holds its tree, as the image that `pack` makes of it does. The
@@ -26,7 +26,7 @@ pub record AreToldApart (e : Endian) (asked : Verification (List ℕ)) (events :
   pub read : Happened (Did (Read asked.image image.image)) events
   pub mounts : IsMountThroughOf e asked.options.geometry.block image
   pub folder : ShowsFolder e (packing_verified asked) events held
-  pub differ : AreDifferences asked.times held image.state lines
+  pub differ : AreDifferences (comparing_verified e asked) held image.state lines
   pub counted : told.counted ≡ either folder.folder.left_out
       (either (min (length lines) (2 ^ 64 - 1)) (findings image))
 
@@ -46,7 +46,7 @@ pub record IsVerified (e : Endian) (asked : Verification (List ℕ)) (events : L
   pub folder : ShowsFolder e (packing_verified asked) events held
   pub all : folder.folder.left_out ≡ 0
   pub same : (left right : List Entry) → AreEntries held left → AreEntries shown right
-      → AreSameEntries asked.times left right
+      → AreSameEntries (comparing_verified e asked) left right
 
 -- `verify` that ends without a fault, and finds nothing
 abbrev pub VerifiedIsSame : Type 0

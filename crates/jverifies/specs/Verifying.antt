@@ -10,6 +10,7 @@ use Rattle.jbuild.specs.declared.host_files.HostFiles.{HostFiles}
 use Rattle.jcommand.specs.declared.parsed.Packing.{Packing}
 use Rattle.jreport.specs.Notes.{noted as findings}
 use Rattle.jreads.specs.Named.{loads_named}
+use Rattle.jdiff.specs.declared.comparing.Comparing.{Comparing}
 use Rattle.jedge.specs.Acts.{Act, Then, answers, loads, prints}
 use Rattle.jedge.specs.Commands.{findings_noted}
 use Rattle.jedge.specs.Comparing.{Compares}
@@ -52,11 +53,10 @@ lines_verified m lines = record {
 
 -- ---- the act
 
--- what a folder is compared with, in times of change too where that is asked for; and the flash
--- that its image is made for
+-- what a folder is compared with, and how; and the flash that its image is made for
 pub record Sought : Type 0 where
   pub image : Mount
-  pub times : Bool
+  pub how : Comparing
   pub flash : Flash
 
 -- an image that was made is mounted, and the lines on its tree and that of another mount are
@@ -64,7 +64,7 @@ pub record Sought : Type 0 where
 abbrev pub compares_made : Endian → Sought → List ℕ → Act Told
 compares_made e sought made =
     Then (answers (MountsOrRefuses e sought.flash.geometry.block made)) (λ left.
-    prints (Compares sought.times left sought.image (lines_verified sought.image)))
+    prints (Compares sought.how left sought.image (lines_verified sought.image)))
 
 -- What lines make, with the bytes of the files that they name, is made in memory, and compared
 -- with a mount.
@@ -80,14 +80,18 @@ compares_text e sought before text =
     Then (loads_named lines before) (λ files.
     compares_lines e sought (part_contents files) lines))
 
-abbrev pub sought_with : Verification (List ℕ) → Mount → Sought
-sought_with asked m =
-    record { image = m; times = asked.times; flash = flash_verified asked }
+-- times of change are compared if that is asked for
+abbrev pub comparing_verified : Endian → Verification (List ℕ) → Comparing
+comparing_verified e asked = record { times = asked.times; order = e }
+
+abbrev pub sought_with : Endian → Verification (List ℕ) → Mount → Sought
+sought_with e asked m =
+    record { image = m; how = comparing_verified e asked; flash = flash_verified asked }
 
 -- A folder is read whole, as `pack` reads it, and its image compared with a mount.
 abbrev pub compares_folder : Endian → Verification (List ℕ) → Mount → Act Told
 compares_folder e asked m =
-    packs_folder (packing_verified asked) (compares_text e (sought_with asked m))
+    packs_folder (packing_verified asked) (compares_text e (sought_with e asked m))
 
 -- An image in which a node is found is mounted through its compression, and the folder compared
 -- with it.

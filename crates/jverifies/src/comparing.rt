@@ -10,7 +10,7 @@ ghost use Rattle.jverifies.specs.Verifying.{compares_lines, compares_made, compa
 
 use crate::making::make_in_memory;
 use jbuild::HostFiles;
-use jdiff::put_differences;
+use jdiff::{Comparing, put_differences};
 use jedge::damage::{either, findings_noted};
 use jedge::fault::Fault;
 use jedge::found::{Found, finished};
@@ -57,27 +57,26 @@ fn print_lines<'m, 'i, H: Host>(
     host: &mut H,
     folder: &'m Mounted<'i>,
     image: &'m Mounted<'i>,
-    times: bool,
+    how: Comparing,
 ) -> Result<Found<'static>, Fault>
     ensures { DoesFrom (H.history host.old) (H.history host.new)
-        (prints (Compares times folder.now image.now (lines_verified image.now)))
+        (prints (Compares how folder.now image.now (lines_verified image.now)))
         (seen_as found_told result) }
 {
     let mut out = match host.output() {
         Ok(out) => out,
         Err(fault) => return Err(fault),
     };
-    let put = put_differences(host.alloc(), folder, image, times, &mut out);
+    let put = put_differences(host.alloc(), folder, image, how, &mut out);
     let closed = host.close(out);
     finished(lines_put(image, put), closed)
 }
 
-/// What a folder is compared with, in times of change too where that is asked for; and the flash
-/// that its image is made for.
+/// What a folder is compared with, and how; and the flash that its image is made for.
 #[derive(Clone, Copy)]
 pub struct Against<'m, 'i> {
     pub image: &'m Mounted<'i>,
-    pub times: bool,
+    pub how: Comparing,
     pub flash: Flash,
 }
 
@@ -92,7 +91,7 @@ fn compare_made<'m, 'i, E: Order, H: Host>(
         (seen_as found_told result) }
 {
     match mounted::<E>(host.alloc(), made, against.flash.geometry) {
-        Ok(folder) => print_lines(host, &folder, against.image, against.times),
+        Ok(folder) => print_lines(host, &folder, against.image, against.how),
         Err(fault) => Err(fault),
     }
 }

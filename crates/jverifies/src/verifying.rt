@@ -7,6 +7,7 @@ ghost use Rattle.jverifies.specs.Verifying.{compares_folder, flash_verified, pac
 
 use crate::comparing::{Against, compare_listed};
 use jcommand::{Packing, Placing, Verification};
+use jdiff::Comparing;
 use jedge::fault::Fault;
 use jedge::found::Found;
 use jedge::mounting::{judge_nodes, mounted_as};
@@ -57,6 +58,7 @@ fn compare_folder<'i, E: Order, H: FolderHost + FilesHost>(
     image: &Mounted<'i>,
     made: &'i mut Vec<u8>,
 ) -> Result<Found<'static>, Fault>
+    requires { asked.options.endian ≡ E.order }
     ensures { DoesFrom (H.history host.old) (H.history host.new)
         (compares_folder E.order (verification_view asked.entry) image.now)
         (seen_as found_told result) }
@@ -64,7 +66,10 @@ fn compare_folder<'i, E: Order, H: FolderHost + FilesHost>(
     let settings = settings_of(asked.owner, asked.time);
     let against = Against {
         image,
-        times: asked.times,
+        how: Comparing {
+            times: asked.times,
+            order: asked.options.endian,
+        },
         flash: flash_of(asked),
     };
     match read_whole(host, asked.folder, asked.quiet, &settings) {
@@ -78,6 +83,7 @@ pub fn verify<E: Order, H: FolderHost + FilesHost>(
     host: &mut H,
     asked: Verification<&str>,
 ) -> Result<Found<'static>, Fault>
+    requires { asked.options.endian ≡ E.order }
     ensures { DoesFrom (H.history host.old) (H.history host.new)
         (verify_act E.order (verification_view asked.entry)) (seen_as found_told result) }
 {

@@ -2,17 +2,19 @@
 
 use crate::checks::equal;
 use crate::diff::pairs::{
-    AGAIN, AGAIN_ADDED, AGAIN_LINES, CHANGED, GEOMETRY, LEFT, ONCE, RIGHT, image_of,
+    AGAIN, AGAIN_ADDED, AGAIN_LINES, CHANGED, DEVICES, GEOMETRY, LEFT, NUMBERS, ONCE,
+    OTHER_DEVICES, RIGHT, image_of,
 };
 use byteorder::LittleEndian;
-use jdiff::put_differences;
+use jdiff::{Comparing, put_differences};
 use jmount::mount;
+use jnode::Endian;
 use jreport::ProgramFault;
 use std::alloc::Global;
 use test_support::{Matcher, Node};
 
 /// The nodes of two images, and the lines on them: of trees that have their shape, and of one that
-/// has it beside one that has not.
+/// has it beside one that has not; and of devices.
 type Row = (
     &'static [Node<'static>],
     &'static [Node<'static>],
@@ -24,6 +26,7 @@ fn rows() -> &'static [Row] {
         (LEFT, RIGHT, CHANGED),
         (AGAIN, ONCE, AGAIN_LINES),
         (ONCE, AGAIN, AGAIN_ADDED),
+        (DEVICES, OTHER_DEVICES, NUMBERS),
     ]
 }
 
@@ -39,7 +42,11 @@ fn fault(alloc: Global, left: &[u8], right: &[u8], text: &str) -> Option<Program
         rest: text.as_bytes(),
         failures: 0,
     };
-    match put_differences(alloc, &one, &other, false, &mut sink) {
+    let how = Comparing {
+        times: false,
+        order: Endian::Little,
+    };
+    match put_differences(alloc, &one, &other, how, &mut sink) {
         Ok(_) if sink.rest.is_empty() => None,
         Ok(_) => Some(ProgramFault::Output),
         Err(fault) => Some(fault),

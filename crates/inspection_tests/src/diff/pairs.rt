@@ -1,10 +1,11 @@
 //! Pairs of trees, with the lines on them.
 
 use crate::checks::{equal, expect_at};
-use byteorder::LittleEndian;
+use byteorder::{BigEndian, LittleEndian};
 use flashbase::Sink;
-use jdiff::put_differences;
+use jdiff::{Comparing, put_differences};
 use jmount::mount;
+use jnode::{Endian, Order};
 use jscan::Geometry;
 use std::alloc::Global;
 use std::test::Fail;
@@ -35,6 +36,22 @@ fn image_of_file(alloc: Global, bytes: &[u8]) -> Result<Vec<u8>, &'static str> {
 }
 
 /// Puts the lines on two images, and answers how many, or nothing where the sink failed.
+fn put_in<E: Order, T: Sink>(
+    alloc: Global,
+    left: &[u8],
+    right: &[u8],
+    how: Comparing,
+    sink: &mut T,
+) -> Result<Option<u64>, &'static str> {
+    let one = mount::<E>(alloc, left, GEOMETRY).map_err(|_| "no mount")?;
+    let other = mount::<E>(alloc, right, GEOMETRY).map_err(|_| "no mount")?;
+    match put_differences(alloc, &one, &other, how, sink) {
+        Ok(count) => Ok(Some(count)),
+        Err(_) => Ok(None),
+    }
+}
+
+/// The same of two little-endian images.
 fn put<T: Sink>(
     alloc: Global,
     left: &[u8],
@@ -42,12 +59,11 @@ fn put<T: Sink>(
     times: bool,
     sink: &mut T,
 ) -> Result<Option<u64>, &'static str> {
-    let one = mount::<LittleEndian>(alloc, left, GEOMETRY).map_err(|_| "no mount")?;
-    let other = mount::<LittleEndian>(alloc, right, GEOMETRY).map_err(|_| "no mount")?;
-    match put_differences(alloc, &one, &other, times, sink) {
-        Ok(count) => Ok(Some(count)),
-        Err(_) => Ok(None),
-    }
+    let how = Comparing {
+        times,
+        order: Endian::Little,
+    };
+    put_in::<LittleEndian, T>(alloc, left, right, how, sink)
 }
 
 /// The nodes of two images, whether times are compared, the lines, and how many there are.
@@ -136,6 +152,38 @@ const THEIRS: &[Node<'static>] = &[
 
 const OWNERS: &str = "- - 0644 1 2 3 /a\n+ - 0644 2 1 3 /a\n";
 
+/// Devices, of which one has no number.
+pub(crate) const DEVICES: &[Node<'static>] = &[
+    Node::Inode(2, 0o020666, b"\x03\x01"),
+    Node::Inode(3, 0o060660, b"\x0F\x08"),
+    Node::Inode(4, 0o020600, b"\x02"),
+    Node::Inode(5, 0o060600, b"\x01\x02\x30\x04"),
+    Node::Entry(1, 2, b"null"),
+    Node::Entry(1, 3, b"sda"),
+    Node::Entry(1, 4, b"tty"),
+    Node::Entry(1, 5, b"zip"),
+];
+
+/// The same, with other numbers, permissions of 3, and a number of 4.
+pub(crate) const OTHER_DEVICES: &[Node<'static>] = &[
+    Node::Inode(2, 0o020666, b"\x05\x01"),
+    Node::Inode(3, 0o060640, b"\x10\x08"),
+    Node::Inode(4, 0o020600, b"\x04\x05"),
+    Node::Inode(5, 0o060600, b"\x01\x02\x30\x04"),
+    Node::Entry(1, 2, b"null"),
+    Node::Entry(1, 3, b"sda"),
+    Node::Entry(1, 4, b"tty"),
+    Node::Entry(1, 5, b"zip"),
+];
+
+pub(crate) const NUMBERS: &str = "* /null device 1:3 to 1:5\n\
+- b 0660 0 0 2 /sda\n\
++ b 0640 0 0 2 /sda\n\
+* /sda device 8:15 to 8:16\n\
+- c 0600 0 0 1 /tty\n\
++ c 0600 0 0 2 /tty\n\
+* /tty device none to 5:4\n";
+
 /// Files of 4 GiB without a byte, which are passed over.
 const HOLES: &[Node<'static>] = &[
     Node::Hole(2, u32::MAX),
@@ -144,7 +192,7 @@ const HOLES: &[Node<'static>] = &[
     Node::Entry(1, 2, b"c"),
 ];
 
-const ROWS: [Row; 9] = [
+const ROWS: [Row; 11] = [
     (HOLES, HOLES, true, "", 0),
     (&[], &[], true, "", 0),
     (LEFT, LEFT, true, "", 0),
@@ -154,6 +202,8 @@ const ROWS: [Row; 9] = [
     (ONCE, AGAIN, false, AGAIN_ADDED, 2),
     (AGAIN, AGAIN, false, "", 0),
     (OURS, THEIRS, false, OWNERS, 2),
+    (DEVICES, OTHER_DEVICES, false, NUMBERS, 7),
+    (DEVICES, DEVICES, true, "", 0),
 ];
 
 #[test]
@@ -166,6 +216,29 @@ fn worked_pairs(rt: HostRuntime) -> Result<(), Fail> {
         equal(&rt, sink.bytes.as_slice(), text.as_bytes());
         equal(&rt, lines, Some(count));
     }
+    Ok(())
+}
+
+/// A big-endian image of a device with this number.
+fn big_endian(alloc: Global, number: &[u8]) -> Result<Vec<u8>, &'static str> {
+    let nodes = [Node::Inode(2, 0o020600, number), Node::Entry(1, 2, b"n")];
+    image_of_nodes::<BigEndian>(alloc, &nodes, PLAIN).map_err(|_| "no image")
+}
+
+/// The numbers are in the order of the images: of four bytes, and of two.
+#[test]
+fn numbers_of_big_endian_images(rt: HostRuntime) -> Result<(), Fail> {
+    let left = big_endian(rt.alloc(), b"\x12\x34\x56\x78")?;
+    let right = big_endian(rt.alloc(), b"\x01\x03")?;
+    let mut sink = Taker::new(rt.alloc());
+    let how = Comparing {
+        times: false,
+        order: Endian::Big,
+    };
+    let lines = put_in::<BigEndian, _>(rt.alloc(), &left, &right, how, &mut sink)?;
+    let text = "- c 0600 0 0 4 /n\n+ c 0600 0 0 2 /n\n* /n device 1110:74616 to 1:3\n";
+    equal(&rt, sink.bytes.as_slice(), text.as_bytes());
+    equal(&rt, lines, Some(3));
     Ok(())
 }
 

@@ -17,7 +17,7 @@ returns g c =
     let left = c.args.left in
     let right = c.args.right in
     printed_put _ c.output.ensures.same c.in-Ok.ensures.sound c.in-Ok.ensures.empty
-    (differs_put asked.times left right (compared asked.first.now asked.second.now left right) _
+    (differs_put (record { times = asked.times; order = asked.options.endian }) left right (compared asked.first.now asked.second.now left right) _
     c.put_differences-put.result c.put_differences-put.ensures) c.close-closed.ensures
     (ap (seen_as found_told) c.finished.ensures
     ∙ seen_closed found_told c.lines_compared.result c.close-closed.result

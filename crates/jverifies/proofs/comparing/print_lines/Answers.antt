@@ -16,7 +16,7 @@ returns g c =
     let folder = c.args.folder.now in
     let image = c.args.image.now in
     printed_put _ c.output.ensures.same c.in-Ok.ensures.sound c.in-Ok.ensures.empty
-    (differs_put c.args.times folder image (lines_verified image) _ c.put_differences-put.result c.put_differences-put.ensures) c.close-closed.ensures
+    (differs_put c.args.how folder image (lines_verified image) _ c.put_differences-put.result c.put_differences-put.ensures) c.close-closed.ensures
     (ap (seen_as found_told) c.finished.ensures
     ∙ seen_closed found_told c.lines_put.result c.close-closed.result
     ∙ ap (λ (r : Result Told Fault). and_closed r c.close-closed.result) c.lines_put.ensures)

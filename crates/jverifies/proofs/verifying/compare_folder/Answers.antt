@@ -10,7 +10,7 @@ pub returns-in-Ok : goal.returns-in-Ok
 returns-in-Ok g c =
     let asked = c.args.asked in
     then_ok (does_at (λ (o : Options). reads_folder asked.folder.now asked.quiet o) c.settings_of-settings.ensures c.in-Ok.ensures)
-    (does_at (λ (f : Flash). writes_listed (compares_text g.E.Order.order (record { image = c.args.image.now; times = asked.times; flash = f })) c.in-Ok.listed)
+    (does_at (λ (f : Flash). writes_listed (compares_text g.E.Order.order (record { image = c.args.image.now; how = record { times = asked.times; order = asked.options.endian }; flash = f })) c.in-Ok.listed)
     c.flash_of.ensures c.compare_listed.ensures)
 
 pub returns-in-Err : goal.returns-in-Err
