@@ -552,6 +552,8 @@ names are in byte order:
   - LINE, + LINE    both have it, and kind, permissions, owner, group, size or
                     target differ, or with --times the time of change
   * PATH at OFFSET  only the bytes differ, from this offset on
+  * PATH device MAJOR:MINOR to MAJOR:MINOR
+                    the numbers of devices differ, or one has none: 'none'
 
 LINE is a line of ls without the inode number, and without the time of change
 unless --times is given; see 'jffs2_image help ls'. A directory that was met
@@ -704,10 +706,12 @@ the lines that diff prints of that image and IMAGE:
   - LINE, + LINE    both have it, and kind, permissions, owner, group, size or
                     target differ, or with --times the time of change
   * PATH at OFFSET  only the bytes differ, from this offset on
+  * PATH device MAJOR:MINOR to MAJOR:MINOR
+                    the numbers of devices differ, or one has none: 'none'
 
 IMAGE may have compressed data. Give --owner and --time as they were given to
 pack. Things of DIR that an image cannot hold are reported on standard error,
-each with a line 'left out PATH: REASON'. Numbers of devices are not compared.
+each with a line 'left out PATH: REASON'.
 
 Examples:
   jffs2_image verify flash.img tree

@@ -84,6 +84,7 @@ parameters_shapes =
 unfoldable pub differences_shapes : List Shape
 differences_shapes =
     (codes "bytes", codes "* /path at #offset")
+    ∷ (codes "device", codes "* /path device =from to =to")
     ∷ (codes "object", codes "=sign =kind =mode #uid #gid #size /path")
     ∷ (codes "object", codes "=sign =kind =mode #uid #gid #size /path ?again")
     ∷ (codes "object", codes "=sign =kind =mode #uid #gid ^size /path -> ?long")

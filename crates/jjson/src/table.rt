@@ -98,6 +98,7 @@ const PARAMETERS: &[Shape] = &[
 /// The differences of `diff` and `verify`.
 const DIFFERENCES: &[Shape] = &[
     Shape(b"bytes", b"* /path at #offset"),
+    Shape(b"device", b"* /path device =from to =to"),
     Shape(b"object", b"=sign =kind =mode #uid #gid #size /path"),
     Shape(b"object", b"=sign =kind =mode #uid #gid #size /path ?again"),
     Shape(

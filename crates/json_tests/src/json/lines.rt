@@ -193,10 +193,18 @@ const PARAMETERS: [Case; 9] = [
 ];
 
 /// Lines of `diff`.
-const DIFFERENCES: [Case; 12] = [
+const DIFFERENCES: [Case; 14] = [
     Case(
         b"* /etc/hostname at 3",
         b"{\"line\":\"bytes\",\"path\":\"/etc/hostname\",\"offset\":3}",
+    ),
+    Case(
+        b"* /dev/console device 5:1 to 4:64",
+        b"{\"line\":\"device\",\"path\":\"/dev/console\",\"from\":\"5:1\",\"to\":\"4:64\"}",
+    ),
+    Case(
+        b"* /dev/x device none to 1:3",
+        b"{\"line\":\"device\",\"path\":\"/dev/x\",\"from\":\"none\",\"to\":\"1:3\"}",
     ),
     Case(
         b"- - 0644 1 2 120 /etc/motd",
