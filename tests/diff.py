@@ -2,8 +2,8 @@
 """Compares images by `diff` of the finished program, and their extracted folders by a plain comparison of this host.
 
 Usage: tests/diff.py [PROGRAM]. Pairs of images of random listings, in both orders and several block sizes: the lines, with and
-without times, are those that the comparison of the two folders makes, and `diff A A` prints nothing. The last line is
-'N passed, M failed'.
+without times, are those that the comparison of the two folders makes, and `diff A A` prints nothing. Pairs of devices of several
+numbers. The last line is 'N passed, M failed'.
 """
 import copy
 import os
@@ -218,8 +218,35 @@ def random_listings():
                 verdict(f"diff {' '.join(words)} {a} {b} of seed {seed}", is_right, done)
 
 
+NUMBERS = ((1, 3), (1, 5), (3, 1), (255, 255), (255, 256), (256, 0), (0, 256), (4095, 1048575), (259, 65537))
+
+
+def numbers_of_devices():
+    """Each pair of devices of these numbers, of one kind and of two, and with another mode."""
+    for order in ("little", "big"):
+        options = ["--endian", order]
+        for kind, mode, major, minor in [(kind, mode, *number) for kind in "cb" for mode in ("0600", "0640") for number in NUMBERS]:
+            name = f"{kind}{mode}.{major}.{minor}.img"
+            write("one.txt", f"owner 1 2\ndevice {kind} {mode} {major} {minor} /a\\x20b\n".encode())
+            made = run("build", *options, "one.txt", name)
+            if made.status != 0:
+                raise AssertionError(made)
+        for left in NUMBERS:
+            for right in NUMBERS:
+                for ours, theirs in (("c0600", "c0600"), ("b0600", "b0640"), ("c0640", "b0640")):
+                    lines = []
+                    if ours != theirs:
+                        lines += [f"{sign} {of[0]} {of[1:]} 1 2 0 /a\\x20b" for sign, of in (("-", ours), ("+", theirs))]
+                    if left != right:
+                        lines.append(f"* /a\\x20b device {left[0]}:{left[1]} to {right[0]}:{right[1]}")
+                    wanted = "".join(line + "\n" for line in lines).encode()
+                    images = [f"{of}.{number[0]}.{number[1]}.img" for of, number in ((ours, left), (theirs, right))]
+                    done = run("diff", *options, *images)
+                    verdict(f"numbers {order} {images}", done == Done(3 if wanted else 0, wanted, b""), done)
+
+
 COUNT = int(os.environ.get("DIFF_SEEDS", "100"))
-GROUPS = (random_listings,)
+GROUPS = (random_listings, numbers_of_devices)
 
 
 def main():

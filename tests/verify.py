@@ -141,6 +141,12 @@ def made_by_mkfs():
     image = f"{ROOT}/tests/data/default.img"
     words = ["--block", "8192", "--owner", "0", "0"]
     verify("mkfs.jffs2: nothing differs", lines(*device), *words, image, "data")
+    if IS_ROOT:
+        os.remove("data/null")
+        os.mknod("data/null", 0o600 | stat.S_IFCHR, os.makedev(5, 1))
+        settle("data")
+        device = ["* /null device 5:1 to 1:3"]
+        verify("mkfs.jffs2: another number", lines(*device), *words, image, "data")
     write("data/short", "aaaaaaaaaaab")
     verify("mkfs.jffs2: a byte", lines(*device, "* /short at 11"), *words, image, "data")
 

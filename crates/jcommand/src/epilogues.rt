@@ -490,6 +490,16 @@ behind each page. If more nodes are sound without them, a last line says
 'spare S after each P', and then --oob P+S leaves them out. Looked for are
 512+16, 2048+64, 4096+128 and 4096+224.
 
+For a dump of a whole flash it also prints where the nodes are, in at most 16
+lines, and 'more regions than these 16' if there are more:
+
+  region from A to B order little block from MIN to MAX
+
+--offset A with --length N, where N is B less A, reads that part. Nodes of one
+order are in one region if fewer than 16 units of 4096 bytes that are neither
+erased nor have a node lie between them. If there is one region and it begins
+at 0, no such line is printed.
+
 If the file begins as gzip, xz, UBI, squashfs, TRX or uImage do, a note on
 standard error says so: an image may be inside of it.
 
@@ -655,6 +665,9 @@ the fields of the node, as Linux names them.
 The last line has how many nodes have each word. Nothing of the image is
 changed. With PATH it prints the nodes of each object that an entry ever gave
 this name, and these entries; the folder of PATH is found in the tree as it is.
+For each of these objects it prints at the end a line 'was ino N versions A to B
+size S sha256 DIGEST'; a directory or a device has no size and no digest.
+
 With --since or --until it prints only nodes whose time is not before, or not
 after, that one: mctime of an entry, mtime of an inode node.
 
