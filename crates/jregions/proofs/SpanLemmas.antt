@@ -1,5 +1,6 @@
 -- Spans and the units that they are made of.
-use Rattle.std.proofs.Common.{◌≡◌, ℕ, zero, suc, ◌+◌, ◌<◌, ◌≤◌, Bool, true, false, List, [], ◌∷◌, arith, refl, sym, ap, ◌∙◌, subst, absurd}
+use Rattle.std.proofs.Common.{◌≡◌, ℕ, zero, suc, ◌+◌, ◌<◌, ◌≤◌, Bool, true, false, List, [], ◌∷◌, drop, get_or, length, reverse, arith, refl, sym, ap, ◌∙◌, subst, absurd}
+use Rattle.std.proofs.Math.Seq.{drop-cons}
 use Rattle.std.proofs.lemmas.Bool.{cond-true, cond-false, cases_Bool}
 use Rattle.std.specs.Prelude.{Contains, Some, slice_get}
 use Rattle.jnode.specs.declared.order.Endian.{Endian}
@@ -29,3 +30,22 @@ spans_apart at [] = tt
 spans_apart at (Nodes e ∷ us) = before_apart (foreign_ahead us) e at (spans_from (at + 1) us) (spans_apart (at + 1) us)
 spans_apart at (Erased ∷ us) = apart_from at (at + 1) (spans_from (at + 1) us) (omega arith) (spans_apart (at + 1) us)
 spans_apart at (Foreign ∷ us) = apart_from at (at + 1) (spans_from (at + 1) us) (omega arith) (spans_apart (at + 1) us)
+
+-- one unit more, from the last one down
+pub record AreTaken (units : List UnitKind) (at gap : ℕ) (spans : List Span) : Type 0 where
+  pub gap : gap ≡ foreign_ahead (drop at units)
+  pub spans : reverse spans ≡ spans_from at (drop at units)
+
+pub unit_taken : (units : List UnitKind) (at next gap now : ℕ) (kind : UnitKind) (old new : List Span) → at ≡ next + 1 → at ≤ length units
+    → kind ≡ get_or units next kind → AreTaken units at gap old
+    → ((us : List UnitKind) → gap ≡ foreign_ahead us → reverse old ≡ spans_from (next + 1) us → reverse new ≡ spans_from next (kind ∷ us))
+    → ((us : List UnitKind) → gap ≡ foreign_ahead us → now ≡ foreign_ahead (kind ∷ us)) → AreTaken units next now new
+unit_taken units at next gap now kind old new step within here taken puts counts =
+    let one : suc next ≡ at = omega (arith, step) in
+    let front : drop next units ≡ kind ∷ drop at units =
+    drop-cons units next kind (omega (arith, step, within)) ∙ ap (λ (k : UnitKind). k ∷ drop (suc next) units) (sym here)
+    ∙ ap (λ (n : ℕ). kind ∷ drop n units) one in
+    record {
+      gap = counts (drop at units) taken.gap ∙ ap foreign_ahead (sym front);
+      spans = puts (drop at units) taken.gap (taken.spans ∙ ap (λ (n : ℕ). spans_from n (drop at units)) step) ∙ ap (spans_from next) (sym front);
+    }

@@ -1,5 +1,7 @@
 -- Which units are marked.
 use Rattle.std.proofs.Common.{◌≡◌, ℕ, ◌+◌, ◌-◌, ◌<◌, ◌≤◌, Bool, true, false, ◌&&◌, ◌||◌, List, [], ◌∷◌, get_or, length, refl, sym, ap, ◌∙◌, arith}
+use Rattle.std.proofs.lemmas.Bool.{cases_lt, le-leb, lt-leb}
+use Rattle.std.proofs.Math.Bool.{or-true}
 use Rattle.std.specs.Prelude.{nat_le, slice_index_or}
 use Rattle.std.specs.List.{list_any}
 use Rattle.jscan.specs.declared.extent.Extent.{Extent}
@@ -41,4 +43,14 @@ marks_end n whole marks go u in_n = sym (or_false (get_or marks u false)) ∙ go
 
 pub marked_is : (now old : Bool) (first last u : ℕ) → (first ≤ u → u ≤ last → now ≡ true) → (u < first → now ≡ old) → (last < u → now ≡ old)
     → now ≡ (old || (nat_le first u && nat_le u last))
-marked_is now old first last u inside below above = grind arith
+marked_is now old first last u inside below above = elim (cases_lt u first) [
+  | inl before ↦ below before ∙ sym (ap (λ (b : Bool). old || (b && nat_le u last)) (lt-leb first u before) ∙ or_false old)
+  | inr from ↦ elim (cases_lt last u) [
+    | inl past ↦
+        above past
+        ∙ sym (ap (λ (b : Bool). old || (b && nat_le u last)) (le-leb first u from) ∙ ap (λ (b : Bool). old || b) (lt-leb u last past) ∙ or_false old)
+    | inr within ↦
+        inside from within
+        ∙ sym (ap (λ (b : Bool). old || (b && nat_le u last)) (le-leb first u from) ∙ ap (λ (b : Bool). old || b) (le-leb u last within) ∙ or-true old)
+  ]
+]
