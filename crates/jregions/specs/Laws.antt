@@ -7,12 +7,12 @@ use Rattle.jregions.specs.declared.unit.UnitKind.{UnitKind}
 use Rattle.jregions.specs.declared.unit.UnitKind.TheVariants.{Nodes}
 
 -- spans from a unit on, each of some units, and each behind the one before it
-abbrev pub AreApart : ℕ → List Span → Type 0
-AreApart at [] = Unit {0}
-AreApart at (s ∷ ss) = (at ≤ s.from) × (s.from < s.to) × AreApart s.to ss
+abbrev pub AreSpansFrom : ℕ → List Span → Type 0
+AreSpansFrom at [] = Unit {0}
+AreSpansFrom at (s ∷ ss) = (at ≤ s.from) × (s.from < s.to) × AreSpansFrom s.to ss
 
 abbrev pub SpansAreApart : Type 0
-SpansAreApart = (at : ℕ) (units : List UnitKind) → AreApart at (spans_from at units)
+SpansAreApart = (at : ℕ) (units : List UnitKind) → AreSpansFrom at (spans_from at units)
 
 -- a unit lies in a span of this order
 pub record IsInSpan (spans : List Span) (e : Endian) (unit : ℕ) : Type 0 where

@@ -18,9 +18,9 @@ region_line region =
     ++ codes " order " ++ order_name region.order ++ codes " block " ++ sizes_words region.sizes
     ++ codes "\n"
 
-abbrev pub more_line : Bool → List ℕ
-more_line true = codes "more regions than these 16\n"
-more_line false = []
+abbrev pub more_regions_line : Bool → List ℕ
+more_regions_line true = codes "more regions than these 16\n"
+more_regions_line false = []
 
 unfoldable pub region_lines : Regions → List ℕ
-region_lines regions = flat_map region_line regions.first.items ++ more_line regions.more
+region_lines regions = flat_map region_line regions.first.items ++ more_regions_line regions.more

@@ -6,10 +6,10 @@ use Rattle.jregions.specs.declared.unit.UnitKind.{UnitKind}
 use Rattle.jregions.specs.declared.unit.UnitKind.TheVariants.{Nodes, Erased, Foreign}
 use Rattle.jregions.specs.declared.span.Span.{Span}
 
-abbrev pub is_same_order : Endian → Endian → Bool
-is_same_order Little Little = true
-is_same_order Big Big = true
-is_same_order _ _ = false
+abbrev pub is_of_order : Endian → Endian → Bool
+is_of_order Little Little = true
+is_of_order Big Big = true
+is_of_order _ _ = false
 
 -- how many foreign units come before the next one that has nodes
 abbrev pub foreign_ahead : List UnitKind → ℕ
@@ -20,7 +20,7 @@ foreign_ahead (Foreign ∷ us) = suc (foreign_ahead us)
 
 -- Fewer than 16 foreign units, 64 KiB, are dirt within a file system.
 abbrev pub goes_on : ℕ → Endian → Span → Bool
-goes_on gap e next = is_same_order e next.order && nat_lt gap 16
+goes_on gap e next = is_of_order e next.order && nat_lt gap 16
 
 -- a unit of nodes in front of spans: it belongs to the first of them, if that goes on from it
 abbrev pub unit_before : ℕ → Endian → ℕ → List Span → List Span

@@ -44,9 +44,9 @@ usual_order file = unwrap_or (info_of file).order Little
 
 -- A unit is of the order of its nodes, and of the file's own order if it has nodes of both. Others
 -- are erased, or foreign.
-abbrev pub kind_at : List ℕ → ℕ → UnitKind
-kind_at file unit = kind_by (order_among (usual_order file) (has_node Little file unit)
+abbrev pub unit_kind_at : List ℕ → ℕ → UnitKind
+unit_kind_at file unit = kind_by (order_among (usual_order file) (has_node Little file unit)
     (has_node Big file unit)) (unit_bytes file unit)
 
 unfoldable pub units_of : List ℕ → List UnitKind
-units_of file = each_below (unit_count file) (kind_at file)
+units_of file = each_below (unit_count file) (unit_kind_at file)

@@ -4,7 +4,7 @@ ghost use Rattle.std.specs.Prelude.{◌≡◌, ◌+◌, ◌≤◌, ◌++◌, len
 ghost use Rattle.std.specs.List.{flat_map};
 ghost use Rattle.flashbase.specs.Sinks.{PutsTo};
 ghost use Rattle.jinfo.specs.InfoText.{order_name};
-ghost use Rattle.jregions.specs.RegionText.{more_line, region_line, region_lines, sizes_words};
+ghost use Rattle.jregions.specs.RegionText.{more_regions_line, region_line, region_lines, sizes_words};
 
 use crate::region::{Region, Regions};
 use flashbase::{DeviceFault, Sink};
@@ -70,7 +70,7 @@ fn put_each<T: Sink>(regions: &[Region], sink: &mut T) -> Result<(), DeviceFault
 
 /// Puts the line that says that there are more.
 fn put_more<T: Sink>(more: bool, sink: &mut T) -> Result<(), DeviceFault>
-    ensures { PutsTo T.Sink sink.old sink.new (more_line more) result }
+    ensures { PutsTo T.Sink sink.old sink.new (more_regions_line more) result }
 {
     if more {
         put_text(sink, b"more regions than these 16\n")

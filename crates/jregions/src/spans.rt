@@ -1,7 +1,7 @@
 //! Which units lie together.
 
 ghost use Rattle.std.specs.Prelude.{◌≡◌, ◌≤◌, ◌<◌, ◌+◌, ◌^◌, ◌∷◌, List, IfOk, OnOk, length, reverse};
-ghost use Rattle.jregions.specs.Spans.{foreign_ahead, goes_on, is_same_order, spans_from, unit_before};
+ghost use Rattle.jregions.specs.Spans.{foreign_ahead, goes_on, is_of_order, spans_from, unit_before};
 ghost use Rattle.jregions.specs.declared.unit.UnitKind.{UnitKind};
 
 use crate::span::Span;
@@ -12,8 +12,8 @@ use std::alloc::{AllocError, Global};
 /// So many foreign units are no dirt within a file system.
 const GREATEST_GAP: usize = 16;
 
-fn is_same_order(first: Endian, second: Endian) -> bool
-    ensures { result ≡ is_same_order first second }
+fn is_of_order(first: Endian, second: Endian) -> bool
+    ensures { result ≡ is_of_order first second }
 {
     matches!(
         (first, second),
@@ -25,7 +25,7 @@ fn is_same_order(first: Endian, second: Endian) -> bool
 fn goes_on(gap: usize, order: Endian, next: Span) -> bool
     ensures { result ≡ goes_on gap order next }
 {
-    is_same_order(order, next.order) && gap < GREATEST_GAP
+    is_of_order(order, next.order) && gap < GREATEST_GAP
 }
 
 /// Adds a unit of nodes to the spans behind it, of which the first is the last one here.

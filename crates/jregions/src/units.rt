@@ -5,7 +5,7 @@ ghost use Rattle.std.specs.List.{list_all};
 ghost use Rattle.flashbase.specs.Lists.{each_below};
 ghost use Rattle.jnode.specs.declared.order.Endian.TheVariants.{Big, Little};
 ghost use Rattle.jscan.specs.Image.{greatest_image};
-ghost use Rattle.jregions.specs.Units.{has_node, kind_at, kind_by, order_among, unit_bytes, unit_count, units_of, usual_order};
+ghost use Rattle.jregions.specs.Units.{has_node, unit_kind_at, kind_by, order_among, unit_bytes, unit_count, units_of, usual_order};
 
 use crate::touched::{UNIT, touched, unit_count};
 use crate::unit::UnitKind;
@@ -76,7 +76,7 @@ fn units_by(
     requires big { (unit : ℕ) → unit < unit_count file.now
         → slice_index_or big.now unit false ≡ has_node Big file.now unit }
     ensures { IfOk result (λ units.
-        units.items ≡ each_below (unit_count file.now) (kind_at file.now)) }
+        units.items ≡ each_below (unit_count file.now) (unit_kind_at file.now)) }
 {
     let usual = usual_order(file);
     let mut units = Vec::new(alloc);
