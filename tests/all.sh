@@ -71,6 +71,7 @@ tests/retry.py $program
 tests/diff.py $program
 tests/spare.py $program
 tests/offset.py $program
+tests/regions.py $program
 tests/json_lines.py $program
 tests/upto.py $program
 tests/deleted.py $program

@@ -13,12 +13,15 @@ It shares nothing with the crates. The layouts are those of include/uapi/linux/j
 docs/FORMAT.md."""
 import binascii
 import math
+import re
 import struct
 import sys
 
 MAGIC, ACCURATE = 0x1985, 0x2000
 DIRENT, INODE, MARKER = 0xE001, 0xE002, 0x2003
 SIZES = range(4096, 4194305, 4)
+# the smallest erase block, and how many regions are printed
+UNIT, REGIONS = 4096, 16
 LAYOUTS = [(512, 16), (2048, 64), (4096, 128), (4096, 224)]
 BEGINNINGS = [(b'\x1f\x8b', 'gzip'), (b'\xfd7zXZ\0', 'xz'), (b'UBI#', 'UBI'), (b'hsqs', 'squashfs'),
               (b'HDR0', 'a TRX header'), (b'\x27\x05\x19\x56', 'a uImage header')]
@@ -136,6 +139,38 @@ def spare(image):
     return best
 
 
+def unit_kinds(image):
+    """Of each 4096 bytes of a file: < or > by the byte order of nodes that lie there, if any do; otherwise E if they are erased, and X."""
+    owner = {'little': '<', 'big': '>'}[own_nodes(image)[0]]
+    kinds = []
+    for place in range(0, len(image), UNIT):
+        kinds.append('E' if set(image[place:place + UNIT]) == {255} else 'X')
+    # the file's own order is written last, so that it wins
+    for order in sorted('<>', key=lambda order: order == owner):
+        for address, length, *_ in walk(image, order):
+            for unit in range(address // UNIT, (address + length - 1) // UNIT + 1):
+                kinds[unit:unit + 1] = order if unit < len(kinds) else ''
+    return ''.join(kinds)
+
+
+def regions(image):
+    """The lines on the regions of a dump: a pattern over the kinds of its units finds them."""
+    found = []
+    kinds = unit_kinds(image)
+    for order in '<>':
+        gap = '(?:E*X){0,15}E*'
+        for run in re.finditer(f'{order}(?:{gap}{order})*', kinds):
+            found.append((run.start() * UNIT, min(run.end() * UNIT, len(image)), {'<': 'little', '>': 'big'}[order]))
+    found.sort()
+    if len(found) == 1 and found[0][0] == 0:
+        return []
+    told = []
+    for start, end, order in found[:REGIONS]:
+        block = sizes(own_nodes(image[start:end])[1]).split(' markers')[0]
+        told.append(f'region from 0x{start:08x} to 0x{end:08x} order {order} {block}')
+    return told + ([f'more regions than these {REGIONS}'] if len(found) > REGIONS else [])
+
+
 def lines(image):
     name, nodes, other = own_nodes(image)
     layout = spare(image) if any(node[2] == 'damaged' for node in nodes) else None
@@ -152,6 +187,7 @@ def lines(image):
         'data none {} zero {} rtime {} zlib {} lzo {} lzma {} other {}'.format(*packed, len(ways) - sum(packed)),
         f'highest inode {max([n[3] for n in nodes], default=0)} version {max([n[4] for n in nodes], default=0)}',
         *([f'spare {layout[1]} after each {layout[0]}'] if layout else []),
+        *regions(image),
     ]
 
 

@@ -89,6 +89,11 @@ def judge_dump(what, place, chance, one, other):
         judge_part(f"{what} at {start:#x}", place, words, options, folder, os.path.join(place, "dump"), path)
         raw = (*words, "--oob", LAYOUT)
         alike(f"{what} at {start:#x}, spare bytes", place, raw, ("ls", "--decompress", *options), os.path.join(place, "raw"), path)
+    # few foreign bytes between two file systems of one order do not part them
+    apart = one[1][1] != other[1][1] or len(middle) >= 16 * 4096
+    starts = [(int(line.split()[2], 16), line.split()[6]) for line in run("info", "dump", place=place)[1].splitlines() if line.startswith("region ")]
+    wanted = [(at, one[1][1]), (then, other[1][1])] if apart else [(at, one[1][1])]
+    test(f"{what}: info", [] if starts == wanted else [f"{starts}, wanted {wanted}"])
     early = run("ls", "--offset", hex(then), "--length", str(len(data)), "dump", place=place)
     test(f"{what}: the dump ends before that", [] if early[0] == 1 and "is shorter than" in early[2] else [f"{early}"])
 

@@ -28,7 +28,9 @@ use Rattle.jedge.specs.Comparing.{Compares, compared}
 use Rattle.jedge.specs.Images.{HasNodes, MountsBoth, MountsFor, MountsOrRefuses, MountsWith, NotesNone, view_refusal}
 use Rattle.jedge.specs.Showing.{Checks, Contains, Lists, NamesNothing}
 use Rattle.jspare.specs.declared.layout.PageLayout.{PageLayout}
+use Rattle.jedge.specs.Parting.{FindsRegions}
 use Rattle.jedge.specs.Sparing.{FindsSpare}
+use Rattle.jregions.specs.declared.region.Regions.{Regions}
 use Rattle.jedge.specs.Told.{Told}
 use Rattle.jedge.specs.Views.{HasBlockSize, IsViewed, NamesPart, NamesPath, conversion_refusal, views}
 use Rattle.jedge.specs.Laws.{BlamesEvent, BlamedIsFailed, BlamesFailed, Happened, IsOfBytes}
@@ -289,6 +291,16 @@ spare_blames dump events (fault.Refused why) is = absurd is.1
 spare_blames dump events fault.Output is = absurd is.1
 spare_blames dump events fault.OutOfMemory is = tt
 
+pub regions_blame : (file : List ℕ) → BlamesFailed (answers (FindsRegions file))
+regions_blame file events (fault.File name) is = absurd is.1
+regions_blame file events (fault.NotRead name) is = absurd is.1
+regions_blame file events (fault.NoNodes of others) is = tt
+regions_blame file events (fault.NoSpace folder) is = absurd is.1
+regions_blame file events (fault.Findings of findings) is = tt
+regions_blame file events (fault.Refused why) is = absurd is.1
+regions_blame file events fault.Output is = absurd is.1
+regions_blame file events fault.OutOfMemory is = tt
+
 pub shows_blames : (choice : Choice) (decompress : Bool) (e : Endian) (size : ℕ) (says : Option ℕ → Mount → Saying Told) → ((others : Option ℕ) (m : Mount) → Unnamed (says others m))
     → (image : List ℕ) → BlamesFailed (shows_mount choice decompress e size says image)
 shows_blames choice decompress e size says unnamed image = then_blames _ _ (notes_blame e size image) (λ (others : Option ℕ).
@@ -366,7 +378,7 @@ cat_blames options decompress strict name word = then_blames _ _ (path_blames wo
     (λ (others : Option ℕ) (m : Mount). contains_unnamed (content_of m.state path) (content_told strict (missing_bytes options.endian options.geometry.block path m) (read_told options.endian options.geometry.block others m)))))
 
 pub info_blames : (name : List ℕ) → BlamesFailed (info_act name)
-info_blames name = then_blames (loads name) _ (loads_blames name) (λ (image : List ℕ). then_blames _ _ (spare_blames image) (λ (spare : Option PageLayout). whole_blames _ _))
+info_blames name = then_blames (loads name) _ (loads_blames name) (λ (image : List ℕ). then_blames _ _ (spare_blames image) (λ (spare : Option PageLayout). then_blames _ _ (regions_blame image) (λ (regions : Regions). whole_blames _ _)))
 
 pub damage_blames : (options : Options) (decompress : Bool) (name : List ℕ) → BlamesFailed (damage_act options decompress name)
 damage_blames options decompress name = then_blames (loads name) _ (loads_blames name)

@@ -17,6 +17,7 @@ use Rattle.jedge.specs.Comparing.{Compares, compared}
 use Rattle.jedge.specs.Laws.{ComesFirst, JudgedFirst, JudgesFirst, JudgesFirstBut, NonePrinted}
 use Rattle.jedge.specs.Missing.{missing_bytes}
 use Rattle.jedge.specs.Showing.{Checks, Contains, Lists}
+use Rattle.jregions.specs.declared.region.Regions.{Regions}
 use Rattle.jspare.specs.declared.layout.PageLayout.{PageLayout}
 use Rattle.jedge.specs.Told.{Told}
 use Rattle.jedge.specs.Views.{views}
@@ -254,7 +255,7 @@ check_first options shape name = then_first_but _ (opens name) _ (opens_silent n
     prints_first_but _ _ (checks_unput options.endian options.geometry.block shape image))))
 
 pub info_first : (name : List ℕ) → JudgesFirst (info_act name)
-info_first name = then_first (loads name) _ (loads_silent name) (λ (image : List ℕ). then_first _ _ (answers_silent _) (λ (spare : Option PageLayout). whole_first _ _))
+info_first name = then_first (loads name) _ (loads_silent name) (λ (image : List ℕ). then_first _ _ (answers_silent _) (λ (spare : Option PageLayout). then_first _ _ (answers_silent _) (λ (regions : Regions). whole_first _ _)))
 
 pub damage_first : (options : Options) (decompress : Bool) (name : List ℕ) → JudgesFirst (damage_act options decompress name)
 damage_first options decompress name = then_first (loads name) _ (loads_silent name)

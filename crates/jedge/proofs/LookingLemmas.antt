@@ -7,6 +7,7 @@ use Rattle.jedge.specs.Acts.{Act, Then, Ends, GoesOn, IsPrintedInPart, IsSaidBy,
 use Rattle.jedge.specs.Calls.{Event, Stream, Answers, Errors, Failed, Print, printed}
 use Rattle.jnode.specs.declared.order.Endian.{Endian}
 use Rattle.jjson.specs.declared.lines.Lines.{Lines}
+use Rattle.jregions.specs.declared.region.Regions.{Regions}
 use Rattle.jspare.specs.declared.layout.PageLayout.{PageLayout}
 use Rattle.jspare.specs.declared.region.Region.{Region}
 use Rattle.jmount.specs.Mount.{Mount}
@@ -141,7 +142,7 @@ cat_looks options decompress strict name word = then_looks _ _ (answers_looks _)
     then_looks _ _ (answers_looks _) (λ (m : Mount). prints_looks _))))
 
 pub info_looks : (name : List ℕ) → MakesNothing (info_act name)
-info_looks name = then_looks (loads name) _ (loads_looks name) (λ (image : List ℕ). then_looks _ _ (answers_looks _) (λ (spare : Option PageLayout). prints_looks _))
+info_looks name = then_looks (loads name) _ (loads_looks name) (λ (image : List ℕ). then_looks _ _ (answers_looks _) (λ (spare : Option PageLayout). then_looks _ _ (answers_looks _) (λ (regions : Regions). prints_looks _)))
 
 pub damage_looks : (options : Options) (decompress : Bool) (name : List ℕ) → MakesNothing (damage_act options decompress name)
 damage_looks options decompress name = then_looks (loads name) _ (loads_looks name)

@@ -30,6 +30,8 @@ use Rattle.jedge.specs.Images.{HasNodes, MountsBoth, MountsFor, MountsWith, Note
 use Rattle.jedge.specs.Missing.{missing_bytes, missing_noted}
 use Rattle.jedge.specs.Showing.{Checks, Contains, Lists}
 use Rattle.jspare.specs.Showing.{spare_lines}
+use Rattle.jregions.specs.RegionText.{region_lines}
+use Rattle.jedge.specs.Parting.{FindsRegions}
 use Rattle.jedge.specs.Sparing.{FindsSpare}
 use Rattle.jedge.specs.Told.{Told, either, shown_notes}
 use Rattle.jedge.specs.Views.{HasBlockSize, NamesPart, NamesPath}
@@ -75,11 +77,13 @@ informed image = record {
   noted = option_map container_line (container_of image);
 }
 
--- the file is read, and what it tells of itself is printed, and the layout that it has if it is a
--- dump with spare bytes
+-- The file is read, and what it tells of itself is printed, the layout that it has if it is a dump
+-- with spare bytes, and the regions of a dump of a whole flash.
 abbrev pub info_act : List ℕ → Act Told
 info_act name = Then (loads name) (λ image. Then (answers (FindsSpare image)) (λ spare.
-    prints (Whole (info_text image ++ spare_lines spare) (informed image))))
+    Then (answers (FindsRegions image)) (λ regions.
+    prints (Whole (info_text image ++ spare_lines spare ++ region_lines regions)
+    (informed image)))))
 
 -- ---- `damage`
 

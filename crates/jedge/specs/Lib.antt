@@ -7,6 +7,7 @@ pub mod Images
 pub mod Inflating
 pub mod Laws
 pub mod Missing
+pub mod Parting
 pub mod Showing
 pub mod Sparing
 pub mod Streams

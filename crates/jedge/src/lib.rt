@@ -19,6 +19,7 @@ pub mod laws;
 pub mod list;
 mod missing;
 pub mod mounting;
+pub mod parting;
 pub mod reading;
 pub mod reporting;
 pub mod spare;

@@ -78,6 +78,12 @@ parameters_shapes =
     )
     ∷ (codes "highest", codes "highest inode #inode version #version")
     ∷ (codes "spare", codes "spare #spare after each #page")
+    ∷ (
+      codes "region",
+      codes "region from =from to =to order =order block from #block_from to #block_to",
+    )
+    ∷ (codes "region", codes "region from =from to =to order =order block =block")
+    ∷ (codes "more", codes "more regions than these #regions")
     ∷ []
 
 -- the differences of `diff` and `verify`

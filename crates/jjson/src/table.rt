@@ -93,6 +93,15 @@ const PARAMETERS: &[Shape] = &[
     ),
     Shape(b"highest", b"highest inode #inode version #version"),
     Shape(b"spare", b"spare #spare after each #page"),
+    Shape(
+        b"region",
+        b"region from =from to =to order =order block from #block_from to #block_to",
+    ),
+    Shape(
+        b"region",
+        b"region from =from to =to order =order block =block",
+    ),
+    Shape(b"more", b"more regions than these #regions"),
 ];
 
 /// The differences of `diff` and `verify`.

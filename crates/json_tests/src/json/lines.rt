@@ -157,7 +157,7 @@ const REPORT: [Case; 26] = [
 ];
 
 /// Lines of `info`.
-const PARAMETERS: [Case; 9] = [
+const PARAMETERS: [Case; 12] = [
     Case(b"bytes 504", b"{\"line\":\"bytes\",\"bytes\":504}"),
     Case(
         b"order little nodes 9 other 1",
@@ -189,6 +189,20 @@ const PARAMETERS: [Case; 9] = [
     Case(
         b"spare 64 after each 2048",
         b"{\"line\":\"spare\",\"spare\":64,\"page\":2048}",
+    ),
+    Case(
+        b"region from 0x00100000 to 0x00200000 order big block from 4096 to 65536",
+        b"{\"line\":\"region\",\"from\":\"0x00100000\",\"to\":\"0x00200000\",\"order\":\"big\",\
+          \"block_from\":4096,\"block_to\":65536}",
+    ),
+    Case(
+        b"region from 0x00001000 to 0x00002000 order little block unknown",
+        b"{\"line\":\"region\",\"from\":\"0x00001000\",\"to\":\"0x00002000\",\"order\":\"little\",\
+          \"block\":\"unknown\"}",
+    ),
+    Case(
+        b"more regions than these 16",
+        b"{\"line\":\"more\",\"regions\":16}",
     ),
 ];
 

@@ -1,0 +1,2 @@
+pub mod TouchedLemmas
+pub mod SpanLemmas

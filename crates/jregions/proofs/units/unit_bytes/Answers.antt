@@ -1,0 +1,4 @@
+use Rattle.jregions.proofs.units.unit_bytes.Goals as goal
+
+pub returns : goal.returns
+returns c = ?

@@ -1,0 +1,5 @@
+pub mod Units
+pub mod Spans
+pub mod Regions
+pub mod RegionText
+pub mod Laws
