@@ -486,9 +486,18 @@ after address 0, or if no size is left. 'data' counts sound inode nodes by how
 their data are stored; rtime, zlib, lzo and lzma need --decompress.
 
 If a node is damaged, the file may be a raw dump of NAND flash with spare bytes
-behind each page. If more nodes are sound without them, a last line says
+behind each page. If more nodes are sound without them, a further line says
 'spare S after each P', and then --oob P+S leaves them out. Looked for are
 512+16, 2048+64, 4096+128 and 4096+224.
+
+For a dump of a whole flash it prints where file systems lie, in at most 16
+lines 'region from A to B order O block from MIN to MAX', or 'block unknown'.
+It prints none if the only region begins at 0. The file is looked at in units
+of 4096 bytes: each has nodes, is erased, or is foreign. A unit with nodes is
+in one region with the next such unit if both are of one order and fewer than
+16 foreign units lie between them. If there are more regions, a last line says
+'more regions than these 16'. B is the first byte after a region: to read it,
+give --offset A --length N with N = B - A.
 
 If the file begins as gzip, xz, UBI, squashfs, TRX or uImage do, a note on
 standard error says so: an image may be inside of it.
@@ -653,6 +662,10 @@ the fields of the node, as Linux names them.
 The last line has how many nodes have each word. Nothing of the image is
 changed. With PATH it prints the nodes of each object that an entry ever gave
 this name, and these entries; the folder of PATH is found in the tree as it is.
+The last lines are then 'was ino N versions A to B size S sha256 DIGEST', one
+for each object that ever had this name. Only a file or a symlink has a size
+and a digest, and an object without nodes has no versions.
+
 With --since or --until it prints only nodes whose time is not before, or not
 after, that one: mctime of an entry, mtime of an inode node.
 
