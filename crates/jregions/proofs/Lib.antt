@@ -1,2 +1,3 @@
 pub mod TouchedLemmas
 pub mod SpanLemmas
+pub mod UnitLemmas

@@ -1,9 +1,9 @@
 -- Spans and the units that they are made of.
-use Rattle.std.proofs.Common.{◌≡◌, ℕ, zero, suc, ◌+◌, ◌<◌, ◌≤◌, Bool, true, false, List, [], ◌∷◌, drop, get_or, length, reverse, arith, refl, sym, ap, ◌∙◌, subst, absurd}
-use Rattle.std.proofs.Math.Seq.{drop-cons}
+use Rattle.std.proofs.Common.{◌≡◌, ℕ, zero, suc, ◌+◌, ◌≤◌, true, List, [], ◌∷◌, drop, get_or, length, reverse, arith, refl, sym, ap, ◌∙◌, subst, inl, inr}
+use Rattle.std.proofs.Math.Seq.{drop-cons, drop-length}
 use Rattle.std.proofs.lemmas.List.Elements.{Contains-append_cases, Contains-append_right, Contains-push_cases}
 use Rattle.std.proofs.lemmas.Bool.{and_parts, false≢true, cond-true, cond-false, cases_Bool}
-use Rattle.std.specs.Prelude.{◌&&◌, Contains, None, Option, Some, nat_lt, slice_get}
+use Rattle.std.specs.Prelude.{Contains, None, Some, nat_lt, slice_get}
 use Rattle.jnode.specs.declared.order.Endian.{Endian}
 use Rattle.jnode.specs.declared.order.Endian.TheVariants.{Little, Big}
 use Rattle.jregions.specs.Laws.{AreSpansFrom, IsInSpan}
@@ -20,9 +20,9 @@ apart_from at later (s ∷ ss) before apart = (omega (arith, before, apart.0), a
 before_apart : (gap : ℕ) (e : Endian) (at : ℕ) (ss : List Span) → AreSpansFrom (at + 1) ss → AreSpansFrom at (unit_before gap e at ss)
 before_apart gap e at [] apart = (omega arith, omega arith, tt)
 before_apart gap e at (s ∷ ss) apart = elim (cases_Bool (goes_on gap e s)) [
-  | inl yes ↦ subst (AreSpansFrom at) (sym (cond-true (goes_on gap e s) (record { order = e; from = at; to = s.to } ∷ ss) (record { order = e; from = at; to = at + 1 } ∷ s ∷ ss) yes))
+  | inl joins ↦ subst (AreSpansFrom at) (sym (cond-true (goes_on gap e s) (record { order = e; from = at; to = s.to } ∷ ss) (record { order = e; from = at; to = at + 1 } ∷ s ∷ ss) joins))
       (omega arith, omega (arith, apart.0, apart.1), apart.2)
-  | inr no ↦ subst (AreSpansFrom at) (sym (cond-false (goes_on gap e s) (record { order = e; from = at; to = s.to } ∷ ss) (record { order = e; from = at; to = at + 1 } ∷ s ∷ ss) no))
+  | inr stops ↦ subst (AreSpansFrom at) (sym (cond-false (goes_on gap e s) (record { order = e; from = at; to = s.to } ∷ ss) (record { order = e; from = at; to = at + 1 } ∷ s ∷ ss) stops))
       (omega arith, omega arith, apart)
 ]
 
@@ -34,21 +34,29 @@ spans_apart at (Foreign ∷ us) = apart_from at (at + 1) (spans_from (at + 1) us
 
 -- one unit more, from the last one down
 pub record AreTaken (units : List UnitKind) (at gap : ℕ) (spans : List Span) : Type 0 where
-  pub gap : gap ≡ foreign_ahead (drop at units)
-  pub spans : reverse spans ≡ spans_from at (drop at units)
+  pub ahead : gap ≡ foreign_ahead (drop at units)
+  pub made : reverse spans ≡ spans_from at (drop at units)
 
-pub unit_taken : (units : List UnitKind) (at next gap now : ℕ) (kind : UnitKind) (old new : List Span) → at ≡ next + 1 → at ≤ length units
-    → kind ≡ get_or units next kind → AreTaken units at gap old
+pub none_taken : (units : List UnitKind) (spans : List Span) → spans ≡ [] → AreTaken units (length units) 0 spans
+none_taken units spans none =
+    let behind : drop (length units) units ≡ [] = drop-length units in
+    record {
+      ahead = sym (ap foreign_ahead behind);
+      made = ap reverse none ∙ sym (ap (spans_from (length units)) behind);
+    }
+
+pub unit_taken : (units : List UnitKind) (at next gap now : ℕ) (kind d : UnitKind) (old new : List Span) → at ≡ next + 1 → at ≤ length units
+    → kind ≡ get_or units next d → AreTaken units at gap old
     → ((us : List UnitKind) → gap ≡ foreign_ahead us → reverse old ≡ spans_from (next + 1) us → reverse new ≡ spans_from next (kind ∷ us))
     → ((us : List UnitKind) → gap ≡ foreign_ahead us → now ≡ foreign_ahead (kind ∷ us)) → AreTaken units next now new
-unit_taken units at next gap now kind old new step within here taken puts counts =
+unit_taken units at next gap now kind d old new step within here taken puts counts =
     let one : suc next ≡ at = omega (arith, step) in
     let front : drop next units ≡ kind ∷ drop at units =
-    drop-cons units next kind (omega (arith, step, within)) ∙ ap (λ (k : UnitKind). k ∷ drop (suc next) units) (sym here)
+    drop-cons units next d (omega (arith, step, within)) ∙ ap (λ (k : UnitKind). k ∷ drop (suc next) units) (sym here)
     ∙ ap (λ (n : ℕ). kind ∷ drop n units) one in
     record {
-      gap = counts (drop at units) taken.gap ∙ ap foreign_ahead (sym front);
-      spans = puts (drop at units) taken.gap (taken.spans ∙ ap (λ (n : ℕ). spans_from n (drop at units)) step) ∙ ap (spans_from next) (sym front);
+      ahead = counts (drop at units) taken.ahead ∙ ap foreign_ahead (sym front);
+      made = puts (drop at units) taken.ahead (taken.made ∙ ap (λ (n : ℕ). spans_from n (drop at units)) step) ∙ ap (spans_from next) (sym front);
     }
 
 -- ---- each unit of nodes lies in a span
@@ -67,7 +75,7 @@ behind_first y x xs is = Contains-append_right (y ∷ []) xs x is
 
 alone_is : (y x : Span) → Contains (y ∷ []) x → y ≡ x
 alone_is y x is = elim (Contains-push_cases [] y x is) [
-  | inl no ↦ absurd (omega (arith, no.1))
+  | inl none ↦ absurd (omega (arith, none.1))
   | inr same ↦ same
 ]
 
@@ -86,8 +94,8 @@ head_in gap e at [] apart = record {
   to = omega arith;
 }
 head_in gap e at (s ∷ ss) apart = elim (cases_Bool (goes_on gap e s)) [
-  | inl yes ↦
-      subst (λ (l : List Span). IsInSpan l e at) (sym (cond-true (goes_on gap e s) (longer e at s ∷ ss) (one_unit e at ∷ s ∷ ss) yes))
+  | inl joins ↦
+      subst (λ (l : List Span). IsInSpan l e at) (sym (cond-true (goes_on gap e s) (longer e at s ∷ ss) (one_unit e at ∷ s ∷ ss) joins))
       (record {
         span = longer e at s;
         listed = first_is (longer e at s) ss;
@@ -95,8 +103,8 @@ head_in gap e at (s ∷ ss) apart = elim (cases_Bool (goes_on gap e s)) [
         from = omega arith;
         to = omega (arith, apart.0, apart.1);
       })
-  | inr no ↦
-      subst (λ (l : List Span). IsInSpan l e at) (sym (cond-false (goes_on gap e s) (longer e at s ∷ ss) (one_unit e at ∷ s ∷ ss) no))
+  | inr stops ↦
+      subst (λ (l : List Span). IsInSpan l e at) (sym (cond-false (goes_on gap e s) (longer e at s ∷ ss) (one_unit e at ∷ s ∷ ss) stops))
       (record {
         span = one_unit e at;
         listed = first_is (one_unit e at) (s ∷ ss);
@@ -109,10 +117,10 @@ head_in gap e at (s ∷ ss) apart = elim (cases_Bool (goes_on gap e s)) [
 -- a unit that lies in the first of some spans lies in the longer one that the first becomes
 joined_in : (gap : ℕ) (e : Endian) (at : ℕ) (s : Span) (ss : List Span) (f : Endian) (u : ℕ) → AreSpansFrom (at + 1) (s ∷ ss) → goes_on gap e s ≡ true
     → IsInSpan (s ∷ ss) f u → IsInSpan (longer e at s ∷ ss) f u
-joined_in gap e at s ss f u apart yes inside = elim (Contains-append_cases (s ∷ []) ss inside.span inside.listed) [
+joined_in gap e at s ss f u apart joins inside = elim (Contains-append_cases (s ∷ []) ss inside.span inside.listed) [
   | inl first ↦
       let same : s ≡ inside.span = alone_is s inside.span first in
-      let order : e ≡ s.order = same_is e s.order (and_parts (is_of_order e s.order) (nat_lt gap 16) yes).0 in
+      let order : e ≡ s.order = same_is e s.order (and_parts (is_of_order e s.order) (nat_lt gap 16) joins).0 in
       record {
         span = longer e at s;
         listed = first_is (longer e at s) ss;
@@ -132,11 +140,11 @@ joined_in gap e at s ss f u apart yes inside = elim (Contains-append_cases (s �
 keep_in : (gap : ℕ) (e : Endian) (at : ℕ) (ss : List Span) (f : Endian) (u : ℕ) → AreSpansFrom (at + 1) ss → IsInSpan ss f u → IsInSpan (unit_before gap e at ss) f u
 keep_in gap e at [] f u apart inside = absurd (omega (arith, inside.listed.1))
 keep_in gap e at (s ∷ ss) f u apart inside = elim (cases_Bool (goes_on gap e s)) [
-  | inl yes ↦
-      subst (λ (l : List Span). IsInSpan l f u) (sym (cond-true (goes_on gap e s) (longer e at s ∷ ss) (one_unit e at ∷ s ∷ ss) yes))
-      (joined_in gap e at s ss f u apart yes inside)
-  | inr no ↦
-      subst (λ (l : List Span). IsInSpan l f u) (sym (cond-false (goes_on gap e s) (longer e at s ∷ ss) (one_unit e at ∷ s ∷ ss) no))
+  | inl joins ↦
+      subst (λ (l : List Span). IsInSpan l f u) (sym (cond-true (goes_on gap e s) (longer e at s ∷ ss) (one_unit e at ∷ s ∷ ss) joins))
+      (joined_in gap e at s ss f u apart joins inside)
+  | inr stops ↦
+      subst (λ (l : List Span). IsInSpan l f u) (sym (cond-false (goes_on gap e s) (longer e at s ∷ ss) (one_unit e at ∷ s ∷ ss) stops))
       (record {
         span = inside.span;
         listed = behind_first (one_unit e at) inside.span (s ∷ ss) inside.listed;
@@ -154,12 +162,12 @@ nodes_same : (e f : Endian) → Some (Nodes e) ≡ Some (Nodes f) → e ≡ f
 nodes_same e f is = cc
 
 pub nodes_in_spans : (at i : ℕ) (units : List UnitKind) (e : Endian) → slice_get units i ≡ Some (Nodes e) → IsInSpan (spans_from at units) e (at + i)
-nodes_in_spans at i [] e is = let no : None ≡ Some (Nodes e) = is in absurd (cc)
+nodes_in_spans at i [] e is = let never : None ≡ Some (Nodes e) = is in absurd (cc)
 nodes_in_spans at zero (Nodes f ∷ us) e is =
     subst (λ (o : Endian). IsInSpan (spans_from at (Nodes f ∷ us)) o (at + 0)) (nodes_same f e is)
     (subst (IsInSpan (spans_from at (Nodes f ∷ us)) f) (omega arith) (head_in (foreign_ahead us) f at (spans_from (at + 1) us) (spans_apart (at + 1) us)))
-nodes_in_spans at zero (Erased ∷ us) e is = let no : Some Erased ≡ Some (Nodes e) = is in absurd (cc)
-nodes_in_spans at zero (Foreign ∷ us) e is = let no : Some Foreign ≡ Some (Nodes e) = is in absurd (cc)
+nodes_in_spans at zero (Erased ∷ us) e is = let never : Some Erased ≡ Some (Nodes e) = is in absurd (cc)
+nodes_in_spans at zero (Foreign ∷ us) e is = let never : Some Foreign ≡ Some (Nodes e) = is in absurd (cc)
 nodes_in_spans at (suc i) (Nodes f ∷ us) e is =
     keep_in (foreign_ahead us) f at (spans_from (at + 1) us) e (at + suc i) (spans_apart (at + 1) us)
     (counted_on (spans_from (at + 1) us) e at i (nodes_in_spans (at + 1) i us e is))

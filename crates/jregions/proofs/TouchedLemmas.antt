@@ -1,8 +1,9 @@
 -- Which units are marked.
-use Rattle.std.proofs.Common.{◌≡◌, ℕ, ◌+◌, ◌-◌, ◌<◌, ◌≤◌, Bool, true, false, ◌&&◌, ◌||◌, List, [], ◌∷◌, get_or, length, refl, sym, ap, ◌∙◌, arith}
+use Rattle.std.proofs.Common.{◌≡◌, ℕ, ◌<◌, ◌≤◌, Bool, true, false, ◌&&◌, ◌||◌, List, [], ◌∷◌, ◌++◌, get_or, take, drop, length, append-nil, refl, sym, ap, ◌∙◌, arith, inl, inr}
+use Rattle.std.proofs.lemmas.List.{drop_all, take_all}
 use Rattle.std.proofs.lemmas.Bool.{cases_lt, le-leb, lt-leb}
 use Rattle.std.proofs.Math.Bool.{or-true}
-use Rattle.std.specs.Prelude.{nat_le, slice_index_or}
+use Rattle.std.specs.Prelude.{nat_le}
 use Rattle.std.specs.List.{list_any}
 use Rattle.jscan.specs.declared.extent.Extent.{Extent}
 use Rattle.jregions.specs.Units.{reaches_unit}
@@ -54,3 +55,10 @@ marked_is now old first last u inside below above = elim (cases_lt u first) [
         ∙ sym (ap (λ (b : Bool). old || (b && nat_le u last)) (le-leb first u from) ∙ ap (λ (b : Bool). old || b) (le-leb u last within) ∙ or-true old)
   ]
 ]
+
+-- what is written over all of a list
+pub written_whole : {X : Type 0} (new old : List X) (len : ℕ) → length new ≡ length old → len ≡ length old → take len (new ++ drop (length new) old) ≡ new
+written_whole {X} new old len long same =
+    ap (λ (l : List X). take len (new ++ l)) (drop_all (length new) old (omega (arith, long)))
+    ∙ ap (take len) (append-nil new)
+    ∙ take_all len new (omega (arith, long, same))

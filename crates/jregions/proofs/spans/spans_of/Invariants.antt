@@ -1,4 +1,4 @@
-use Rattle.std.proofs.Common.{◌≡◌, ◌+◌, ◌≤◌, length}
+use Rattle.std.proofs.Common.{◌+◌, ◌≤◌, length}
 use Rattle.jregions.proofs.SpanLemmas.{AreTaken}
 use Rattle.jregions.proofs.spans.spans_of.Given as goal
 

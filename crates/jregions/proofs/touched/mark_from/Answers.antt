@@ -8,4 +8,4 @@ returns-clause-each c = λ u in_old.
     marked_is (get_or c.loop-unit.units u false) (get_or c.args.units.now u false) c.args.first c.args.last u
     (λ from within. inv.inside u (omega (arith, inv.long, in_old)) from (omega (arith, from, within, in_old, c.loop-unit-test.false, c.min-end.ensures)))
     (inv.below u)
-    (λ past. inv.above u (omega (arith, past, c.min-end.ensures, c.loop-unit.auto.unit-end)))
+    (inv.above u)

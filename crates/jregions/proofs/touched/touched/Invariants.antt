@@ -1,4 +1,3 @@
-use Rattle.std.proofs.Common.{ℕ}
 use Rattle.jnode.specs.Writing.{filled}
 use Rattle.jscan.specs.Extents.{extents}
 use Rattle.jscan.specs.ExtentsLeft.{extents_left}
