@@ -486,7 +486,7 @@ after address 0, or if no size is left. 'data' counts sound inode nodes by how
 their data are stored; rtime, zlib, lzo and lzma need --decompress.
 
 If a node is damaged, the file may be a raw dump of NAND flash with spare bytes
-behind each page. If more nodes are sound without them, a last line says
+behind each page. If more nodes are sound without them, a further line says
 'spare S after each P', and then --oob P+S leaves them out. Looked for are
 512+16, 2048+64, 4096+128 and 4096+224.
 
