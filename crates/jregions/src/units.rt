@@ -1,6 +1,6 @@
 //! What each unit of a file holds.
 
-ghost use Rattle.std.specs.Prelude.{◌≡◌, ◌≤◌, ◌<◌, ◌==◌, ℕ, IfOk, false, length, slice_index_or};
+ghost use Rattle.std.specs.Prelude.{◌≡◌, ◌≤◌, ◌<◌, ◌==◌, ℕ, IfOk, IfSome, false, length, slice_index_or};
 ghost use Rattle.std.specs.List.{list_all};
 ghost use Rattle.flashbase.specs.Lists.{each_below};
 ghost use Rattle.jnode.specs.declared.order.Endian.TheVariants.{Big, Little};
@@ -13,18 +13,6 @@ use byteorder::{BigEndian, LittleEndian};
 use jinfo::info_of;
 use jnode::Endian;
 use std::alloc::{AllocError, Global};
-
-/// The order of a unit that has nodes of the little order, or of the big one, or of both.
-fn order_among(usual: Endian, little: bool, big: bool) -> Option<Endian>
-    ensures { result ≡ order_among usual little big }
-{
-    match (little, big) {
-        (true, true) => Some(usual),
-        (true, false) => Some(Endian::Little),
-        (false, true) => Some(Endian::Big),
-        (false, false) => None,
-    }
-}
 
 fn are_erased(bytes: &[u8]) -> bool
     ensures { result ≡ list_all (λ b. b == 0xFF) bytes.now }
@@ -61,6 +49,31 @@ fn usual_order(file: &[u8]) -> Endian
     info_of(file).order.unwrap_or(Endian::Little)
 }
 
+/// The order of a unit that has nodes of the little order, or of the big one, or of both. The order
+/// of the file takes a walk, so it is looked for if a unit has both, and then once.
+fn order_among(
+    file: &[u8],
+    usual: &mut Option<Endian>,
+    little: bool,
+    big: bool,
+) -> Option<Endian>
+    requires image { length file.now ≤ greatest_image }
+    requires usual { IfSome usual.old (λ order. order ≡ usual_order file.now) }
+    ensures order { result ≡ order_among (usual_order file.now) little big }
+    ensures usual { IfSome usual.new (λ order. order ≡ usual_order file.now) }
+{
+    match (little, big) {
+        (true, true) => {
+            let order = usual.unwrap_or_else(|| usual_order(file));
+            *usual = Some(order);
+            Some(order)
+        }
+        (true, false) => Some(Endian::Little),
+        (false, true) => Some(Endian::Big),
+        (false, false) => None,
+    }
+}
+
 /// What each unit of a file holds, by those that have nodes of either order.
 fn units_by(
     alloc: Global,
@@ -78,10 +91,10 @@ fn units_by(
     ensures { IfOk result (λ units.
         units.items ≡ each_below (unit_count file.now) (unit_kind_at file.now)) }
 {
-    let usual = usual_order(file);
+    let mut usual = None;
     let mut units = Vec::new(alloc);
     for unit in 0..unit_count(file) {
-        let order = order_among(usual, little[unit], big[unit]);
+        let order = order_among(file, &mut usual, little[unit], big[unit]);
         units.push(kind_by(order, unit_bytes(file, unit)))?;
     }
     Ok(units)

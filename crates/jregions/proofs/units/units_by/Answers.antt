@@ -1,6 +1,5 @@
 use Rattle.std.proofs.Common.{◌≡◌, ◌++◌, ◌∷◌, [], ◌<◌, List, arith, ap, ap₂, sym, ◌∙◌}
 use Rattle.std.specs.Prelude.{slice_index_or, false}
-use Rattle.jnode.specs.declared.order.Endian.{Endian}
 use Rattle.jregions.specs.Units.{kind_by, order_among, unit_count, unit_kind_at, usual_order}
 use Rattle.jregions.specs.declared.unit.UnitKind.{UnitKind}
 use Rattle.jregions.proofs.UnitLemmas.{each_next}
@@ -12,10 +11,10 @@ loop-unit-preserved c =
     let unit = c.loop-unit.unit in
     let kind_at = unit_kind_at file in
     let within : unit < unit_count file = omega (arith, c.loop-unit-test.true, c.unit_count-unit-end.ensures) in
-    let order = c.order_among-order.ensures
-    ∙ ap (λ (e : Endian). order_among e (slice_index_or c.args.little.now unit false) (slice_index_or c.args.big.now unit false)) c.usual_order-usual.ensures
+    let order = c.order_among-order.ensures.order
     ∙ ap₂ (order_among (usual_order file)) (c.requires.little unit within) (c.requires.big unit within) in
     let kind : c.kind_by.result ≡ kind_at unit = c.kind_by.ensures ∙ ap₂ kind_by order c.unit_bytes.ensures in
     record {
       units = c.in_ok-push.ensures.items ∙ ap₂ (λ (l : List UnitKind) (k : UnitKind). l ++ k ∷ []) c.loop-unit.invariant.units kind ∙ sym (each_next unit kind_at);
+      usual = c.order_among-order.ensures.usual;
     }
