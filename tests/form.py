@@ -24,8 +24,9 @@ HEAD = re.compile(
 FUNCTION = re.compile(r"^ *pub fn (\w+)(?:<.*?>)?\((.*?)\)(?: ->|\n| \{|$)", re.M | re.S)
 
 # How many there are in a crate at most, of what is to have none.
-# jmount: a line of specs/MountsNodes.antt, to be broken when that crate changes next.
-LIMITS = {"jmount": {"columns": 1}}
+# jmount: lines of specs/MountsNodes.antt, Examples.antt and Laws.antt, and jsteps: one of specs/Steps.antt, to be broken when
+# these crates change next.
+LIMITS = {"jmount": {"columns": 3}, "jsteps": {"columns": 1}}
 
 
 def text_of(path):

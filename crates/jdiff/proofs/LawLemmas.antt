@@ -7,7 +7,7 @@ use Rattle.std.specs.declared.cmp.Ordering.TheVariants.{Less}
 use Rattle.jmount.specs.Tree.{State}
 use Rattle.jreport.specs.TreeText.{Item, Met, none_met, met_after, todo_after}
 use Rattle.jdiff.specs.Entries.{Entry, AreFound, entries_found, AreEntries}
-use Rattle.jdiff.specs.Changes.{is_same_object, first_difference, is_symlink, both_lines, bytes_differ_line, bytes_changes, object_changes, number_of, is_same_number, number_differs_line, number_changes, changes}
+use Rattle.jdiff.specs.Changes.{is_same_object, first_difference, is_symlink, both_lines, bytes_differ_line, bytes_changes, object_changes, number_of_device, is_same_number, number_differs_line, number_changes, changes}
 use Rattle.jdiff.specs.Pairing.{Place, path_cmp, AreInOrder, IsAtPath, lines_on}
 use Rattle.jdiff.specs.Laws.{IsSameEntry, AreSameEntries, SameTreesHaveNoLines}
 use Rattle.jdiff.specs.declared.comparing.Comparing.{Comparing}
@@ -73,10 +73,10 @@ no_number_changes path m n none = by (is_same_number m n) refl none
     by false same is = cc
 
 no_changes : (how : Comparing) (x y : Entry) → changes how (Some x) (Some y) ≡ []
-    → IsTrue (is_same_object how.times x.object y.object) × (number_of how.order x.object ≡ number_of how.order y.object) × (x.bytes ≡ y.bytes)
+    → IsTrue (is_same_object how.times x.object y.object) × (number_of_device how.order x.object ≡ number_of_device how.order y.object) × (x.bytes ≡ y.bytes)
 no_changes how x y none =
-    let m = number_of how.order x.object in
-    let n = number_of how.order y.object in
+    let m = number_of_device how.order x.object in
+    let n = number_of_device how.order y.object in
     let split = no_first (object_changes how.times x y) (number_changes x.path m n) none in
     let objects = no_object_changes how.times x y split.0 in
     (objects.0, no_number_changes x.path m n split.1, objects.1)
@@ -134,8 +134,8 @@ same_objects times x y same bytes =
 
 same_changes : (how : Comparing) (x y : Entry) → IsSameEntry how x y → changes how (Some x) (Some y) ≡ []
 same_changes how x y same =
-    let m = number_of how.order x.object in
-    let n = number_of how.order y.object in
+    let m = number_of_device how.order x.object in
+    let n = number_of_device how.order y.object in
     ap (λ (l : List (List ℕ)). l ++ number_changes x.path m n) (same_objects how.times x y same.1 same.2.1) ∙ same_numbers x.path m n same.2.0
 
 -- the left one alone has an entry there

@@ -7,7 +7,7 @@ use Rattle.std.proofs.lemmas.List.{length-append}
 use Rattle.std.specs.Io.KnownBytes.{Appends}
 use Rattle.flashbase.specs.Device.{PutsPart, Puts, next_count}
 use Rattle.jdiff.specs.Entries.{Entry}
-use Rattle.jdiff.specs.Changes.{is_symlink, both_lines, bytes_differ_line, bytes_changes, is_same_object, first_difference, object_changes, number_of, is_same_number, number_differs_line, number_changes, changes}
+use Rattle.jdiff.specs.Changes.{is_symlink, both_lines, bytes_differ_line, bytes_changes, is_same_object, first_difference, object_changes, number_of_device, is_same_number, number_differs_line, number_changes, changes}
 use Rattle.jdiff.specs.declared.comparing.Comparing.{Comparing}
 use Rattle.flashbase.proofs.DeviceLemmas.{part_before, first_failed, then_puts, then_failed}
 
@@ -76,8 +76,8 @@ changes_few how None None = omega arith
 changes_few how (Some x) None = omega arith
 changes_few how None (Some y) = omega arith
 changes_few how (Some x) (Some y) =
-    let m = number_of how.order x.object in
-    let n = number_of how.order y.object in
+    let m = number_of_device how.order x.object in
+    let n = number_of_device how.order y.object in
     let first : length (object_changes how.times x y) ≤ 2 = objects_few how.times x y in
     let more : length (number_changes x.path m n) ≤ 1 = numbers_few x.path m n in
     let both : length (object_changes how.times x y ++ number_changes x.path m n) ≡ length (object_changes how.times x y) + length (number_changes x.path m n) = length-append (object_changes how.times x y) (number_changes x.path m n) in

@@ -20,8 +20,8 @@ is_same_object times x y =
     && (not times || (x.mtime == y.mtime))
 
 -- the major and the minor number of a device, where it has one
-abbrev pub number_of : Endian → Object → Option (ℕ × ℕ)
-number_of order o = option_map (major_and_minor order) o.device
+abbrev pub number_of_device : Endian → Object → Option (ℕ × ℕ)
+number_of_device order o = option_map (major_and_minor order) o.device
 
 abbrev pub is_same_number : Option (ℕ × ℕ) → Option (ℕ × ℕ) → Bool
 is_same_number None None = true
@@ -75,7 +75,8 @@ number_shown None = codes "none"
 number_shown (Some n) = decimal n.0 ++ codes ":" ++ decimal n.1
 
 abbrev pub numbers_shown : Option (ℕ × ℕ) → Option (ℕ × ℕ) → List ℕ
-numbers_shown m n = codes " device " ++ number_shown m ++ codes " to " ++ number_shown n ++ codes "\n"
+numbers_shown m n =
+    codes " device " ++ number_shown m ++ codes " to " ++ number_shown n ++ codes "\n"
 
 -- a device has another number, or has one or none where it did not
 abbrev pub number_differs_line : List (List ℕ) → Option (ℕ × ℕ) → Option (ℕ × ℕ) → List ℕ
@@ -114,4 +115,5 @@ changes how None None = []
 changes how (Some x) None = removed_line how.times x ∷ []
 changes how None (Some y) = added_line how.times y ∷ []
 changes how (Some x) (Some y) = object_changes how.times x y
-    ++ number_changes x.path (number_of how.order x.object) (number_of how.order y.object)
+    ++ number_changes x.path (number_of_device how.order x.object)
+    (number_of_device how.order y.object)

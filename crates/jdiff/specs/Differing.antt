@@ -21,7 +21,8 @@ pub record AreDifferences (how : Comparing) (s t : State) (lines : List (List �
   pub said : lines ≡ lines_on how places
 
 -- a beginning of them went out
-abbrev pub PutsPartOfDifferences : Comparing → State → State → Option (List ℕ) → Option (List ℕ) → Type 0
+abbrev pub PutsPartOfDifferences : Comparing → State → State → Option (List ℕ)
+    → Option (List ℕ) → Type 0
 PutsPartOfDifferences how s t old new =
     (lines : List (List ℕ)) × AreDifferences how s t lines
     × PutsPart old new (flat_map (λ line. line) lines)

@@ -3,7 +3,7 @@
 use Rattle.std.specs.Prelude.{◌≡◌, ◌↔◌, IsTrue, List, [], ◌∷◌, ℕ, ⊤}
 use Rattle.jmount.specs.Tree.{State}
 use Rattle.jdiff.specs.Entries.{Entry, AreEntries}
-use Rattle.jdiff.specs.Changes.{is_same_object, number_of}
+use Rattle.jdiff.specs.Changes.{is_same_object, number_of_device}
 use Rattle.jdiff.specs.Differing.{AreDifferences}
 use Rattle.jdiff.specs.declared.comparing.Comparing.{Comparing}
 
@@ -12,7 +12,8 @@ use Rattle.jdiff.specs.declared.comparing.Comparing.{Comparing}
 abbrev pub IsSameEntry : Comparing → Entry → Entry → Type 0
 IsSameEntry how x y =
     (x.path ≡ y.path) × IsTrue (is_same_object how.times x.object y.object)
-    × (number_of how.order x.object ≡ number_of how.order y.object) × (x.bytes ≡ y.bytes)
+    × (number_of_device how.order x.object ≡ number_of_device how.order y.object)
+    × (x.bytes ≡ y.bytes)
 
 -- path by path
 abbrev pub AreSameEntries : Comparing → List Entry → List Entry → Type 0

@@ -187,8 +187,8 @@ pub record PassesUp (w w_after : Walk) (old new : Option (List ℕ)) (count : �
   pub counted : count ≡ 0
 
 -- the lines on the next path are put
-pub record PutsNextPlace (how : Comparing) (s t : State) (w w_after : Walk) (old new : Option (List ℕ))
-    (count : ℕ) : Type 0 where
+pub record PutsNextPlace (how : Comparing) (s t : State) (w w_after : Walk)
+    (old new : Option (List ℕ)) (count : ℕ) : Type 0 where
   pub spot : Spot
   pub rest : List Spot
   pub todo : spots_left w ≡ spot ∷ rest
@@ -209,7 +209,8 @@ PairGoesUp w w_after (Some n) = (n ≡ 0) × (w.above.items ≡ w_after.above.it
 PairGoesUp w w_after None = w.above.items ≡ []
 
 -- a beginning of what was to put went out
-abbrev pub PutsPartOfLeft : Comparing → State → State → Walk → Option (List ℕ) → Option (List ℕ) → Type 0
+abbrev pub PutsPartOfLeft : Comparing → State → State → Walk → Option (List ℕ)
+    → Option (List ℕ) → Type 0
 PutsPartOfLeft how s t w old new =
     (places : List Place) × AreLeft s t w places × PutsPart old new (text_on how places)
 

@@ -70,7 +70,8 @@ pub(crate) fn place_of(
     ensures fault { IfErr result (λ fault. fault ≡ ProgramFault.OutOfMemory) }
 {
     match (left, right) {
-        (Some(ours), Some(theirs)) if is_same_object(trees.how.times, &ours.object, &theirs.object) => {
+        (Some(ours), Some(theirs))
+            if is_same_object(trees.how.times, &ours.object, &theirs.object) => {
             compare(trees, ours, theirs, compared)
         }
         _ => Ok(None),

@@ -3,7 +3,7 @@
 ghost use Rattle.std.specs.Prelude.{◌≡◌, ◌+◌, ◌≤◌, ◌++◌, [], length, map, option_map};
 ghost use Rattle.flashbase.specs.Sinks.{PutsTo};
 ghost use Rattle.jmount.specs.Device.{major_and_minor};
-ghost use Rattle.jdiff.specs.Changes.{is_same_number, number_differs_line, number_of, number_shown, numbers_shown};
+ghost use Rattle.jdiff.specs.Changes.{is_same_number, number_differs_line, number_of_device, number_shown, numbers_shown};
 
 use byteorder::{BigEndian, LittleEndian};
 use flashbase::{DeviceFault, Sink};
@@ -24,8 +24,8 @@ fn read_number(order: Endian, bytes: DeviceBytes) -> Number
 }
 
 /// The number of an object, if it is a device that has one.
-pub(crate) fn number_of(order: Endian, object: &Object) -> Option<Number>
-    ensures { result ≡ number_of order object.now }
+pub(crate) fn number_of_device(order: Endian, object: &Object) -> Option<Number>
+    ensures { result ≡ number_of_device order object.now }
 {
     let bytes = object.device?;
     Some(read_number(order, bytes))

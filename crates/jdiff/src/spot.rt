@@ -4,14 +4,14 @@ ghost use Rattle.std.specs.Prelude.{◌≡◌, ◌≤◌, IfOk, IfSome, length, 
 ghost use Rattle.std.specs.List.{flat_map};
 ghost use Rattle.flashbase.specs.Sinks.{PutsTo};
 ghost use Rattle.jmount.specs.Shown.{readable};
-ghost use Rattle.jdiff.specs.Changes.{both_lines, bytes_changes, changes, first_difference, is_same_object, is_symlink, number_changes, number_of, object_changes};
+ghost use Rattle.jdiff.specs.Changes.{both_lines, bytes_changes, changes, first_difference, is_same_object, is_symlink, number_changes, number_of_device, object_changes};
 ghost use Rattle.jdiff.specs.Compared.{IsPlaceHere, IsPlaceOf};
 ghost use Rattle.jdiff.specs.Walking.{entries_here, entry_found, IsFoundIn};
 
 use crate::comparing::Comparing;
 use crate::found::Found;
 use crate::line::{put_entry, put_place};
-use crate::number::{is_same_number, number_of, put_numbers};
+use crate::number::{is_same_number, number_of_device, put_numbers};
 use flashbase::{DeviceFault, Sink};
 use jmount::{Kind, Mounted, Object};
 
@@ -82,8 +82,8 @@ fn put_bytes<T: Sink>(
     ensures count { let way = map (λ name. name.now) path.now in
         let x = entry_found trees.now.left.now.state way left.now in
         let y = entry_found trees.now.right.now.state way right.now in
-        IfOk result
-        (λ n. n ≡ length (bytes_changes trees.now.how.times x y (first_difference x.bytes y.bytes))) }
+        IfOk result (λ n. n ≡ length
+        (bytes_changes trees.now.how.times x y (first_difference x.bytes y.bytes))) }
 {
     match place {
         None => Ok(0),
@@ -137,15 +137,15 @@ fn put_number_changes<T: Sink>(
 ) -> Result<u64, DeviceFault>
     ensures puts { PutsTo T.Sink sink.old sink.new (flat_map (λ line. line)
         (number_changes (map (λ name. name.now) path.now)
-        (number_of trees.now.how.order left.now.object)
-        (number_of trees.now.how.order right.now.object))) result }
+        (number_of_device trees.now.how.order left.now.object)
+        (number_of_device trees.now.how.order right.now.object))) result }
     ensures count { IfOk result (λ n. n ≡ length
         (number_changes (map (λ name. name.now) path.now)
-        (number_of trees.now.how.order left.now.object)
-        (number_of trees.now.how.order right.now.object))) }
+        (number_of_device trees.now.how.order left.now.object)
+        (number_of_device trees.now.how.order right.now.object))) }
 {
-    let ours = number_of(trees.how.order, &left.object);
-    let theirs = number_of(trees.how.order, &right.object);
+    let ours = number_of_device(trees.how.order, &left.object);
+    let theirs = number_of_device(trees.how.order, &right.object);
     if is_same_number(ours, theirs) {
         return Ok(0);
     }

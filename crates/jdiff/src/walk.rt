@@ -123,10 +123,11 @@ impl<'m, 'a> Walk<'m, 'a> {
 /// each in byte order, a directory before what lies in it: `- ` and a line as of `ls` where only
 /// the left one has it, `+ ` where only the right one does, both where kind, permissions, owner,
 /// group, size or target differ, or with `times` the time of change, and `* ` where only the bytes
-/// do, or where the numbers of devices do, as in `* dev/null device 1:3 to 1:5`. A directory that was met before is not entered. Answers how many lines there are, or the
-/// greatest u64. The bytes of two objects are compared once, however many names lead to both. Takes
-/// memory for the way to an object, for pairs of objects that both have several names, and of a tree
-/// that has not its shape for the directories that were met.
+/// do. A further line says where the numbers of devices differ, as `* /null device 1:3 to 1:5`. A
+/// directory that was met before is not entered. Answers how many lines there are, or the greatest
+/// u64. The bytes of two objects are compared once, however many names lead to both. Takes memory
+/// for the way to an object, for pairs of objects that both have several names, and of a tree that
+/// has not its shape for the directories that were met.
 pub fn put_differences<'m, 'a, T: Sink>(
     alloc: Global,
     left: &'m Mounted<'a>,
