@@ -23,7 +23,7 @@ use Rattle.jedge.specs.Calls.{Event, Answers, Failed, Open, Print, ReadPart, pri
 use Rattle.jthrough.specs.declared.fault.ViewFault.{ViewFault}
 use Rattle.jthrough.specs.declared.fault.ViewFault.TheVariants as view
 use Rattle.jlook.specs.Chosen.{Choice}
-use Rattle.jedge.specs.Commands.{Cat, Check, Damage, Diff, Info, Ls, cat_act, check_act, compares, content_told, damage_act, diff_act, info_act, list_act, read_told, shows_mount}
+use Rattle.jedge.specs.Commands.{comparing, Cat, Check, Damage, Diff, Info, Ls, cat_act, check_act, compares, content_told, damage_act, diff_act, info_act, list_act, read_told, shows_mount}
 use Rattle.jedge.specs.Comparing.{Compares, compared}
 use Rattle.jedge.specs.Images.{HasNodes, MountsBoth, MountsFor, MountsOrRefuses, MountsWith, NotesNone, view_refusal}
 use Rattle.jedge.specs.Showing.{Checks, Contains, Lists, NamesNothing}

@@ -12,7 +12,7 @@ use Rattle.jreport.specs.declared.faults.ProgramFault.TheVariants as program
 use Rattle.jdiff.specs.declared.comparing.Comparing.{Comparing}
 use Rattle.jedge.specs.Acts.{Act, Then, Ends, GoesOn, Saying, Whole, and_closed, answers, closes, loads, opens, prints, reads_whole}
 use Rattle.jedge.specs.Calls.{Event, Answers, Did, Failed, Print, printed}
-use Rattle.jedge.specs.Commands.{Cat, Check, Damage, Diff, Info, Ls, cat_act, check_act, content_told, damage_act, diff_act, info_act, list_act, read_told}
+use Rattle.jedge.specs.Commands.{comparing, Cat, Check, Damage, Diff, Info, Ls, cat_act, check_act, content_told, damage_act, diff_act, info_act, list_act, read_told}
 use Rattle.jedge.specs.Comparing.{Compares, compared}
 use Rattle.jedge.specs.Laws.{ComesFirst, JudgedFirst, JudgesFirst, JudgesFirstBut, NonePrinted}
 use Rattle.jedge.specs.Missing.{missing_bytes}
