@@ -94,7 +94,7 @@ same_of_none how (place ∷ places) paths none =
     by None None at other is rest = rest
     by None (Some y) at other is rest = cc
     by (Some x) None at other is rest = cc
-    by (Some x) (Some y) at other is rest = ((at ∙ sym other, no_changes how x y is), rest)
+    by (Some x) (Some y) at other is rest = let same = no_changes how x y is in ((at ∙ sym other, same.0, same.1, same.2), rest)
 
 -- ---- the same entries
 
@@ -136,7 +136,7 @@ same_changes : (how : Comparing) (x y : Entry) → IsSameEntry how x y → chang
 same_changes how x y same =
     let m = number_of_device how.order x.object in
     let n = number_of_device how.order y.object in
-    ap (λ (l : List (List ℕ)). l ++ number_changes x.path m n) (same_objects how.times x y same.1 same.2.1) ∙ same_numbers x.path m n same.2.0
+    ap (λ (l : List (List ℕ)). l ++ number_changes x.path m n) (same_objects how.times x y same.1 same.3) ∙ same_numbers x.path m n same.2
 
 -- the left one alone has an entry there
 alone_left : (how : Comparing) (p : List (List ℕ)) (x : Entry) (xs ys : List Entry) → x.path ≡ p → AreSameEntries how (x ∷ xs) ys

@@ -47,6 +47,26 @@ both_told times x y b same = ap (λ (c : Bool). cond c (bytes_changes times x y 
 pub numbers_told : (xs ys : List (List ℕ)) → flat_map (λ line. line) (xs ++ ys) ≡ flat_map (λ line. line) xs ++ flat_map (λ line. line) ys
 numbers_told xs ys = flat_map-append (λ (line : List ℕ). line) xs ys
 
+pub first_lines_failed : {T E : Type 0} (old new : Option (List ℕ)) (before now : ℕ) (xs ys : List (List ℕ)) (r : Result T E) → IsErr r
+    → PutsPart old new (flat_map (λ line. line) xs) → now ≡ next_count before → Puts old new before now (flat_map (λ line. line) (xs ++ ys)) r
+first_lines_failed old new before now xs ys r err part failed =
+    subst (λ (l : List ℕ). Puts old new before now l r) (sym (numbers_told xs ys))
+    (first_failed old new before now (flat_map (λ line. line) xs) (flat_map (λ line. line) ys) r err part failed)
+
+pub more_lines_failed : {T E : Type 0} (a b c : Option (List ℕ)) (before mid now : ℕ) (xs ys : List (List ℕ)) (r : Result T E) → IsErr r
+    → Appends a b (flat_map (λ line. line) xs) → mid ≡ before → PutsPart b c (flat_map (λ line. line) ys) → now ≡ next_count mid
+    → Puts a c before now (flat_map (λ line. line) (xs ++ ys)) r
+more_lines_failed a b c before mid now xs ys r err put same part failed =
+    subst (λ (l : List ℕ). Puts a c before now l r) (sym (numbers_told xs ys))
+    (then_failed a b c before mid now (flat_map (λ line. line) xs) (flat_map (λ line. line) ys) r err put same part failed)
+
+pub all_lines_put : {T : Type 0} (E : Type 0) (a b c : Option (List ℕ)) (before mid now : ℕ) (xs ys : List (List ℕ)) (x : T)
+    → Appends a b (flat_map (λ line. line) xs) → mid ≡ before → Appends b c (flat_map (λ line. line) ys) → now ≡ mid
+    → Puts {E = E} a c before now (flat_map (λ line. line) (xs ++ ys)) (Ok x)
+all_lines_put E a b c before mid now xs ys x put same next still =
+    subst (λ (l : List ℕ). Puts {E = E} a c before now l (Ok x)) (sym (numbers_told xs ys))
+    (then_puts {E = E} a b c before mid now (flat_map (λ line. line) xs) (flat_map (λ line. line) ys) (Ok x) put same (next, still))
+
 -- ---- at most three lines
 
 bytes_few : (times : Bool) (x y : Entry) (o : Option ℕ) → length (bytes_changes times x y o) ≤ 2

@@ -153,6 +153,33 @@ fn put_number_changes<T: Sink>(
     Ok(1)
 }
 
+/// Puts where two objects differ.
+fn put_pair<T: Sink>(
+    trees: &Trees<'_, '_>,
+    path: &[&[u8]],
+    left: &Found,
+    right: &Found,
+    place: Option<u64>,
+    sink: &mut T,
+) -> Result<u64, DeviceFault>
+    requires left { IsFoundIn trees.now.left.now.state left.now }
+    requires right { IsFoundIn trees.now.right.now.state right.now }
+    requires place { IsPlaceOf trees.now.how trees.now.left.now.state trees.now.right.now.state
+        left.now right.now place }
+    ensures puts { let way = map (λ name. name.now) path.now in
+        PutsTo T.Sink sink.old sink.new (flat_map (λ line. line) (changes trees.now.how
+        (Some (entry_found trees.now.left.now.state way left.now))
+        (Some (entry_found trees.now.right.now.state way right.now)))) result }
+    ensures count { let way = map (λ name. name.now) path.now in
+        IfOk result (λ n. n ≡ length (changes trees.now.how
+        (Some (entry_found trees.now.left.now.state way left.now))
+        (Some (entry_found trees.now.right.now.state way right.now)))) }
+{
+    let count = put_objects(trees, path, left, right, place, sink)?;
+    let more = put_number_changes(trees, path, left, right, sink)?;
+    Ok(count + more)
+}
+
 /// Puts the lines on a path, by where bytes differ. Answers how many.
 pub(crate) fn put_changes<T: Sink>(
     trees: &Trees<'_, '_>,
@@ -185,10 +212,6 @@ pub(crate) fn put_changes<T: Sink>(
             put_entry(trees.right, trees.how.times, b"+ ", path, &found, sink)?;
             Ok(1)
         }
-        (Some(ours), Some(theirs)) => {
-            let count = put_objects(trees, path, &ours, &theirs, place, sink)?;
-            let more = put_number_changes(trees, path, &ours, &theirs, sink)?;
-            Ok(count + more)
-        }
+        (Some(ours), Some(theirs)) => put_pair(trees, path, &ours, &theirs, place, sink),
     }
 }
