@@ -51,12 +51,7 @@ fn usual_order(file: &[u8]) -> Endian
 
 /// The order of a unit that has nodes of the little order, or of the big one, or of both. The order
 /// of the file takes a walk, so it is looked for if a unit has both, and then once.
-fn order_among(
-    file: &[u8],
-    usual: &mut Option<Endian>,
-    little: bool,
-    big: bool,
-) -> Option<Endian>
+fn order_among(file: &[u8], usual: &mut Option<Endian>, little: bool, big: bool) -> Option<Endian>
     requires image { length file.now ≤ greatest_image }
     requires usual { IfSome usual.old (λ order. order ≡ usual_order file.now) }
     ensures order { result ≡ order_among (usual_order file.now) little big }
