@@ -113,6 +113,7 @@ module _ (s t : State) (outlines : outline s ≡ outline t) where
 
   module _ (links : (i : ℕ) → has_bits symlink_bits (object t i) ≡ true → object s i ≡ object t i) where
     one_line : (path : List (List ℕ)) (i : ℕ) (again : Bool) → line_if s path i (option_map shown (object s i)) again ≡ line_if t path i (option_map shown (object t i)) again
+    unfolding object_start
     one_line path i again = by (object s i) (object t i) refl refl (sizes_same i)
       where
         by : (o p : Option (ObjectOf (List ℕ))) → object s i ≡ o → object t i ≡ p → option_map sized o ≡ option_map sized p

@@ -82,7 +82,7 @@ informed image = record {
 abbrev pub info_act : List ℕ → Act Told
 info_act name = Then (loads name) (λ image. Then (answers (FindsSpare image)) (λ spare.
     Then (answers (FindsRegions image)) (λ regions.
-    prints (Whole (info_text image ++ spare_lines spare ++ region_lines regions)
+    prints (Whole (info_text image ++ (spare_lines spare ++ region_lines regions))
     (informed image)))))
 
 -- ---- `damage`

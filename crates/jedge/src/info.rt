@@ -70,7 +70,7 @@ fn put_all<T: Sink>(
 ) -> Result<Option<Endian>, DeviceFault>
     requires { length image.now ≤ greatest_image }
     ensures puts { PutsTo T.Sink sink.old sink.new
-        (info_text image.now ++ spare_lines spare ++ region_lines regions.now) result }
+        (info_text image.now ++ (spare_lines spare ++ region_lines regions.now)) result }
     ensures order { IfOk result (λ order. order ≡ order_of image.now) }
 {
     let order = put_image(image, sink)?;
@@ -88,7 +88,8 @@ fn put_lines<T: Sink>(
     sink: &mut T,
 ) -> Result<Found<'static>, Fault>
     requires { length image.now ≤ greatest_image }
-    ensures { PutsBy (Whole (info_text image.now ++ spare_lines spare ++ region_lines regions.now)
+    ensures { PutsBy (Whole
+        (info_text image.now ++ (spare_lines spare ++ region_lines regions.now))
         (informed image.now)) (change_of T.Sink sink.old sink.new) (seen_as found_told result) }
 {
     match put_all(image, spare, regions, sink) {

@@ -33,7 +33,7 @@ returns g c = then_ok c.in-Ok.ensures (then_ok (answered_at FindsSpare c.as_slic
     (then_ok (answered_at FindsRegions c.as_slice-2.ensures.value c.in-Ok-find_regions.ensures)
     (printed_put _ c.output.ensures.same
     c.in-Ok-output.ensures.sound c.in-Ok-output.ensures.empty
-    (puts_at (λ (b : List ℕ). Whole (info_text b ++ spare_lines c.in-Ok-find_spare.spare ++ region_lines c.in-Ok-find_regions.regions) (informed b)) c.as_slice-3.ensures.value
+    (puts_at (λ (b : List ℕ). Whole (info_text b ++ (spare_lines c.in-Ok-find_spare.spare ++ region_lines c.in-Ok-find_regions.regions)) (informed b)) c.as_slice-3.ensures.value
     c.put_lines-answer.ensures) c.close-closed.ensures
     (ap (seen_as found_told) c.finished.ensures
     ∙ seen_closed found_told c.put_lines-answer.result c.close-closed.result))))
