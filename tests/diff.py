@@ -228,7 +228,7 @@ def numbers_of_devices():
         for kind, mode, major, minor in [(kind, mode, *number) for kind in "cb" for mode in ("0600", "0640") for number in NUMBERS]:
             name = f"{kind}{mode}.{major}.{minor}.img"
             write("one.txt", f"owner 1 2\ndevice {kind} {mode} {major} {minor} /a\\x20b\n".encode())
-            made = run("build", *options, "one.txt", name)
+            made = run("build", "--blocks", "2", *options, "one.txt", name)
             if made.status != 0:
                 raise AssertionError(made)
         for left in NUMBERS:
