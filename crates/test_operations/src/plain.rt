@@ -1,6 +1,7 @@
 //! A plain file system: files that have their bytes in a list, and names in the root.
 
-use jmount::{Kind, Mounted, Object};
+use byteorder::{BigEndian, LittleEndian};
+use jmount::{DeviceBytes, Kind, Mounted, Object};
 use std::alloc::{AllocError, Global};
 
 /// A step on plain files. A file goes by its place among all that were made.
@@ -8,6 +9,8 @@ use std::alloc::{AllocError, Global};
 pub enum Change {
     /// A new object: its mode, of how many bytes 0x5A it is, and the time.
     Make(u32, usize, u32),
+    /// A new device: its mode, its major and minor number, and the time.
+    Device(u32, (u16, u32), u32),
     /// A new symlink: its target and the time.
     Link(&'static [u8], u32),
     /// A name and its object.
@@ -34,6 +37,7 @@ const BYTES: [u8; 16_384] = [0x5A; 16_384];
 #[derive(Drop)]
 struct File {
     object: Object,
+    number: Option<(u16, u32)>,
     bytes: Vec<u8>,
 }
 
@@ -52,6 +56,18 @@ impl File {
             size: self.bytes.len().min(1_000_000) as u32,
             ..self.object
         }
+    }
+
+    /// Whether a mount shows this file as the object of this number.
+    fn is_object(&self, ino: u32, shown: Option<(u32, Object)>) -> bool {
+        let Some((number, object)) = shown else {
+            return false;
+        };
+        let plain = Object {
+            device: None,
+            ..object
+        };
+        number == ino && plain == self.object() && is_number(object.device, self.number)
     }
 
     /// The bytes that a reader gets: those of a regular file, and a symlink's target.
@@ -116,6 +132,18 @@ fn kind_of(mode: u32) -> Kind {
     }
 }
 
+/// Whether a device has this number, in either byte order.
+fn is_number(device: Option<DeviceBytes>, number: Option<(u16, u32)>) -> bool {
+    match (device, number) {
+        (None, None) => true,
+        (Some(bytes), Some(number)) => {
+            bytes.major_and_minor::<LittleEndian>() == number
+                || bytes.major_and_minor::<BigEndian>() == number
+        }
+        _ => false,
+    }
+}
+
 /// A new object without bytes.
 fn new_object(mode: u32, time: u32) -> Object {
     Object {
@@ -167,13 +195,20 @@ impl Plain {
         match *change {
             Change::Make(mode, count, time) => self.files.push(File {
                 object: new_object(mode, time),
+                number: None,
                 bytes: vec![in alloc; 0x5A; count]?,
+            })?,
+            Change::Device(mode, number, time) => self.files.push(File {
+                object: new_object(mode, time),
+                number: Some(number),
+                bytes: Vec::new(alloc),
             })?,
             Change::Link(target, time) => {
                 let mut bytes = Vec::new(alloc);
                 bytes.extend_from_slice(target)?;
                 self.files.push(File {
                     object: new_object(0o120777, time),
+                    number: None,
                     bytes,
                 })?;
             }
@@ -208,7 +243,7 @@ impl Plain {
         for file in &self.files {
             let count = mounted.read_at(ino, 0, room);
             same = same
-                && shown.next() == Some((ino, file.object()))
+                && file.is_object(ino, shown.next())
                 && room.get(..count) == Some(file.readable());
             ino = ino.wrapping_add(1);
         }
