@@ -10,7 +10,7 @@ pub enum Change {
     /// A new object: its mode, of how many bytes 0x5A it is, and the time.
     Make(u32, usize, u32),
     /// A new device: its mode, its major and minor number, and the time.
-    Device(u32, (u16, u32), u32),
+    Device(u32, u16, u32, u32),
     /// A new symlink: its target and the time.
     Link(&'static [u8], u32),
     /// A name and its object.
@@ -198,9 +198,9 @@ impl Plain {
                 number: None,
                 bytes: vec![in alloc; 0x5A; count]?,
             })?,
-            Change::Device(mode, number, time) => self.files.push(File {
+            Change::Device(mode, major, minor, time) => self.files.push(File {
                 object: new_object(mode, time),
-                number: Some(number),
+                number: Some((major, minor)),
                 bytes: Vec::new(alloc),
             })?,
             Change::Link(target, time) => {

@@ -110,7 +110,7 @@ const OTHERS: Case = Case {
     ],
     steps: &[
         Change::Attributes(0, 0o700, 2),
-        Change::Device(0o020620, (4, 65), 2),
+        Change::Device(0o020620, 4, 65, 2),
         Change::Name(b"d", 4),
         Change::Link(b"a", 2),
         Change::Name(b"e", 5),

@@ -204,7 +204,7 @@ pub fn plain() -> &'static [Case<'static>] {
                 "attr /b 700",
             ],
             steps: &[
-                Change::Device(0o020620, (4, 65), 1),
+                Change::Device(0o020620, 4, 65, 1),
                 Change::Name(b"a", 2),
                 Change::Link(b"........................................", 2),
                 Change::Name(b"e", 3),

@@ -365,9 +365,9 @@ fn kinds() -> &'static [Case] {
             in_turn: false,
             lines: &["char /a 620 4:65", "block /b 660 259:7", "symlink /e ../t"],
             steps: &[
-                Change::Device(0o020620, (4, 65), 1),
+                Change::Device(0o020620, 4, 65, 1),
                 Change::Name(b"a", 2),
-                Change::Device(0o060660, (259, 7), 2),
+                Change::Device(0o060660, 259, 7, 2),
                 Change::Name(b"b", 3),
                 Change::Link(b"../t", 3),
                 Change::Name(b"e", 4),
